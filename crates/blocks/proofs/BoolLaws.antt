@@ -1,0 +1,62 @@
+-- Laws of tests and choices. Tests stand as equations `b ≡ true`.
+use mathlib.Core.Path.{_≡_, refl, sym, subst, _∙_}
+use mathlib.Core.Bool.{Bool, true, false}
+use lib.Dec.{T}
+use Rattle.blocks.specs.Choice.{both, either}
+
+pub clash : {b : Bool} → b ≡ true → b ≡ false → ⊥
+clash e d = subst T (sym e ∙ d) tt
+
+pub byT : (b : Bool) {C : Type 0} → (b ≡ true → C) → (b ≡ false → C) → C
+byT true f g = f refl
+byT false f g = g refl
+
+pub is-false : {b : Bool} → (b ≡ true → ⊥) → b ≡ false
+is-false {b = true} f = absurd (f refl)
+is-false {b = false} f = refl
+
+pub iff : (a b : Bool) → (a ≡ true → b ≡ true) → (b ≡ true → a ≡ true) → a ≡ b
+iff true b f g = sym (f refl)
+iff false true f g = g refl
+iff false false f g = refl
+
+pub both-l : (a b : Bool) → both a b ≡ true → a ≡ true
+both-l true b t = refl
+both-l false b t = t
+
+pub both-r : (a b : Bool) → both a b ≡ true → b ≡ true
+both-r true b t = t
+both-r false b t = absurd (clash t refl)
+
+pub both-no : (a : Bool) → both a false ≡ false
+both-no true = refl
+both-no false = refl
+
+pub either-e : (a b : Bool) {C : Type 0} → either a b ≡ true → (a ≡ true → C) → (b ≡ true → C) → C
+either-e true b t f g = f refl
+either-e false b t f g = g t
+
+pub either-yes : (a : Bool) → either a true ≡ true
+either-yes true = refl
+either-yes false = refl
+
+pub either-no : (a : Bool) → either a false ≡ a
+either-no true = refl
+either-no false = refl
+
+pub both-yes : (a : Bool) → both a true ≡ a
+both-yes true = refl
+both-yes false = refl
+
+pub either-comm : (a b : Bool) → either a b ≡ either b a
+either-comm true b = sym (either-yes b)
+either-comm false b = sym (either-no b)
+
+pub either-same : (a b : Bool) → either a (either a b) ≡ either a b
+either-same true b = refl
+either-same false b = refl
+
+pub either-swap : (a b c : Bool) → either a (either b c) ≡ either b (either a c)
+either-swap true true c = refl
+either-swap true false c = refl
+either-swap false b c = refl

@@ -1,0 +1,77 @@
+-- The words of the nodes after a store: the same apart from the range, and those of new nodes.
+use Prim.Native.Nat.{ℕ, suc, _+_, _*_, _-_, _/_, _^_, _≤_, _<_}
+use mathlib.Core.Path.{_≡_, refl, sym, ap, _∙_}
+use mathlib.Core.Bool.{true, false}
+use mathlib.Core.List.{List}
+use native.Mathlib.Omega.{arith}
+use lib.Dec.{ltb}
+use borrow.Author.Tests.{eqb-true, ltb-true, eq-eqb}
+use Rattle.blocks.specs.Lists.{any, All}
+use Rattle.blocks.specs.Blocks.{block}
+use Rattle.blocks.proofs.BoolLaws.{byT}
+use Rattle.blocks.proofs.ListLaws.{All-map}
+use Rattle.blocks.proofs.BlockLaws.{block-up, block-at}
+use Rattle.blocks.proofs.BitLaws.{bits-same}
+use Rattle.model.specs.declared.Entry.{Entry}
+use Rattle.model.specs.Model.{covers, within, storeNew}
+use Rattle.model.proofs.RangeLaws.{Room, Apart}
+use Rattle.tree.specs.Slots.{Numbering, slot}
+use Rattle.tree.specs.Tree.{slotMark, slots, tierOrder}
+use Rattle.tree.proofs.StoreLaws.{slot-apart, mark-apart, mark-path}
+use Rattle.tree.proofs.SlotLaws.{tier-up, empty-node, empty-marks}
+use Rattle.layout.specs.Words.{owner, field, nodeWords}
+
+-- a node's words are the same where its owner, marks and slots are
+module _ (l l′ : List Entry) (ν ν′ : Numbering) (v b : ℕ)
+    (o : owner l′ ν′ (suc v) b ≡ owner l ν (suc v) b)
+    (m : (m d : ℕ) → m < 3 → d / slots ≡ b → slotMark l′ m v d ≡ slotMark l m v d)
+    (s : (d : ℕ) → d / slots ≡ b → slot l′ ν′ v d ≡ slot l ν v d) where
+  pub field-same : (f : ℕ) → f < nodeWords → field l′ ν′ (suc v) b f ≡ field l ν (suc v) b f
+  field-same f lt =
+      let v≡ : suc v - 1 ≡ v = omega arith in
+      rw (o, v≡, s (slots * b + (f - 5)) (omega arith))
+      (byT (ltb f 5) (λ t. rw (
+        t,
+        bits-same (λ j. slotMark l′ (f - 2) v (slots * b + j))
+            (λ j. slotMark l (f - 2) v (slots * b + j)) slots
+            (λ j g. m (f - 2) (slots * b + j) (omega (arith, ltb-true)) (omega arith)),
+      )) (λ t. rw t))
+
+module _ (i k w : ℕ) (l : List Entry) (room : All (Room i k) l) where
+  -- a block of a node's slot is apart where the node's is
+  pub apart-slot : (v b d : ℕ) → Apart i k (tierOrder (suc v)) b → d / slots ≡ b → Apart i k (tierOrder v) d
+  apart-slot v b d a q y e = a y (tier-up v y ∙ ap (λ (x : ℕ). x / slots) e ∙ q)
+
+  pub field-apart : (ν ν′ : Numbering) (v b : ℕ) → Apart i k (tierOrder (suc v)) b →
+      owner (storeNew l i k w) ν′ (suc v) b ≡ owner l ν (suc v) b →
+      ((d : ℕ) → d / slots ≡ b → any (within (tierOrder v) d) l ≡ true → ν′ v d ≡ ν v d) → (f : ℕ) → f < nodeWords →
+      field (storeNew l i k w) ν′ (suc v) b f ≡ field l ν (suc v) b f
+  field-apart ν ν′ v b a o c =
+      field-same l (storeNew l i k w) ν ν′ v b o (λ m d _ q. mark-apart i k w l m v d (apart-slot v b d a q))
+      (λ d q. slot-apart i k w l ν ν′ v d room (apart-slot v b d a q) (c d q))
+
+  -- a node that is new on the path: all but the path's slot, or the run's, hold 0, and no mark is set
+  module _ (v : ℕ) (above : k < tierOrder (suc v)) (new : any
+      (within (tierOrder (suc v)) (block (tierOrder (suc v)) i)) l ≡ false) where
+    pub none-over : All (λ x. tierOrder (suc v) ≤ x .order →
+        covers (block (tierOrder (suc v)) i * 2 ^ (tierOrder (suc v))) x ≡ true → ⊥) l
+    none-over =
+        All-map (λ x r o t. let h : x .order ≤ k = r (eq-eqb _ _
+        (block-up {j = tierOrder (suc v)} {k = x .order} i (block (tierOrder (suc v)) i * 2 ^ (tierOrder (suc v)))
+        o (sym (block-at (tierOrder (suc v)) (block (tierOrder (suc v)) i))) ∙ eqb-true _ _ t)) in omega arith)
+        room
+
+    pub fresh-slot : (ν′ : Numbering) (d : ℕ) → d / slots ≡ block (tierOrder (suc v)) i → Apart i k (tierOrder v) d →
+        slot (storeNew l i k w) ν′ v d ≡ 0
+    fresh-slot ν′ d q a = slot-apart i k w l ν′ ν′ v d room a (λ _. refl) ∙ empty-node l ν′ v
+        (block (tierOrder (suc v)) i) new none-over d q
+
+    pub fresh-mark-apart : (m d : ℕ) → d / slots ≡ block (tierOrder (suc v)) i → Apart i k (tierOrder v) d →
+        slotMark (storeNew l i k w) m v d ≡ false
+    fresh-mark-apart m d q a = mark-apart i k w l m v d a ∙ empty-marks l v (block (tierOrder (suc v)) i) new
+        none-over m d q
+
+    pub fresh-mark-path : (m : ℕ) → m < 3 → k ≤ tierOrder v →
+        slotMark (storeNew l i k w) m v (block (tierOrder v) i) ≡ false
+    fresh-mark-path m lt h = mark-path i k w l m v lt h ∙ empty-marks l v (block (tierOrder (suc v)) i) new none-over
+        m (block (tierOrder v) i) (sym (tier-up v i))

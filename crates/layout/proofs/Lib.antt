@@ -1,0 +1,5 @@
+pub mod OwnerLaws
+pub mod FieldLaws
+pub mod PlacesLaws
+pub mod RenderLaws
+pub mod SlotWordLaws

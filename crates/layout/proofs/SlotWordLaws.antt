@@ -1,0 +1,58 @@
+-- What the word of a slot says, and the view of a block through it: empty, an entry, a sibling, a node.
+use Prim.Native.Nat.{ℕ, _*_, _-_, _/_, _%_, _^_, _≤_, _<_}
+use mathlib.Core.Path.{_≡_, refl}
+use mathlib.Core.Bool.{true, false}
+use mathlib.Core.List.{List}
+use mathlib.Core.Option.{none, some}
+use native.Mathlib.Omega.{arith}
+use borrow.Author.Tests.{eqb-true, eqb-false, lt-ltb, le-ltb, eq-eqb, ne-eqb}
+use Rattle.blocks.specs.Lists.{any, All}
+use Rattle.blocks.specs.Blocks.{block}
+use Rattle.model.specs.declared.Entry.{Entry}
+use Rattle.model.specs.Model.{EntryOk, covering, within}
+use Rattle.tree.specs.Slots.{slot, nodeWord, siblingWord, Numbering, nodeOffset}
+use Rattle.tree.proofs.ReadLaws.{Seen, nothing, lower, entry, sibling, see, word-kind}
+use Rattle.tree.specs.Tree.{slots, tierOrder}
+use Rattle.layout.specs.Pool.{slotOf}
+use Rattle.layout.specs.declared.Slot.{Slot}
+use Rattle.layout.specs.declared.Slot.the-variants.{Empty, Held, Sibling, Child}
+
+pub slot-empty : slotOf 0 ≡ Empty
+unfolding slotOf
+slot-empty = refl
+
+pub slot-held : (w : ℕ) → (w ≡ 0 → ⊥) → (w % 4 ≡ 2 → ⊥) → slotOf w ≡ Held
+unfolding slotOf
+slot-held w z m = rw (ne-eqb w 0 z, ne-eqb (w % 4) 2 m) refl
+
+pub slot-sibling : (w : ℕ) → w % 4 ≡ 2 → w < 4096 → slotOf w ≡ Sibling (w / 4)
+unfolding slotOf
+slot-sibling w m h = rw (ne-eqb w 0 (omega arith), eq-eqb (w % 4) 2 m, lt-ltb w (4 * nodeOffset) h) refl
+
+pub slot-child : (w : ℕ) → w % 4 ≡ 2 → 4096 ≤ w → slotOf w ≡ Child (w / 4 - nodeOffset)
+unfolding slotOf
+slot-child w m h = rw (ne-eqb w 0 (omega arith), eq-eqb (w % 4) 2 m, le-ltb w (4 * nodeOffset) h) refl
+
+pub data View (l : List Entry) (ν : Numbering) (u c : ℕ) : Slot → Type 0 where
+  v-empty : any (within (tierOrder u) c) l ≡ false → covering l (c * 2 ^ (tierOrder u)) ≡ none → View l ν u c Empty
+  v-child : any (within (tierOrder u) c) l ≡ true → View l ν u c (Child (ν u c))
+  v-held : (e : Entry) → any (within (tierOrder u) c) l ≡ false → covering l (c * 2 ^ (tierOrder u)) ≡ some e →
+      block (tierOrder u) (e .base) ≡ c → View l ν u c Held
+  v-sibling : (e : Entry) → any (within (tierOrder u) c) l ≡ false → covering l (c * 2 ^ (tierOrder u)) ≡ some e →
+      (block (tierOrder u) (e .base) ≡ c → ⊥) → View l ν u c (Sibling (block (tierOrder u) (e .base) % slots))
+
+pub view : (l : List Entry) (ν : Numbering) (u c : ℕ) → All EntryOk l → View l ν u c (slotOf (slot l ν u c))
+view l ν u c ok = go (see l ν u c ok)
+  where
+    go : {x : ℕ} → Seen l ν u c x → View l ν u c (slotOf x)
+    go (nothing t q) = rw slot-empty (v-empty t q)
+    go (lower t) =
+        let d : nodeWord (ν u c) / 4 - nodeOffset ≡ ν u c = omega arith in
+        rw (slot-child (nodeWord (ν u c)) (omega arith) (omega arith), d) (v-child t)
+    go (entry e t q s y) = rw (slot-held (e .word) (word-kind (e .word) (y .word-ok) .0)
+        (word-kind (e .word) (y .word-ok) .1)) (v-held e t q (eqb-true _ _ s))
+    go (sibling e t q s y) =
+        let d : siblingWord (block (tierOrder u) (e .base) % slots) / 4 ≡ block (tierOrder u) (e .base) % slots =
+        omega arith in
+        rw (slot-sibling (siblingWord (block (tierOrder u) (e .base) % slots)) (omega arith) (omega arith), d)
+        (v-sibling e t q (eqb-false _ _ s))

@@ -1,0 +1,15 @@
+use borrow.Author.Needs.{needs}
+use lib.Pow.{pow-pos, pow-lt}
+use Prim.Native.Nat.{_^_, _*_, _%_}
+use native.Mathlib.Nat.{mod-eq-of-lt, one-mul}
+use Rattle.layout.proofs.pow2.Statement.{statement}
+use Rattle.layout.proofs.pow2.Tie as tie
+
+shl-result : tie.Need-shl-result
+shl-result c = search needs
+
+returns : tie.Need-returns
+returns c = rw one-mul (mod-eq-of-lt (pow-lt (c .pre)))
+
+pub pow2-spec : {M : Type 1} → statement M
+pow2-spec = tie.close (tie.spec shl-result returns)

@@ -1,0 +1,63 @@
+-- The words of a pool by name, and what the word of a slot says.
+use Prim.Native.Nat.{ℕ, zero, suc, _+_, _*_, _-_, _/_, _%_, _^_, _<_}
+use mathlib.Core.Path.{_≡_}
+use mathlib.Core.Bool.{Bool}
+use mathlib.Core.List.{List}
+use lib.Dec.{ltb, eqb}
+use lib.ListN.{getD}
+use Rattle.blocks.specs.Choice.{pick, both}
+use Rattle.model.specs.Model.{markCount}
+use Rattle.tree.specs.Tree.{slots}
+use Rattle.tree.specs.Slots.{nodeOffset, siblingWord}
+use Rattle.layout.specs.Words.{countWord, headWord, marksWord, place, shiftField, ownerField, markField, slotField}
+pub use Rattle.layout.specs.declared.Slot.{Slot}
+pub use Rattle.layout.specs.declared.Slot.the-variants.{Empty, Held, Sibling, Child}
+
+-- "Internal words end in binary 10 (003): sibling of slot o is 4o + 2; node n is 4 * (1,024 + n) + 2."
+unfoldable pub slotOf : ℕ → Slot
+slotOf w =
+    pick (eqb w 0) Empty
+    (pick (eqb (w % 4) 2) (pick (ltb w (4 * nodeOffset)) (Sibling (w / 4)) (Child (w / 4 - nodeOffset))) Held)
+
+-- the words of a pool
+pub record Pool : Type 0 where
+  pub count : ℕ
+  pub head : ℕ
+  pub marks : ℕ
+  pub shift : ℕ → ℕ
+  pub owner : ℕ → ℕ
+  pub mark : ℕ → ℕ → ℕ
+  pub slot : ℕ → ℕ → ℕ
+
+abbrev pub poolOf : List ℕ → Pool
+poolOf ws =
+    record {
+      count = getD ws countWord 0;
+      head = getD ws headWord 0;
+      marks = getD ws marksWord 0;
+      shift = λ n. getD ws (place n shiftField) 0;
+      owner = λ n. getD ws (place n ownerField) 0;
+      mark = λ n m. getD ws (place n (markField + m)) 0;
+      slot = λ n j. getD ws (place n (slotField + j)) 0;
+    }
+
+-- "A blank node is all zeros."
+pub record Free (P : Pool) (n : ℕ) : Type 0 where
+  pub shift-is : P .shift n ≡ 0
+  pub owner-is : P .owner n ≡ 0
+  pub marks-are : (m : ℕ) → m < markCount → P .mark n m ≡ 0
+  pub slots-are : (j : ℕ) → j < slots → P .slot n j ≡ 0
+
+module _ (P : Pool) where
+  abbrev pub slotAt : ℕ → ℕ → Slot
+  slotAt n j = slotOf (P .slot n j)
+
+  -- the entry in slot j of node n takes 2^r slots: the siblings at distances 1, 2, 4, ..
+  abbrev pub runFrom : ℕ → ℕ → (fuel r : ℕ) → ℕ
+  runFrom n j zero r = r
+  runFrom n j (suc k) r =
+      let next = runFrom n j k (suc r) in
+      pick (both (ltb (j + 2 ^ r) slots) (eqb (P .slot n (j + 2 ^ r)) (siblingWord j))) next r
+
+  unfoldable pub run : ℕ → ℕ → ℕ
+  run n j = runFrom n j 5 0

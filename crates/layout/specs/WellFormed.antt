@@ -1,0 +1,43 @@
+-- Well-formed words (document 01: sound).
+use Prim.Native.Nat.{ℕ, _≤_, _<_}
+use mathlib.Core.Path.{_≡_}
+use mathlib.Core.List.{List}
+use lib.ListN.{length, getD}
+use Rattle.model.specs.declared.Entry.{Entry}
+use Rattle.model.specs.Model.{Valid}
+use Rattle.tree.specs.Slots.{Numbering}
+use Rattle.layout.specs.Words.{maxNodes, poolWords, place, countWord, shiftField}
+use Rattle.layout.specs.Places.{Places, Placed, numberIn, render}
+
+-- "the words are those that some list of entries prescribes, under some numbering of nodes, and every other node is
+-- blank", in a pool of N nodes, "N from 1 to 1,000"
+pub record WellFormed (ws : List ℕ) : Type 0 where
+  pub n : ℕ
+  pub list : List Entry
+  pub places : Places
+  pub least : 1 ≤ n
+  pub most : n ≤ maxNodes
+  pub valid : Valid list
+  pub placed : Placed n list places
+  pub words-are : ws ≡ render list places n
+
+-- every node below low is in use: its first word is not 0
+pub record InUse (low : ℕ) (ws : List ℕ) : Type 0 where
+  pub at-most : low ≤ getD ws countWord 0
+  pub used : (m : ℕ) → m < low → getD ws (place m shiftField) 0 ≡ 0 → ⊥
+
+-- the numbers of its nodes
+abbrev pub num : {ws : List ℕ} → WellFormed ws → Numbering
+num s = numberIn (s .places)
+
+-- the length is that of a pool of n nodes: "4 + 69N of them, N from 1 to 1,000"
+pub record Sized (n : ℕ) (ws : List ℕ) : Type 0 where
+  pub size : length ws ≡ poolWords n
+  pub least : 1 ≤ n
+  pub most : n ≤ maxNodes
+
+-- the words are those that the list prescribes, with its nodes at these places among n
+pub record Prescribed (n : ℕ) (l : List Entry) (os : Places) (ws : List ℕ) : Type 0 where
+  pub valid : Valid l
+  pub placed : Placed n l os
+  pub words-are : ws ≡ render l os n

@@ -1,0 +1,13 @@
+pub mod Ascending
+pub mod StoreLaws
+pub mod HeightLaws
+pub mod NewNodeLaws
+pub mod NodeListLaws
+pub mod SlotLaws
+pub mod EraseLaws
+pub mod NeededLaws
+pub mod RelabelLaws
+pub mod HeadShiftLaws
+pub mod GrowLaws
+pub mod ChangeLaws
+pub mod ReadLaws

@@ -1,0 +1,150 @@
+-- How many nodes a store needs, tier by tier, as the code counts them.
+use Prim.Native.Nat.{ℕ, zero, suc, _+_, _*_, _^_, _≤_, _<_, max}
+use mathlib.Core.Path.{_≡_, refl, sym, _∙_}
+use mathlib.Core.Bool.{Bool, true, false, not}
+use mathlib.Core.List.{List, [], _∷_}
+use native.Mathlib.Omega.{arith}
+use native.Mathlib.Nat.{le-refl, zero-mul, zero-div}
+use lib.Dec.{leb, ltb, eqb}
+use lib.ListN.{length, length-append, length-map}
+use borrow.Author.Tests.{
+  leb-true,
+  leb-false,
+  eqb-true,
+  eqb-false,
+  ltb-true,
+  ltb-false,
+  lt-ltb,
+  le-ltb,
+  lt-leb,
+  eq-eqb,
+}
+use Rattle.blocks.specs.Choice.{pick, both}
+use Rattle.blocks.specs.Lists.{any, All, nonempty}
+use Rattle.blocks.specs.Blocks.{block}
+use Rattle.blocks.proofs.BoolLaws.{clash, byT, is-false, both-l, both-r, both-no, both-yes, either-e, either-yes}
+use Rattle.blocks.proofs.ListLaws.{All-map, without-all, without-none}
+use Rattle.blocks.proofs.BlockLaws.{block-up, block-at}
+use Rattle.model.specs.declared.Entry.{Entry}
+use Rattle.model.specs.Model.{starts, within, clear, newEntry, storeNew}
+use Rattle.model.proofs.RangeLaws.{InRun}
+use Rattle.tree.specs.Tree.{fits, tall, height, has, addIf, needed, tierOrder}
+use Rattle.tree.proofs.HeightLaws.{
+  Low,
+  height-fits,
+  fits-i,
+  fits-tall,
+  tall-fits,
+  fits-order,
+  fits-base,
+  zero-up,
+}
+use Rattle.tree.proofs.NewNodeLaws.{chained, missing, freshAt, freshTo, new-nodes}
+
+-- a node on the path has a node above it on the path
+pub path-up : (i : ℕ) {j k : ℕ} (l : List Entry) → j ≤ k → any (within j (block j i)) l ≡ true →
+    any (within k (block k i)) l ≡ true
+path-up i [] h t = t
+path-up i {j} {k} (x ∷ l) h t =
+    either-e (within j (block j i) x) (any (within j (block j i)) l) t
+    (λ s. rw (
+      lt-ltb (x .order) k (let o : x .order < j = ltb-true _ _ (both-l (ltb (x .order) j) _ s) in
+          omega arith),
+      eq-eqb _ _ (block-up {k = k} (x .base) i h (eqb-true _ _ (both-r (ltb (x .order) j) _ s))),
+    ))
+    (λ s. rw (path-up i l h s, either-yes))
+
+module _ (i k w : ℕ) (l : List Entry) (low : All Low l) (grows : height l < tall (newEntry l i k w)) where
+  not-fits : fits (height l) (newEntry l i k w) ≡ false
+  not-fits = is-false (λ t. omega (arith, fits-tall (height l) (newEntry l i k w) t))
+
+  -- where the head grows, the run holds everything or nothing
+  grow-all : block k i ≡ 0 → clear l i k ≡ []
+  grow-all e =
+      let o : max 1 (tierOrder (height l)) ≤ k = byT (ltb k (max 1 (tierOrder (height l))))
+      (λ t. absurd (clash (fits-i _ (newEntry l i k w) (ltb-true _ _ t) (rw (e, zero-mul, zero-div))) not-fits))
+      (ltb-false _ _) in
+      without-all (starts k (block k i)) (All-map (λ x f. eq-eqb _ _
+      (zero-up {j = tierOrder (height l)} {k = k} (x .base) (omega arith) (fits-base (height l) x f) ∙ sym e))
+      (height-fits low (le-refl _)))
+
+  pub off : (x : Entry) → fits (height l) x ≡ true → InRun i k (x .base) → block k i ≡ 0
+  off x f q =
+      byT (leb (tierOrder (height l)) k) (λ t. sym q ∙ zero-up (x .base) (leb-true _ _ t) (fits-base (height l) x f))
+      (λ t. absurd (clash (fits-i (height l) (newEntry l i k w) (omega (arith, leb-false))
+      (block-up {j = k} (block k i * 2 ^ k) (x .base) (omega (arith, leb-false)) (block-at k (block k i) ∙ sym q) ∙
+      fits-base (height l) x f)) not-fits))
+
+  grow-none : (block k i ≡ 0 → ⊥) → clear l i k ≡ l
+  grow-none n = without-none (starts k (block k i)) (All-map (λ x f. is-false (λ t. n (off x f (eqb-true _ _ t))))
+      (height-fits low (le-refl _)))
+
+  pub grown : nonempty (clear l i k) ≡ both (nonempty l) (not (eqb (block k i) 0))
+  grown =
+      byT (eqb (block k i) 0) (λ t. rw (t, grow-all (eqb-true _ _ t)) (sym (both-no (nonempty l))))
+      (λ t. rw (t, grow-none (eqb-false _ _ t)) (sym (both-yes (nonempty l))))
+
+-- THE COUNT, tier by tier: u up to the old head, between the heads, and at the new head
+module _ (i k w : ℕ) (l : List Entry) (low : All Low l) where
+  pub count-old : (u : ℕ) → u ≤ height l → length (freshAt l i k u) ≡ pick (missing l i k u) 1 0
+  count-old u h = rw (le-ltb (height l) u h) (one (missing l i k u))
+    where
+      one : (t : Bool) → length (addIf t (block (tierOrder u) i) []) ≡ pick t 1 0
+      one true = refl
+      one false = refl
+
+  pub path-off : (u : ℕ) → u < tall (newEntry l i k w) → k < tierOrder u → block (tierOrder u) i ≡ 0 → ⊥
+  path-off u h g e =
+      omega (
+        arith,
+        fits-tall u (newEntry l i k w) (fits-i u (newEntry l i k w) (omega arith)
+            (block-up {j = k} {k = tierOrder u} (block k i * 2 ^ k) i (omega arith) (block-at k (block k i)) ∙ e)),
+      )
+
+  pub count-mid : (u : ℕ) → height l < u → u < tall (newEntry l i k w) →
+      length (freshAt l i k u) ≡ pick (both (nonempty l) (not (eqb (block k i) 0))) 1 0 + pick (ltb k (tierOrder u)) 1
+      0
+  unfolding has
+  count-mid u h g =
+      rw (
+        lt-ltb (height l) u h,
+        lt-leb u (height l) h,
+        grown i k w l low (omega arith),
+        both-yes (ltb k (tierOrder u)),
+      )
+      (two (both (nonempty l) (not (eqb (block k i) 0))) (ltb k (tierOrder u)) refl)
+    where
+      two : (a t : Bool) → ltb k (tierOrder u) ≡ t → length (addIf a 0 (addIf t (block (tierOrder u) i) [])) ≡ pick a
+          1 0 + pick t 1 0
+      two true true e = let ne : block (tierOrder u) i ≡ 0 → ⊥ = path-off u g (ltb-true _ _ e) in
+          rw (lt-ltb 0 (block (tierOrder u) i) (omega arith))
+      two true false e = refl
+      two false true e = refl
+      two false false e = refl
+
+  pub count-top : (u : ℕ) → Low (newEntry l i k w) → height l < u → u ≡ tall (newEntry l i k w) →
+      freshAt l i k u ≡ 0 ∷ []
+  unfolding has
+  count-top u new h q =
+      let f : fits u (newEntry l i k w) ≡ true = tall-fits u (newEntry l i k w) new (omega arith) in
+      let g : k < tierOrder u = omega (arith, fits-order u (newEntry l i k w) f) in
+      let e : block (tierOrder u) i ≡ 0 = sym (block-up {j = k} {k = tierOrder u} (block k i * 2 ^ k) i (omega arith)
+      (block-at k (block k i))) ∙ fits-base u (newEntry l i k w) f in
+      rw (lt-ltb k (tierOrder u) g, lt-leb u (height l) h, e) (top (chained l i k u))
+    where
+      top : (t : Bool) → addIf t 0 (0 ∷ []) ≡ 0 ∷ []
+      top true = refl
+      top false = refl
+
+  -- needed, by the count of each tier
+  unfoldable pub countTo : ℕ → ℕ
+  countTo zero = 0
+  countTo (suc u) = length (freshAt l i k (suc u)) + countTo u
+
+  pub needed-count : needed l (storeNew l i k w) ≡ countTo (height (storeNew l i k w))
+  unfolding countTo
+  needed-count = rw (new-nodes i k w l low) (go (height (storeNew l i k w)))
+    where
+      go : (u : ℕ) → length (freshTo l i k u) ≡ countTo u
+      go zero = refl
+      go (suc u) = rw (length-append, length-map, go u)

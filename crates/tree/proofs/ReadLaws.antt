@@ -1,0 +1,105 @@
+-- What a walk down sees: a slot's word, and whether an entry of order k or more covers the index.
+use Prim.Native.Nat.{ℕ, _*_, _%_, _^_, _≤_, _<_}
+use mathlib.Core.Path.{_≡_, refl, ap, subst, _∙_}
+use mathlib.Core.Bool.{Bool, true, false, not}
+use mathlib.Core.List.{List}
+use mathlib.Core.Option.{Option, none, some}
+use native.Mathlib.Omega.{arith}
+use native.Mathlib.Nat.{le-refl}
+use lib.Dec.{leb, ltb, eqb, T}
+use borrow.Author.Tests.{leb-true, eqb-true, ltb-true, eq-eqb}
+use Rattle.blocks.specs.Choice.{both}
+use Rattle.blocks.specs.Lists.{any, All}
+use Rattle.blocks.specs.Blocks.{block}
+use Rattle.blocks.proofs.BoolLaws.{clash, byT, iff, both-l, both-r}
+use Rattle.blocks.proofs.ListLaws.{All-map, any-none, each, any-in, in-any, first-yes, first-no, first-none}
+use Rattle.blocks.proofs.BlockLaws.{block-up}
+use Rattle.model.specs.declared.Entry.{Entry}
+use Rattle.model.specs.Model.{EntryOk, storable, covers, covering, starts, within, over, Valid}
+use Rattle.model.proofs.ValidLaws.{unique, covers-self}
+use Rattle.tree.specs.Slots.{slot, entryWord, Numbering, nodeWord, siblingWord}
+use Rattle.tree.specs.Tree.{height, slots, tierOrder}
+use Rattle.tree.proofs.StoreLaws.{within-only}
+use Rattle.tree.proofs.HeightLaws.{Low, height-fits, fits-order, fits-base}
+
+-- what a slot of tier u stands for, and its word
+pub data Seen (l : List Entry) (ν : Numbering) (u c : ℕ) : ℕ → Type 0 where
+  nothing : any (within (tierOrder u) c) l ≡ false → covering l (c * 2 ^ (tierOrder u)) ≡ none → Seen l ν u c 0
+  lower : any (within (tierOrder u) c) l ≡ true → Seen l ν u c (nodeWord (ν u c))
+  entry : (e : Entry) → any (within (tierOrder u) c) l ≡ false → covering l (c * 2 ^ (tierOrder u)) ≡ some e →
+      starts (tierOrder u) c e ≡ true → EntryOk e → Seen l ν u c (e .word)
+  sibling : (e : Entry) → any (within (tierOrder u) c) l ≡ false → covering l (c * 2 ^ (tierOrder u)) ≡ some e →
+      starts (tierOrder u) c e ≡ false → EntryOk e → Seen l ν u c
+      (siblingWord (block (tierOrder u) (e .base) % slots))
+
+pub see : (l : List Entry) (ν : Numbering) (u c : ℕ) → All EntryOk l → Seen l ν u c (slot l ν u c)
+unfolding slot
+see l ν u c ok = byT (any (within (tierOrder u) c) l) (λ t. rw t (lower t))
+    (λ t. rw t (go t (covering l (c * 2 ^ (tierOrder u))) refl))
+  where
+    go : any (within (tierOrder u) c) l ≡ false → (o : Option Entry) → covering l (c * 2 ^ (tierOrder u)) ≡ o →
+        Seen l ν u c (entryWord u c o)
+    go t none q = nothing t q
+    go t (some e) q =
+        let y : EntryOk e = first-yes (covers (c * 2 ^ (tierOrder u))) ok q .1 in
+        byT (starts (tierOrder u) c e) (λ s. rw s (entry e t q s y)) (λ s. rw s (sibling e t q s y))
+
+pub word-kind : (w : ℕ) → T (storable w) → (w ≡ 0 → ⊥) × (w % 4 ≡ 2 → ⊥)
+word-kind w s = (
+  (λ e. subst (λ (w : ℕ). T (storable w)) e s),
+  (λ e. go (eqb w 0) (subst (λ (r : ℕ). T (both (not (eqb w 0)) (not (eqb r 2)))) e s)),
+)
+  where
+    go : (a : Bool) → T (both (not a) false) → ⊥
+    go true t = t
+    go false t = t
+
+-- by the word alone
+pub seen-node : (l : List Entry) (ν : Numbering) (u c x : ℕ) → Seen l ν u c x → x % 4 ≡ 2 → 4096 < x →
+    (any (within (tierOrder u) c) l ≡ true) × (x ≡ nodeWord (ν u c))
+seen-node l ν u c x (nothing t q) m g = absurd (omega arith)
+seen-node l ν u c x (lower t) m g = (t, refl)
+seen-node l ν u c x (entry e t q s ok) m g = absurd (word-kind (e .word) (ok .word-ok) .1 m)
+seen-node l ν u c x (sibling e t q s ok) m g = absurd (omega arith)
+
+pub seen-entry : (l : List Entry) (ν : Numbering) (u c x : ℕ) → Seen l ν u c x → (x ≡ 0 → ⊥) → (x % 4 ≡ 2 → ⊥) →
+    (e : Entry) × (covering l (c * 2 ^ (tierOrder u)) ≡ some e) × (e .word ≡ x) × (block (tierOrder u) (e .base) ≡ c)
+seen-entry l ν u c x (nothing t q) z m = absurd (z refl)
+seen-entry l ν u c x (lower t) z m = absurd (m (omega arith))
+seen-entry l ν u c x (entry e t q s ok) z m = (e, q, refl, eqb-true _ _ s)
+seen-entry l ν u c x (sibling e t q s ok) z m = absurd (m (omega arith))
+
+-- an entry of order k or more over i
+pub over-some : (l : List Entry) (i k : ℕ) (e : Entry) → Valid l → covering l i ≡ some e →
+    any (over i k) l ≡ leb k (e .order)
+over-some l i k e v q =
+    let (c, m) = first-yes (covers i) (each l (λ x m. m)) q in
+    iff (any (over i k) l) (leb k (e .order))
+    (λ t. let (x, n, s) = any-in (over i k) l t in
+    subst (λ (y : Entry). leb k (y .order) ≡ true) (unique i v n m (both-l (covers i x) (leb k (x .order)) s) c)
+    (both-r (covers i x) (leb k (x .order)) s))
+    (λ t. in-any (over i k) m (rw (c, t)))
+
+pub over-none : (l : List Entry) (i k : ℕ) → covering l i ≡ none → any (over i k) l ≡ false
+over-none l i k q = any-none (over i k) (All-map (λ x n t. clash (both-l (covers i x) (leb k (x .order)) t) n)
+    (first-no (covers i) l q))
+
+-- a node at or below the run's order on i's path: none
+pub over-node : (l : List Entry) (i j k : ℕ) → Valid l → j ≤ k → any (within j (block j i)) l ≡ true →
+    any (over i k) l ≡ false
+over-node l i j k v h t =
+    any-none (over i k) (each l (λ x m s.
+    let (y, n, r) = any-in (within j (block j i)) l t in
+    let o : k ≤ x .order = leb-true _ _ (both-r (covers i x) (leb k (x .order)) s) in
+    let p : y .order < j = ltb-true _ _ (both-l (ltb (y .order) j) _ r) in
+    let c : covers (y .base) x ≡ true = eq-eqb _ _ (block-up {j = j} {k = x .order} (y .base) i (omega arith)
+    (within-only j (block j i) y r) ∙ eqb-true _ _ (both-l (covers i x) (leb k (x .order)) s)) in
+    let e : x .order ≡ y .order = ap (λ (z : Entry). z .order) (unique (y .base) v m n c (covers-self y)) in
+    omega arith))
+
+-- past the head's block nothing covers
+pub past-head : (l : List Entry) (y : ℕ) → All Low l → (block (tierOrder (height l)) y ≡ 0 → ⊥) → covering l y ≡ none
+past-head l y low n =
+    first-none (covers y) (All-map (λ x f t. n (block-up {j = x .order} {k = tierOrder (height l)} y (x .base)
+    (omega (arith, fits-order (height l) x f)) (eqb-true _ _ t) ∙ fits-base (height l) x f))
+    (height-fits low (le-refl _)))
