@@ -1,0 +1,5 @@
+pub mod Execute
+pub mod Calls
+pub mod Demand
+pub mod Part
+pub mod Cases
