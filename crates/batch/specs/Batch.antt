@@ -1,5 +1,5 @@
 -- Reading a batch (document 01, "A sheet and its replies").
-use Prim.Native.Nat.{ℕ, zero, suc, _+_}
+use Prim.Native.Nat.{ℕ, zero, suc, _+_, _-_}
 use mathlib.Core.Bool.{Bool, not}
 use mathlib.Core.List.{List, [], _∷_}
 use lib.Dec.{leb, ltb, eqb}
@@ -11,6 +11,8 @@ pub use Rattle.batch.specs.declared.Command.the-variants.{Store, Load, E
 pub use Rattle.batch.specs.declared.Cursor.{Cursor}
 pub use Rattle.batch.specs.declared.Read.{Read}
 pub use Rattle.batch.specs.declared.Read.the-variants.{Next, Bad, End}
+pub use Rattle.batch.specs.declared.Counted.{Counted}
+pub use Rattle.batch.specs.declared.Counted.the-variants.{Commands, Refused}
 
 -- "At most 8,192 bytes"
 abbrev pub maxBatch : ℕ
@@ -78,7 +80,15 @@ unfoldable pub parseFrom : List ℕ → (n at : ℕ) → Parsed
 parseFrom s zero at = commands []
 parseFrom s (suc n) at = parseRead (readAt s at) at (λ next. parseFrom s n next)
 
--- "place of the first byte of the first such record; 8,192 if too long": a record has at least one byte, so as many
--- records as bytes, and the end, are enough
+-- to the batch's end: a record has at least one byte, so as many records as bytes are left, and the end, are enough
+unfoldable pub restAt : List ℕ → ℕ → Parsed
+restAt s at = parseFrom s (suc (length s - at)) at
+
+-- "place of the first byte of the first such record; 8,192 if too long"
 unfoldable pub parse : List ℕ → Parsed
-parse s = pick (ltb maxBatch (length s)) (refused maxBatch) (parseFrom s (suc (length s)) 0)
+parse s = pick (ltb maxBatch (length s)) (refused maxBatch) (restAt s 0)
+
+-- how many commands, or the place
+abbrev pub counted : Parsed → Counted
+counted (commands cs) = Commands (length cs)
+counted (refused at) = Refused at

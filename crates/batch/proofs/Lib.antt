@@ -1,0 +1,3 @@
+pub mod BatchLaws
+pub mod ParseLaws
+pub mod WriteLaws
