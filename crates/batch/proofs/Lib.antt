@@ -1,3 +1,4 @@
 pub mod BatchLaws
 pub mod ParseLaws
 pub mod WriteLaws
+pub mod BoundLaws

@@ -38,18 +38,16 @@ use Rattle.batch.specs.Batch.{
   counted,
 }
 
--- a record that was read begins before the batch's end, and the next place is after it
-pub record Onward (s : List ℕ) (at next : ℕ) : Type 0 where
+-- a record that was read
+pub record WasRead (s : List ℕ) (at : ℕ) (c : Command) (k : Cursor) : Type 0 where
   pub before : at < length s
-  pub after : at < next
-  pub within : next ≤ length s
+  pub whole : isRecord s at ≡ true
+  pub command-is : commandAt s (getD s at 0) (at + headBytes) ≡ c
+  pub next-is : nextAt s at ≡ k
 
-last-of : (a b c d : Bool) → both a (both b (both c d)) ≡ true → d ≡ true
-last-of a b c d t = both-r c d (both-r b (both c d) (both-r a (both b (both c d)) t))
-
-pub next-after : (s : List ℕ) (at : ℕ) {c : Command} {k : Cursor} → readAt s at ≡ Next c k → Onward s at (k .at)
+pub was-read : (s : List ℕ) (at : ℕ) {c : Command} {k : Cursor} → readAt s at ≡ Next c k → WasRead s at c k
 unfolding readAt
-next-after s at {c} {k} e =
+was-read s at {c} {k} e =
     byT (leb (length s) at) (λ t. absurd (no-end (rw t at e)))
     (λ t. byT (isRecord s at) (λ r. went t r (rw (t, r) at e)) (λ r. absurd (no-bad (rw (t, r) at e))))
   where
@@ -60,16 +58,28 @@ next-after s at {c} {k} e =
     no-bad q = let z : _≡_ {A = ℕ} 0 1 = cc in omega arith
 
     went : leb (length s) at ≡ false → isRecord s at ≡ true →
-        Next (commandAt s (getD s at 0) (at + headBytes)) (nextAt s at) ≡ Next c k → Onward s at (k .at)
-    went t r q =
-        let same : nextAt s at ≡ k = cc in
-        let place : at + headBytes + fieldBytes (getD s at 0) ≡ k .at = ap (λ (x : Cursor). x .at) same in
-        let whole : at + headBytes + fieldBytes (getD s at 0) ≤ length s =
-        leb-true _ _
-        (last-of (leb (at + headBytes) (length s)) (not (eqb (fieldBytes (getD s at 0)) 0))
-        (eqb (numberAt s (at + 1) 2) (fieldBytes (getD s at 0)))
-        (leb (at + headBytes + fieldBytes (getD s at 0)) (length s)) r) in
-        record { before = leb-false _ _ t; after = omega arith; within = omega arith }
+        Next (commandAt s (getD s at 0) (at + headBytes)) (nextAt s at) ≡ Next c k → WasRead s at c k
+    went t r q = record { before = leb-false _ _ t; whole = r; command-is = cc; next-is = cc }
+
+-- it begins before the batch's end, and the next place is after it
+pub record Onward (s : List ℕ) (at next : ℕ) : Type 0 where
+  pub before : at < length s
+  pub after : at < next
+  pub within : next ≤ length s
+
+last-of : (a b c d : Bool) → both a (both b (both c d)) ≡ true → d ≡ true
+last-of a b c d t = both-r c d (both-r b (both c d) (both-r a (both b (both c d)) t))
+
+pub next-after : (s : List ℕ) (at : ℕ) {c : Command} {k : Cursor} → readAt s at ≡ Next c k → Onward s at (k .at)
+next-after s at {c} {k} e =
+    let w : WasRead s at c k = was-read s at e in
+    let place : at + headBytes + fieldBytes (getD s at 0) ≡ k .at = ap (λ (x : Cursor). x .at) (w .next-is) in
+    let ends : at + headBytes + fieldBytes (getD s at 0) ≤ length s =
+    leb-true _ _
+    (last-of (leb (at + headBytes) (length s)) (not (eqb (fieldBytes (getD s at 0)) 0))
+    (eqb (numberAt s (at + 1) 2) (fieldBytes (getD s at 0)))
+    (leb (at + headBytes + fieldBytes (getD s at 0)) (length s)) (w .whole)) in
+    record { before = w .before; after = omega arith; within = omega arith }
 
 -- more than enough places to read changes nothing
 fuel : (s : List ℕ) (k m at : ℕ) → length s - at < k → length s - at < m → parseFrom s k at ≡ parseFrom s m at
