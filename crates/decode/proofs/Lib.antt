@@ -1,0 +1,15 @@
+pub mod KeepLaws
+pub mod Restrict
+pub mod SaysLaws
+pub mod BelowLaws
+pub mod ChainLaws
+pub mod FitLaws
+pub mod CoverLaws
+pub mod Shape
+pub mod Back
+pub mod Round
+pub mod FreeLaws
+pub mod Agree
+pub mod Bridge
+pub mod Whole
+pub mod Decoded
