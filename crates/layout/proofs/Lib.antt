@@ -3,3 +3,4 @@ pub mod FieldLaws
 pub mod PlacesLaws
 pub mod RenderLaws
 pub mod SlotWordLaws
+pub mod NumberLaws
