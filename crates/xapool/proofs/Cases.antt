@@ -5,7 +5,7 @@ use Rattle.tree.specs.Tree.{tall, has, slotMark}
 use Rattle.tree.specs.Slots.{slot}
 use Rattle.lookup.specs.Load.{depthTo}
 use Rattle.lookup.specs.Find.{stopTier, turnAt, step, findFrom}
-use Rattle.xapool.specs.Execute.{execute}
+use Rattle.execute.specs.Execute.{execute}
 use Rattle.xapool.specs.Cases.{cases, casesHold}
 
 pub starred-cases : casesHold cases ≡ true

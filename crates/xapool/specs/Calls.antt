@@ -7,13 +7,14 @@ use lib.ListN.{length, drop, replicate}
 use Rattle.blocks.specs.Choice.{pick}
 use Rattle.model.specs.declared.Entry.{Entry}
 use Rattle.layout.specs.Words.{poolWords}
-use Rattle.layout.specs.Places.{Places, newPlaces, render}
+use Rattle.layout.specs.Places.{render}
 use Rattle.layout.specs.Decode.{listOf, placesOf}
 use Rattle.layout.specs.Decide.{nodeCount, isSized, isWellFormed}
 use Rattle.batch.specs.declared.Command.{Command}
 use Rattle.batch.specs.Batch.{Parsed, Parsed.commands, Parsed.refused, parse}
 use Rattle.batch.specs.Reply.{replyBytes, encode}
-use Rattle.xapool.specs.Execute.{execute}
+use Rattle.execute.specs.Execute.{execute}
+use Rattle.execute.specs.State.{State, states}
 pub use Rattle.xapool.specs.declared.Result.{Result}
 
 -- THE ANSWERS of a call
@@ -64,22 +65,7 @@ checkResult ws =
     (result wrongLength 0)
 
 -- RUN
--- a pool as the model sees it: the list, and which node stands at each number
-pub record State : Type 0 where
-  pub list : List Entry
-  pub places : Places
-
 module _ (n : ℕ) where
-  -- one command: the list after it, and "New nodes are taken .."
-  abbrev pub next : State → Command → State
-  next s c =
-      let l = execute n (s .list) c .list in record { list = l; places = newPlaces (s .list) l (s .places) }
-
-  -- the commands in order, "each on the list that the last one left"
-  abbrev pub states : State → List Command → State
-  states s [] = s
-  states s (c ∷ cs) = states (next s c) cs
-
   -- the replies in order, each of that moment's list
   abbrev pub replies : List Entry → List Command → List ℕ
   replies l [] = []
@@ -88,7 +74,7 @@ module _ (n : ℕ) where
   -- a batch that runs: "Reply bytes past the last reply stay."
   abbrev pub running : State → List Command → List ℕ → Called
   running s cs rs =
-      let t = states s cs in
+      let t = states n s cs in
       record {
         result = result done (length cs);
         words = render (t .list) (t .places) n;

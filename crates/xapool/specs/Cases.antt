@@ -16,8 +16,8 @@ use Rattle.batch.specs.declared.Command.{Command}
 use Rattle.batch.specs.declared.Command.the-variants.{Store, Load, Erase, Mark, Unmark, Find}
 use Rattle.batch.specs.Reply.{encode, answered}
 use Rattle.batch.specs.declared.Reply.{Reply}
-use Rattle.xapool.specs.Execute.{Executed, execute}
-use Rattle.xapool.specs.Calls.{State, states}
+use Rattle.execute.specs.Execute.{Executed, execute}
+use Rattle.execute.specs.State.{State, states}
 
 -- what a case says of its last command
 pub data Fact : Type 0 where

@@ -8,7 +8,7 @@ use Rattle.model.specs.declared.Entry.{Entry}
 use Rattle.batch.specs.declared.Command.{Command}
 use Rattle.batch.specs.Batch.{Parsed, Parsed.commands, Parsed.refused, parse}
 use Rattle.batch.specs.Reply.{replyBytes}
-use Rattle.xapool.specs.Execute.{execute}
+use Rattle.execute.specs.Execute.{execute}
 use Rattle.xapool.specs.Calls.{initWords, run}
 
 -- "Every call on a sheet brings its own sheet and reply space."

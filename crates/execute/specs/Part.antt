@@ -14,8 +14,8 @@ use Rattle.layout.specs.Words.{anchorWords, nodeWords}
 use Rattle.layout.specs.Places.{Places}
 use Rattle.batch.specs.declared.Command.{Command}
 use Rattle.batch.specs.declared.Command.the-variants.{Store, Load, Erase, Mark, Unmark, Find}
-use Rattle.xapool.specs.Execute.{execute}
-use Rattle.xapool.specs.Calls.{State, next}
+use Rattle.execute.specs.Execute.{execute}
+use Rattle.execute.specs.State.{State, next}
 
 -- THE RANGE
 -- the 2^order indices of the aligned block that holds an index

@@ -1,0 +1,3 @@
+pub mod Execute
+pub mod State
+pub mod Part
