@@ -1,34 +1,41 @@
 -- The words of a well-formed pool: where a node's fields stand, and what they are.
-use Prim.Native.Nat.{ℕ, suc, _+_, _*_, _-_, _/_, _%_, _<_}
-use mathlib.Core.Path.{_≡_, refl, ap, _∙_}
+use Prim.Native.Nat.{ℕ, zero, suc, _+_, _*_, _-_, _/_, _%_, _≤_, _<_}
+use mathlib.Core.Path.{_≡_, refl, sym, ap, _∙_}
+use mathlib.Core.Bool.{true}
 use mathlib.Core.List.{List}
 use mathlib.Core.Option.{none, some}
 use native.Mathlib.Omega.{arith}
 use native.Mathlib.Nat.{zero-add}
+use lib.Dec.{leb, ltb}
 use lib.ListN.{length, getD}
-use borrow.Author.Tests.{lt-ltb, le-ltb, ne-eqb}
+use borrow.Author.Tests.{leb-true, ltb-true, lt-ltb, le-ltb, ne-eqb}
 use Rattle.blocks.specs.Choice.{pick}
+use Rattle.blocks.specs.Lists.{any, there}
 use Rattle.blocks.specs.Blocks.{bit, bitsTo}
-use Rattle.blocks.specs.Lists.{there}
+use Rattle.blocks.proofs.BoolLaws.{both-l, both-r}
 use Rattle.blocks.proofs.BitLaws.{bits-read}
 use Rattle.blocks.proofs.UpToLaws.{length-upTo, getD-upTo}
-use Rattle.model.specs.Model.{marksOf}
-use Rattle.tree.specs.Tree.{height, slotMark, tierOrder, slots}
+use Rattle.blocks.proofs.ListLaws.{any-in}
+use Rattle.model.specs.declared.Entry.{Entry}
+use Rattle.model.specs.Model.{within, marksOf}
+use Rattle.tree.specs.Tree.{slotMark, has, height, Node, slots, tierOrder}
 use Rattle.tree.specs.Slots.{slot}
 use Rattle.layout.specs.Words.{
   field,
-  slotField,
-  nodeWords,
-  markField,
-  poolWords,
+  fieldAt,
+  anchorWord,
   lastField,
-  place,
+  poolWords,
   shiftField,
+  nodeWords,
+  place,
+  markField,
+  slotField,
   maxNodes,
 }
 use Rattle.layout.specs.Places.{wordAt}
 use Rattle.layout.specs.WellFormed.{WellFormed, num}
-use Rattle.layout.proofs.NumberLaws.{number-at}
+use Rattle.layout.proofs.NumberLaws.{in-standing, number-at, number-of}
 use Rattle.lookup.specs.Views.{AtNode}
 
 module _ {ws : List ℕ} (s : WellFormed ws) where
@@ -100,3 +107,34 @@ module _ {ws : List ℕ} (s : WellFormed ws) where
   mark-read {v} m c o h a q =
       ap (bit o) (mark-at a m h) ∙ bits-read (λ j. slotMark (s .list) m v (slots * (c / slots) + j)) slots o
       (omega arith) ∙ ap (λ (d : ℕ). pick (slotMark (s .list) m v d) 1 0) (omega arith)
+
+-- what stands at number m has that number
+pub place-of : {ws : List ℕ} (s : WellFormed ws) (m : ℕ) (p : Node) → getD (s .places) m none ≡ some p →
+    (m ≡ num s (p .tier) (p .number)) × (has (s .list) (p .tier) (p .number) ≡ true)
+place-of s m p e = (
+  sym (number-of p (s .places) m (s .placed .once) e),
+  s .placed .sound p (in-standing p (s .places) m e),
+)
+
+pub has-tier : (l : List Entry) (u b : ℕ) → has l u b ≡ true → (0 < u) × (u ≤ height l)
+unfolding has
+has-tier l zero b t = let (x, i, r) = any-in (within (tierOrder 0) b) l
+    (both-r (leb 0 (height l)) (any (within (tierOrder 0) b) l) t) in
+    absurd (let h : x .order < tierOrder 0 = ltb-true _ _ (both-l (ltb (x .order) (tierOrder 0)) _ r) in omega arith)
+has-tier l (suc u) b t = (
+  omega arith,
+  leb-true _ _ (both-l (leb (suc u) (height l))
+      (any (within (tierOrder (suc u)) b) l) t),
+)
+
+-- a pool's own words
+pub pool-anchor : {ws : List ℕ} (s : WellFormed ws) (k : ℕ) → k < 4 →
+    getD ws k 0 ≡ anchorWord (s .list) (num s) (s .n) k
+pool-anchor s k h = pool-word s k (omega arith) ∙ rw (lt-ltb k 4 h) refl
+
+pub pool-node : {ws : List ℕ} (s : WellFormed ws) (m k : ℕ) → m < s .n → k < nodeWords →
+    getD ws (place m k) 0 ≡ fieldAt (s .list) (num s) (getD (s .places) m none) k
+pool-node s m k p h =
+    let d : (place m k - 4) / nodeWords ≡ m = omega arith in
+    let r : (place m k - 4) % nodeWords ≡ k = omega arith in
+    pool-word s (place m k) (omega arith) ∙ rw (le-ltb (place m k) 4 (omega arith), d, r) refl
