@@ -12,8 +12,30 @@ use Rattle.blocks.specs.Lists.{All, end, also}
 use Rattle.blocks.proofs.BoolLaws.{byT}
 use Rattle.batch.specs.Bytes.{numberAt}
 use Rattle.batch.specs.Batch.{
-    Command, Store, Load, Erase, Mark, Unmark, Find, maxBatch, headBytes, commandAt, readAt, Read, Next, Bad, End,
-    Cursor, Parsed, Parsed.commands, Parsed.refused, consTo, parseRead, parseFrom, restAt, parse,
+  Command,
+  Store,
+  Load,
+  Erase,
+  Mark,
+  Unmark,
+  Find,
+  maxBatch,
+  headBytes,
+  commandAt,
+  readAt,
+  Read,
+  Next,
+  Bad,
+  End,
+  Cursor,
+  Parsed,
+  Parsed.commands,
+  Parsed.refused,
+  consTo,
+  parseRead,
+  parseFrom,
+  restAt,
+  parse,
 }
 use Rattle.batch.specs.Fits.{Bytes, Fits}
 use Rattle.batch.proofs.ParseLaws.{was-read}

@@ -13,7 +13,16 @@ use Rattle.blocks.specs.Lists.{All, end, also}
 use Rattle.blocks.proofs.BoolLaws.{byT}
 use Rattle.model.specs.declared.Entry.{Entry}
 use Rattle.model.specs.Model.{
-    Valid, storable, maxOrder, markCount, covers, covering, store, erase, remark, withMark,
+  Valid,
+  storable,
+  maxOrder,
+  markCount,
+  covers,
+  covering,
+  store,
+  erase,
+  remark,
+  withMark,
 }
 use Rattle.model.proofs.ValidLaws.{store-valid, erase-valid, erase-clear, erase-none}
 use Rattle.tree.specs.Tree.{nodes, newNodes, needed}
@@ -26,8 +35,9 @@ use Rattle.lookup.specs.Find.{anyMark, find}
 use Rattle.marks.proofs.RemarkLaws.{sorted-remark}
 use Rattle.batch.specs.declared.Command.{Command}
 use Rattle.batch.specs.declared.Command.the-variants.{Store, Load, Erase, Mark, Unmark, Find}
+use Rattle.batch.specs.Reply.{replyTag}
 use Rattle.batch.specs.Fits.{Fits}
-use Rattle.execute.specs.Execute.{Executed, execute, executeAs, short}
+use Rattle.execute.specs.Execute.{Executed, execute, short, refuse, replyOf, tooFewNodes}
 use Rattle.execute.specs.State.{State, next, states}
 
 -- what holds of a list after a change of it
@@ -56,9 +66,9 @@ remark-new l i m b = new-nodes-map (withMark i m b) (λ x. refl) (λ x. refl) l
 marked : (n : ℕ) {l : List Entry} (i m : ℕ) (b : Bool) → m < markCount → Valid l → Keeps n l (remark l i m b)
 marked n {l} i m b h v = no-node n l (remark l i m b) (sorted-remark i m b h v) (remark-new l i m b)
 
-is-true : {b : Bool} → not b ≡ false → T b
-is-true {b = true} e = tt
-is-true {b = false} e = subst T e tt
+is-true : (b : Bool) → not b ≡ false → T b
+is-true true e = tt
+is-true false e = subst T e tt
 
 module _ (n : ℕ) (l : List Entry) (v : Valid l) where
   stored : (i k w : ℕ) → i < 2 ^ 64 → w < 2 ^ 64 → Keeps n l (execute n l (Store i k w) .list)
@@ -68,7 +78,7 @@ module _ (n : ℕ) (l : List Entry) (v : Valid l) where
       (λ t. byT (not (storable w)) (λ s. rw (t, s) (stays n v))
       (λ s. byT (short n l (store l i k w)) (λ d. rw (t, s, d) (stays n v))
       (λ d. rw (t, s, d)
-      (record { valid = store-valid i k w v i< (ltb-false _ _ t) (is-true s) w<; enough = ltb-false _ _ d }))))
+      (record { valid = store-valid i k w v i< (ltb-false _ _ t) (is-true (storable w) s) w<; enough = ltb-false _ _ d }))))
 
   -- every command
   pub execute-keeps : (c : Command) → Fits c → Keeps n l (execute n l c .list)
@@ -105,3 +115,14 @@ states-kept end k = k
 states-kept (also {x = c} f a) k = states-kept a (next-kept c f k)
 
 -- SHORTAGE IS EXACT: a store that nothing else refuses answers 11 exactly if it needs more nodes than are free
+module _ (n : ℕ) (l : List Entry) (i k w : ℕ) (k≤ : k ≤ maxOrder) (st : storable w ≡ true) where
+  pub short-11 : n - length (nodes l) < needed l (store l i k w) →
+      execute n l (Store i k w) ≡ refuse l (replyTag (Store i k w)) tooFewNodes
+  unfolding execute
+  short-11 h = rw (le-ltb maxOrder k k≤, st, lt-ltb (n - length (nodes l)) (needed l (store l i k w)) h)
+
+  pub enough-0 : needed l (store l i k w) ≤ n - length (nodes l) →
+      execute n l (Store i k w)
+      ≡ record { reply = replyOf (replyTag (Store i k w)) 0 (covering (store l i k w) i); list = store l i k w }
+  unfolding execute
+  enough-0 h = rw (le-ltb maxOrder k k≤, st, le-ltb (n - length (nodes l)) (needed l (store l i k w)) h)

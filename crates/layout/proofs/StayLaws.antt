@@ -1,28 +1,13 @@
 -- Places that stay as they are: where a change of the list needs no node and every node stays.
-use Prim.Native.Nat.{ℕ, _≤_}
-use mathlib.Core.Path.{_≡_, refl, sym, ap, ap₂, subst, _∙_}
-use mathlib.Core.Bool.{true, false}
-use mathlib.Core.List.{List, [], _∷_}
-use mathlib.Core.Option.{Option, none, some}
-use lib.ListN.{length}
-use Rattle.blocks.specs.Choice.{pick}
-use Rattle.blocks.specs.Lists.{In, here, there}
+use Prim.Native.Nat.{ℕ}
+use mathlib.Core.Path.{_≡_, refl, ap, _∙_}
+use mathlib.Core.List.{List, []}
 use Rattle.blocks.proofs.ListLaws.{each, without-all}
 use Rattle.model.specs.declared.Entry.{Entry}
-use Rattle.tree.specs.Tree.{has, Node, nodes, newNodes, needed}
+use Rattle.tree.specs.Tree.{has, Node, nodes, newNodes}
 use Rattle.tree.proofs.NodeListLaws.{nodes-in}
-use Rattle.layout.specs.Places.{Places, standing, allocate, keepIf, prune, newPlaces, Placed}
-
-allocate-none : (os : Places) → allocate os [] ≡ os
-allocate-none [] = refl
-allocate-none (none ∷ os) = ap (λ (t : Places). none ∷ t) (allocate-none os)
-allocate-none (some p ∷ os) = ap (λ (t : Places). some p ∷ t) (allocate-none os)
-
-prune-all : (l : List Entry) (os : Places) → ((p : Node) → In p (standing os) → has l (p .tier) (p .number) ≡ true) →
-    prune l os ≡ os
-prune-all l [] f = refl
-prune-all l (none ∷ os) f = ap (λ (t : Places). none ∷ t) (prune-all l os f)
-prune-all l (some p ∷ os) f = rw (f p here, prune-all l os (λ q m. f q (there m)))
+use Rattle.layout.specs.Places.{Places, allocate, prune, newPlaces, Placed}
+use Rattle.layout.proofs.NumberLaws.{allocate-none, prune-same}
 
 -- no node is new, so the nodes that are no more leave their places
 pub places-prune : (l l′ : List Entry) (os : Places) → newNodes l l′ ≡ [] → newPlaces l l′ os ≡ prune l′ os
@@ -33,7 +18,7 @@ pub places-stay : {n : ℕ} (l l′ : List Entry) {os : Places} → Placed n l o
     ((u b : ℕ) → has l′ u b ≡ has l u b) → newPlaces l l′ os ≡ os
 places-stay l l′ {os} pl e f =
     places-prune l l′ os e
-    ∙ prune-all l′ os (λ p m. f (p .tier) (p .number) ∙ pl .sound p m)
+    ∙ prune-same l′ os (λ p m. f (p .tier) (p .number) ∙ pl .sound p m)
 
 -- a list that stays needs no node
 pub none-new : (l : List Entry) → newNodes l l ≡ []

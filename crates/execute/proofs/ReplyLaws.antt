@@ -1,0 +1,115 @@
+-- What each command comes to, test by test as the code has them.
+use Prim.Native.Nat.{ℕ, _≤_, _<_}
+use mathlib.Core.Path.{_≡_, refl, sym, ap, subst, _∙_}
+use mathlib.Core.Bool.{Bool, true, false}
+use mathlib.Core.Logic.{_≢_}
+use mathlib.Core.List.{List}
+use mathlib.Core.Option.{Option, none, some}
+use lib.Dec.{leb, ltb, eqb}
+use borrow.Author.Tests.{lt-ltb, le-ltb, le-leb, lt-leb, eq-eqb, ne-eqb}
+use Rattle.model.specs.declared.Entry.{Entry}
+use Rattle.model.specs.Model.{covering, covered, remark, markCount}
+use Rattle.marks.proofs.RemarkLaws.{places-remark}
+use Rattle.layout.specs.Places.{Places, newPlaces, render}
+use Rattle.layout.specs.WellFormed.{WellFormed}
+use Rattle.layout.proofs.StayLaws.{same-places}
+use Rattle.lookup.specs.Load.{load, loaded, depth}
+use Rattle.lookup.specs.Find.{anyMark, find}
+use Rattle.batch.specs.declared.Command.{Command}
+use Rattle.batch.specs.declared.Command.the-variants.{Store, Load, Erase, Mark, Unmark, Find}
+use Rattle.batch.specs.declared.Reply.{Reply}
+use Rattle.execute.specs.Execute.{
+  Executed,
+  execute,
+  leave,
+  refuse,
+  replyOf,
+  finding,
+  marking,
+  orderAbove,
+  notStorable,
+  markAbove,
+  firstAbove,
+  noBudget,
+}
+use Rattle.execute.specs.State.{State, next}
+use Rattle.execute.specs.Contracts.{coveredReply, loadedReply, replyTo, wordsTo, stateOf, Executes}
+
+-- REPLIES
+pub loaded-is : (t d : ℕ) (o : Option Entry) → loadedReply t (loaded d o) ≡ replyOf t d o
+loaded-is t d none = refl
+loaded-is t d (some e) = refl
+
+pub covered-is : (t : ℕ) (o : Option Entry) → coveredReply t (covered o) ≡ replyOf t 0 o
+covered-is t none = refl
+covered-is t (some e) = refl
+
+module _ (n : ℕ) (l : List Entry) where
+  pub load-runs : (i : ℕ) → execute n l (Load i) ≡ leave l (loadedReply 130 (load l i))
+  unfolding execute
+  load-runs i = ap (leave l) (sym (loaded-is 130 (depth l i) (covering l i)))
+
+  module _ (a z f k : ℕ) where
+    pub find-mark : anyMark < f → execute n l (Find a z f k) ≡ refuse l 134 markAbove
+    unfolding execute
+    find-mark h = rw (lt-ltb anyMark f h)
+
+    pub find-first : f ≤ anyMark → z < a → execute n l (Find a z f k) ≡ refuse l 134 firstAbove
+    unfolding execute
+    find-first h g = rw (le-ltb anyMark f h, lt-ltb z a g)
+
+    pub find-budget : f ≤ anyMark → a ≤ z → k ≡ 0 → execute n l (Find a z f k) ≡ refuse l 134 noBudget
+    unfolding execute
+    find-budget h g e = rw (le-ltb anyMark f h, le-ltb z a g, eq-eqb k 0 e)
+
+    pub find-runs : f ≤ anyMark → a ≤ z → k ≢ 0 →
+        execute n l (Find a z f k) ≡ leave l (finding 134 (find l a z f k))
+    unfolding execute
+    find-runs h g e = rw (le-ltb anyMark f h, le-ltb z a g, ne-eqb k 0 e)
+
+  module _ (i m : ℕ) where
+    pub mark-above : markCount ≤ m → execute n l (Mark i m) ≡ refuse l 132 markAbove
+    unfolding execute
+    mark-above h = rw (le-leb markCount m h)
+
+    pub unmark-above : markCount ≤ m → execute n l (Unmark i m) ≡ refuse l 133 markAbove
+    unfolding execute
+    unmark-above h = rw (le-leb markCount m h)
+
+    pub mark-runs : m < markCount → execute n l (Mark i m) ≡ marking 132 l i m true
+    unfolding execute
+    mark-runs h = rw (lt-leb markCount m h)
+
+    pub unmark-runs : m < markCount → execute n l (Unmark i m) ≡ marking 133 l i m false
+    unfolding execute
+    unmark-runs h = rw (lt-leb markCount m h)
+
+-- WORDS
+-- the words after a command by the list that it leaves
+pub words-after : {ws : List ℕ} (s : WellFormed ws) (c : Command) {l : List Entry} →
+    execute (s .n) (s .list) c .list ≡ l → wordsTo s c ≡ render l (newPlaces (s .list) l (s .places)) (s .n)
+words-after s c e = ap (λ (l : List Entry). render l (newPlaces (s .list) l (s .places)) (s .n)) e
+
+-- a command that leaves the list leaves the words
+pub leaves : {ws : List ℕ} (s : WellFormed ws) (c : Command) {r : Reply} →
+    execute (s .n) (s .list) c ≡ leave (s .list) r → {q : Reply} → q ≡ r → Executes s c q ws
+leaves s c e q = record {
+  reply-is = q ∙ sym (ap (λ (x : Executed). x .reply) e);
+  words-are =
+      s .words-are
+      ∙ ap (λ (os : Places). render (s .list) os (s .n)) (sym (same-places (s .list) (s .placed)))
+      ∙ sym (words-after s c (ap (λ (x : Executed). x .list) e));
+}
+
+-- a command that changes a mark
+pub remarks : {ws ws′ : List ℕ} (s : WellFormed ws) (c : Command) (t i m : ℕ) (b : Bool) {q : Reply} →
+    execute (s .n) (s .list) c ≡ marking t (s .list) i m b →
+    q ≡ coveredReply t (covered (covering (remark (s .list) i m b) i)) →
+    ws′ ≡ render (remark (s .list) i m b) (s .places) (s .n) → Executes s c q ws′
+remarks s c t i m b e r w = record {
+  reply-is = r ∙ covered-is t (covering (remark (s .list) i m b) i) ∙ sym (ap (λ (x : Executed). x .reply) e);
+  words-are =
+      w
+      ∙ ap (λ (os : Places). render (remark (s .list) i m b) os (s .n)) (sym (places-remark i m b (s .placed)))
+      ∙ sym (words-after s c (ap (λ (x : Executed). x .list) e));
+}
