@@ -29,7 +29,8 @@ ghost use Rattle.layout.specs.declared.Slot.the-variants.{Held, Child};
 ghost use Rattle.layout.specs.Words.{headWord};
 ghost use Rattle.layout.specs.Pool.{slotOf, slotAt, poolOf, run, Free};
 ghost use Rattle.scan.specs.Local.{Decides, HasNode, cap, topLevel, Unmarked, HeldOk, SiblingOk, Agree, ChildOk};
-ghost use Rattle.scan.specs.Local.{SlotOk, SlotsOk, UsedFrom, OwnedOk, NodeOk, NodesOk, AllFree, TallOk, HeadNode, HeadOk};
+ghost use Rattle.scan.specs.Local.{SlotOk, SlotsOk, UsedFrom, OwnedOk, NodeOk, NodesOk};
+ghost use Rattle.scan.specs.Local.{AllFree, TallOk, HeadNode, HeadOk};
 
 // The level of the nodes of shift 60.
 const TOP_LEVEL: u64 = 10;
