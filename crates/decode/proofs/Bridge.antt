@@ -54,7 +54,7 @@ node u b = record { tier = u; number = b }
 pub none-some : {p : Node} {C : Type 0} → _≡_ {A = Option Node} none (some p) → C
 none-some e = let z : _≡_ {A = ℕ} 0 1 = cc in absurd (omega arith)
 
-same-self : (p : Node) → same p p ≡ true
+pub same-self : (p : Node) → same p p ≡ true
 same-self p = rw (eq-eqb (p .tier) _ refl, eq-eqb (p .number) _ refl)
 
 pub get-in : (os : Places) (m : ℕ) (p : Node) → getD os m none ≡ some p → In p (standing os)

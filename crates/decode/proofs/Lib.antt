@@ -13,3 +13,4 @@ pub mod Agree
 pub mod Bridge
 pub mod Whole
 pub mod Decoded
+pub mod DecideLaws
