@@ -2,3 +2,4 @@ pub mod BatchLaws
 pub mod ParseLaws
 pub mod WriteLaws
 pub mod BoundLaws
+pub mod CutLaws

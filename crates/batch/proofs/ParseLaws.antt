@@ -2,13 +2,14 @@
 use Prim.Native.Nat.{ℕ, zero, suc, _+_, _-_, _≤_, _<_}
 use mathlib.Core.Path.{_≡_, refl, sym, ap, subst, _∙_}
 use mathlib.Core.Bool.{Bool, true, false, not}
+use mathlib.Core.Logic.{_≢_}
 use mathlib.Core.List.{List, [], _∷_}
 use native.Mathlib.Omega.{arith}
 use lib.Dec.{leb, ltb, eqb}
 use lib.ListN.{length, getD}
-use borrow.Author.Tests.{leb-true, leb-false, lt-leb, le-leb, lt-ltb, le-ltb}
+use borrow.Author.Tests.{leb-true, leb-false, eqb-true, eq-eqb, lt-ltb, le-ltb}
 use Rattle.blocks.specs.Choice.{pick, both}
-use Rattle.blocks.proofs.BoolLaws.{byT, both-l, both-r}
+use Rattle.blocks.proofs.BoolLaws.{byT, clash, both-l, both-r}
 use Rattle.batch.specs.Bytes.{numberAt}
 use Rattle.batch.specs.Batch.{
   maxBatch,
@@ -67,18 +68,31 @@ pub record Onward (s : List ℕ) (at next : ℕ) : Type 0 where
   pub after : at < next
   pub within : next ≤ length s
 
-last-of : (a b c d : Bool) → both a (both b (both c d)) ≡ true → d ≡ true
-last-of a b c d t = both-r c d (both-r b (both c d) (both-r a (both b (both c d)) t))
+-- the tests of a whole record
+pub record Whole (s : List ℕ) (at : ℕ) : Type 0 where
+  pub some-fields : fieldBytes (getD s at 0) ≢ 0
+  pub length-is : numberAt s (at + 1) 2 ≡ fieldBytes (getD s at 0)
+  pub ends : at + headBytes + fieldBytes (getD s at 0) ≤ length s
+
+pub whole : (s : List ℕ) (at : ℕ) → isRecord s at ≡ true → Whole s at
+whole s at t =
+    let a : Bool = leb (at + headBytes) (length s) in
+    let b : Bool = not (eqb (fieldBytes (getD s at 0)) 0) in
+    let c : Bool = eqb (numberAt s (at + 1) 2) (fieldBytes (getD s at 0)) in
+    let d : Bool = leb (at + headBytes + fieldBytes (getD s at 0)) (length s) in
+    let t₁ : both b (both c d) ≡ true = both-r a (both b (both c d)) t in
+    let t₂ : both c d ≡ true = both-r b (both c d) t₁ in
+    record {
+      some-fields = λ e. clash {b = b} (both-l b (both c d) t₁) (rw (eq-eqb (fieldBytes (getD s at 0)) 0 e));
+      length-is = eqb-true _ _ (both-l c d t₂);
+      ends = leb-true _ _ (both-r c d t₂);
+    }
 
 pub next-after : (s : List ℕ) (at : ℕ) {c : Command} {k : Cursor} → readAt s at ≡ Next c k → Onward s at (k .at)
 next-after s at {c} {k} e =
     let w : WasRead s at c k = was-read s at e in
     let place : at + headBytes + fieldBytes (getD s at 0) ≡ k .at = ap (λ (x : Cursor). x .at) (w .next-is) in
-    let ends : at + headBytes + fieldBytes (getD s at 0) ≤ length s =
-    leb-true _ _
-    (last-of (leb (at + headBytes) (length s)) (not (eqb (fieldBytes (getD s at 0)) 0))
-    (eqb (numberAt s (at + 1) 2) (fieldBytes (getD s at 0)))
-    (leb (at + headBytes + fieldBytes (getD s at 0)) (length s)) (w .whole)) in
+    let ends : at + headBytes + fieldBytes (getD s at 0) ≤ length s = whole s at (w .whole) .ends in
     record { before = w .before; after = omega arith; within = omega arith }
 
 -- more than enough places to read changes nothing
@@ -115,6 +129,10 @@ module _ (s : List ℕ) (at : ℕ) where
       let b : at < length s = o .before in
       let a : at < k .at = o .after in
       rw (← e) (ap (consTo c) (fuel s (length s - at) (suc (length s - k .at)) (k .at) (omega arith) (omega arith)))
+
+-- commands are not a refusal
+pub not-refused : {at : ℕ} {cs : List Command} → Parsed.refused at ≡ Parsed.commands cs → ⊥
+not-refused e = let z : _≡_ {A = ℕ} 0 1 = cc in omega arith
 
 -- COUNTING
 -- a count with n commands before it

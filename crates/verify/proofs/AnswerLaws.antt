@@ -43,14 +43,14 @@ prescribed-0 {ws = ws} s S =
     rw (sized-is s, subst (λ (k : ℕ). isWellFormed k ws ≡ true) (sym (count-of s)) (well-formed-is S))
 
 -- and then the decoded ones do
-passed : (ws : List ℕ) → checkAnswer ws ≡ 0 → (isSized ws ≡ true) × (isWellFormed (nodeCount ws) ws ≡ true)
+pub passed : (ws : List ℕ) → checkAnswer ws ≡ 0 → (isSized ws ≡ true) × (isWellFormed (nodeCount ws) ws ≡ true)
 passed ws e =
     byT (isSized ws)
     (λ a. byT (isWellFormed (nodeCount ws) ws) (λ b. (a, b))
     (λ b. absurd (let z : _≡_ {A = ℕ} 2 0 = rw (a, b) at e in omega arith)))
     (λ a. absurd (let z : _≡_ {A = ℕ} 1 0 = rw a at e in omega arith))
 
-pub accepted : (ws : List ℕ) → checkAnswer ws ≡ 0 → WellFormed ws
+abbrev pub accepted : (ws : List ℕ) → checkAnswer ws ≡ 0 → WellFormed ws
 accepted ws e =
     let (a, b) = passed ws e in
     let s : Sized (nodeCount ws) ws = is-sized ws a in

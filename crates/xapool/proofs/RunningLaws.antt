@@ -18,7 +18,7 @@ use Rattle.batch.specs.declared.Read.the-variants.{Next, Bad, End}
 use Rattle.batch.specs.declared.Reply.{Reply}
 use Rattle.batch.specs.Batch.{Parsed, Parsed.commands, Parsed.refused, consTo, readAt, restAt}
 use Rattle.batch.specs.Reply.{replyBytes, encode}
-use Rattle.batch.proofs.ParseLaws.{rest-end, rest-bad, rest-next}
+use Rattle.batch.proofs.ParseLaws.{rest-end, rest-bad, rest-next, not-refused}
 use Rattle.batch.proofs.WriteLaws.{overwrite-append}
 use Rattle.execute.specs.Execute.{execute}
 use Rattle.execute.specs.State.{State, next, states}
@@ -100,10 +100,7 @@ read-after batch at {c} {k} {cs} e q = go (restAt batch (k .at)) refl (sym (rest
       rest-is = g;
       whole = same-commands h (ap (consTo c) g);
     }
-    go (Parsed.refused p) g h = absurd (never (sym (ap (consTo c) g) ∙ h))
-      where
-        never : Parsed.refused p ≡ Parsed.commands cs → ⊥
-        never x = let z : _≡_ {A = ℕ} 0 1 = cc in omega arith
+    go (Parsed.refused p) g h = absurd (not-refused (sym (ap (consTo c) g) ∙ h))
 
 encode-length : (r : Reply) → length (encode r) ≡ replyBytes
 encode-length r = refl
@@ -117,49 +114,46 @@ reply-then n l c cs reply reply′ out e =
     ∙ sym (overwrite-append reply out (encode (execute n l c .reply)) (replies n (execute n l c .list) cs))
 
 module _ {pool₀ reply₀ batch pool reply : List ℕ} {at out low : ℕ} (r : Running pool₀ reply₀ batch pool reply at out low)
-    where
-  -- there is room for the reply of a command that was read
-  pub room-for : {c : Command} {k : Cursor} → Next c k ≡ readAt batch at → out + replyBytes ≤ length reply
-  room-for e =
-      let a = read-after batch at e (r .ahead .rest-is) in
-      let q : length (r .ahead .rest) ≡ suc (length (a .rest)) = ap length (a .whole) in
-      omega (arith, r .ahead .room)
+  where
+    -- there is room for the reply of a command that was read
+    pub room-for : {c : Command} {k : Cursor} → Next c k ≡ readAt batch at → out + replyBytes ≤ length reply
+    room-for e =
+        let a = read-after batch at e (r .ahead .rest-is) in
+        let q : length (r .ahead .rest) ≡ suc (length (a .rest)) = ap length (a .whole) in
+        omega (arith, r .ahead .room)
 
-  pub running-on : {c : Command} {k : Cursor} → Next c k ≡ readAt batch at → Fits c → {x : Reply} {pool′ reply′ : List ℕ}
-      {low′ : ℕ} → Executes (r .formed) c x pool′ → reply′ ≡ overwrite reply out (encode x) → InUse low′ pool′ →
-      length reply′ ≡ length reply → Running pool₀ reply₀ batch pool′ reply′ (k .at) (out + replyBytes) low′
-  running-on {c} {k} e f {x} {pool′} {reply′} {low′} ex w u len =
-      let s : WellFormed pool = r .formed in
-      let a : After batch at (k .at) c (r .ahead .rest) = read-after batch at e (r .ahead .rest-is) in
-      let q : length (r .ahead .rest) ≡ suc (length (a .rest)) = ap length (a .whole) in
-      let w′ : reply′ ≡ overwrite reply out (encode (replyTo s c)) =
-      w ∙ ap (λ (y : Reply). overwrite reply out (encode y)) (ex .reply-is) in
-      record {
-        formed = formed-after s c f (ex .words-are);
-        used = u;
-        ahead = record { rest = a .rest; rest-is = a .rest-is; room = omega (arith, r .ahead .room) };
-        same-length = len ∙ r .same-length;
-        leads = λ s₀ cs g ws′ rs′ d. r .leads s₀ cs g ws′ rs′
-            (subst (λ (ys : List Command). Ends s ys out reply ws′ rs′) (sym (a .whole))
-            (record {
-              words-are = d .words-are;
-              reply-is = d .reply-is ∙ reply-then (s .n) (s .list) c (a .rest) reply reply′ out w′;
-            }));
-      }
+    pub running-on : {c : Command} {k : Cursor} → Next c k ≡ readAt batch at → Fits c → {x : Reply} {pool′ reply′ : List ℕ}
+        {low′ : ℕ} → Executes (r .formed) c x pool′ → reply′ ≡ overwrite reply out (encode x) → InUse low′ pool′ →
+        length reply′ ≡ length reply → Running pool₀ reply₀ batch pool′ reply′ (k .at) (out + replyBytes) low′
+    running-on {c} {k} e f {x} {pool′} {reply′} {low′} ex w u len =
+        let s : WellFormed pool = r .formed in
+        let a : After batch at (k .at) c (r .ahead .rest) = read-after batch at e (r .ahead .rest-is) in
+        let q : length (r .ahead .rest) ≡ suc (length (a .rest)) = ap length (a .whole) in
+        let w′ : reply′ ≡ overwrite reply out (encode (replyTo s c)) =
+        w ∙ ap (λ (y : Reply). overwrite reply out (encode y)) (ex .reply-is) in
+        record {
+          formed = formed-after s c f (ex .words-are);
+          used = u;
+          ahead = record { rest = a .rest; rest-is = a .rest-is; room = omega (arith, r .ahead .room) };
+          same-length = len ∙ r .same-length;
+          leads = λ s₀ cs g ws′ rs′ d. r .leads s₀ cs g ws′ rs′
+              (subst (λ (ys : List Command). Ends s ys out reply ws′ rs′) (sym (a .whole))
+              (record {
+                words-are = d .words-are;
+                reply-is = d .reply-is ∙ reply-then (s .n) (s .list) c (a .rest) reply reply′ out w′;
+              }));
+        }
 
-  -- THE END
-  pub running-end : End ≡ readAt batch at → (s₀ : WellFormed pool₀) (cs : List Command) →
-      restAt batch 0 ≡ Parsed.commands cs → Ends s₀ cs 0 reply₀ pool reply
-  unfolding writeFrom
-  running-end e s₀ cs g =
-      let none : r .ahead .rest ≡ [] = same-commands (r .ahead .rest-is) (rest-end batch at e) in
-      r .leads s₀ cs g pool reply
-      (subst (λ (ys : List Command). Ends (r .formed) ys out reply pool reply) (sym none)
-      (record { words-are = r .formed .words-are; reply-is = refl }))
+    -- THE END
+    pub running-end : End ≡ readAt batch at → (s₀ : WellFormed pool₀) (cs : List Command) →
+        restAt batch 0 ≡ Parsed.commands cs → Ends s₀ cs 0 reply₀ pool reply
+    unfolding writeFrom
+    running-end e s₀ cs g =
+        let none : r .ahead .rest ≡ [] = same-commands (r .ahead .rest-is) (rest-end batch at e) in
+        r .leads s₀ cs g pool reply
+        (subst (λ (ys : List Command). Ends (r .formed) ys out reply pool reply) (sym none)
+        (record { words-are = r .formed .words-are; reply-is = refl }))
 
-  -- a batch that was read whole has no bad record
-  pub never-bad : Bad ≡ readAt batch at → ⊥
-  never-bad e = clash (sym (rest-bad batch at e) ∙ r .ahead .rest-is)
-    where
-      clash : {p : ℕ} {cs : List Command} → Parsed.refused p ≡ Parsed.commands cs → ⊥
-      clash x = let z : _≡_ {A = ℕ} 0 1 = cc in omega arith
+    -- a batch that was read whole has no bad record
+    pub never-bad : Bad ≡ readAt batch at → ⊥
+    never-bad e = not-refused (sym (rest-bad batch at e) ∙ r .ahead .rest-is)

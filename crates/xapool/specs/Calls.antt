@@ -1,15 +1,14 @@
 -- The three calls (document 01, "When the kit says no"): the result, and every word and byte after the call.
-use Prim.Native.Nat.{ℕ, _+_, _*_, _-_}
-use mathlib.Core.Bool.{Bool}
+use Prim.Native.Nat.{ℕ, _*_}
 use mathlib.Core.List.{List, [], _∷_, _++_}
-use lib.Dec.{ltb}
-use lib.ListN.{length, drop, replicate}
+use lib.Dec.{ltb, eqb}
+use lib.ListN.{length, drop}
 use Rattle.blocks.specs.Choice.{pick}
 use Rattle.model.specs.declared.Entry.{Entry}
-use Rattle.layout.specs.Words.{poolWords}
 use Rattle.layout.specs.Places.{render}
 use Rattle.layout.specs.Decode.{listOf, placesOf}
-use Rattle.layout.specs.Decide.{nodeCount, isSized, isWellFormed}
+use Rattle.layout.specs.Decide.{nodeCount}
+use Rattle.verify.specs.Answers.{checkAnswer, initAnswer}
 use Rattle.batch.specs.declared.Command.{Command}
 use Rattle.batch.specs.Batch.{Parsed, Parsed.commands, Parsed.refused, parse}
 use Rattle.batch.specs.Reply.{replyBytes, encode}
@@ -17,15 +16,9 @@ use Rattle.execute.specs.Execute.{execute}
 use Rattle.execute.specs.State.{State, states}
 pub use Rattle.xapool.specs.declared.Result.{Result}
 
--- THE ANSWERS of a call
+-- THE ANSWERS of a call; 1 and 2 are `checkAnswer`'s
 abbrev pub done : ℕ
 done = 0
-
-abbrev pub wrongLength : ℕ
-wrongLength = 1
-
-abbrev pub notWellFormed : ℕ
-notWellFormed = 2
 
 abbrev pub badRecord : ℕ
 badRecord = 3
@@ -46,23 +39,12 @@ pub record Called : Type 0 where
 abbrev pub refuseCall : List ℕ → List ℕ → ℕ → ℕ → Called
 refuseCall ws rs a n = record { result = result a n; words = ws; reply = rs }
 
--- INIT (document 01: blanking)
--- "Blanking, whatever stood there, leaves N in word 0 and 0 in all others."
-abbrev pub blankWords : ℕ → List ℕ
-blankWords n = n ∷ replicate (poolWords n - 1) 0
-
+-- INIT (document 01: blanking) and CHECK: "Blanking gives only 0 or 1, checking only 0, 1 or 2, number 0."
 abbrev pub initResult : List ℕ → Result
-initResult ws = pick (isSized ws) (result done 0) (result wrongLength 0)
+initResult ws = result (initAnswer ws) 0
 
-abbrev pub initWords : List ℕ → List ℕ
-initWords ws = pick (isSized ws) (blankWords (nodeCount ws)) ws
-
--- CHECK
--- "Sound: .. The check says yes exactly for these."
 abbrev pub checkResult : List ℕ → Result
-checkResult ws =
-    pick (isSized ws) (pick (isWellFormed (nodeCount ws) ws) (result done 0) (result notWellFormed 0))
-    (result wrongLength 0)
+checkResult ws = result (checkAnswer ws) 0
 
 -- RUN
 module _ (n : ℕ) where
@@ -88,10 +70,7 @@ module _ (n : ℕ) where
       pick (ltb (length rs) (replyBytes * length cs)) (refuseCall ws rs replyShort (length cs))
       (running (record { list = listOf ws; places = placesOf ws }) cs rs)
 
--- "Lowest number first."
+-- "Lowest number first.": 1 and 2 are the check's
 unfoldable pub run : (pool batch reply : List ℕ) → Called
 run ws bs rs =
-    pick (isSized ws)
-    (pick (isWellFormed (nodeCount ws) ws) (runParsed (nodeCount ws) ws rs (parse bs))
-    (refuseCall ws rs notWellFormed 0))
-    (refuseCall ws rs wrongLength 0)
+    pick (eqb (checkAnswer ws) done) (runParsed (nodeCount ws) ws rs (parse bs)) (refuseCall ws rs (checkAnswer ws) 0)

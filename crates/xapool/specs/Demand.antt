@@ -5,11 +5,15 @@ use lib.Dec.{ltb}
 use lib.ListN.{length}
 use Rattle.blocks.specs.Choice.{pick}
 use Rattle.model.specs.declared.Entry.{Entry}
+use Rattle.layout.specs.Places.{Places}
+use Rattle.layout.specs.WellFormed.{Prescribed}
+use Rattle.batch.specs.Fits.{Bytes}
 use Rattle.batch.specs.declared.Command.{Command}
 use Rattle.batch.specs.Batch.{Parsed, Parsed.commands, Parsed.refused, parse}
 use Rattle.batch.specs.Reply.{replyBytes}
 use Rattle.execute.specs.Execute.{execute}
-use Rattle.xapool.specs.Calls.{initWords, run}
+use Rattle.verify.specs.Answers.{initWords}
+use Rattle.xapool.specs.Calls.{run}
 
 -- "Every call on a sheet brings its own sheet and reply space."
 pub data Call : Type 0 where
@@ -49,3 +53,15 @@ module _ (n : ℕ) where
   abbrev pub listAfterAll : List Entry → List Call → List Entry
   listAfterAll l [] = l
   listAfterAll l (c ∷ cs) = listAfterAll (listAfter l c) cs
+
+-- THE CLAIM
+-- a batch is a list of bytes
+abbrev pub Bytewise : Call → Type 0
+Bytewise init = Unit
+Bytewise check = Unit
+Bytewise (batch bs rs) = Bytes bs
+
+-- "the words are those that this list prescribes, under some numbering of nodes, and every other node is blank"
+pub record Stands (n : ℕ) (l : List Entry) (ws : List ℕ) : Type 0 where
+  pub places : Places
+  pub prescribed : Prescribed n l places ws
