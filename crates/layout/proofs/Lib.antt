@@ -4,3 +4,4 @@ pub mod PlacesLaws
 pub mod RenderLaws
 pub mod SlotWordLaws
 pub mod NumberLaws
+pub mod FillLaws
