@@ -103,7 +103,7 @@ module _ {ws : List ℕ} (s : WellFormed ws) where
       absurd (clash (both-r (leb (height (s .list)) (height (s .list))) _
       (head-has (s .list) low t (omega arith))) n))
 
-  flat-entry : height (s .list) ≡ 0 → {x : Entry} → In x (s .list) → (x .order ≡ 0) × (x .base ≡ 0)
+  pub flat-entry : height (s .list) ≡ 0 → {x : Entry} → In x (s .list) → (x .order ≡ 0) × (x .base ≡ 0)
   flat-entry z {x} m =
       let t : fits 0 x ≡ true = look (height-fits {h = 0} low (omega arith)) m in
       let o : x .order < max 1 (tierOrder 0) = fits-order 0 x t in

@@ -31,10 +31,10 @@ use Rattle.layout.specs.Words.{
   owner,
   anchorWord,
   markField,
-  place,
-  nodeWords,
-  lastField,
   poolWords,
+  lastField,
+  nodeWords,
+  place,
   ownerField,
   maxNodes,
 }
@@ -46,7 +46,7 @@ use Rattle.lookup.specs.Views.{AtNode, Holds}
 use Rattle.lookup.proofs.WordLaws.{pool-length, node-at, pool-anchor, has-tier, place-of, pool-node}
 use Rattle.lookup.proofs.StandLaws.{covers-high}
 use Rattle.marks.proofs.MarkLaws.{
-  mem,
+  entry-in,
   mark-entry,
   same-height,
   field-off,
@@ -108,7 +108,7 @@ module _ {ws₀ : List ℕ} (s : WellFormed ws₀) (i m : ℕ) (m< : m < 3) (b :
           below p t le z =
               let hi : e .order < tierOrder (p .tier) = covers-high (s .valid) (tierOrder (p .tier)) (e .base)
               (subst (λ (x : ℕ). any (within (tierOrder (p .tier)) x) l ≡ true) z
-              (both-r (leb (p .tier) (height l)) _ t)) (mem l (s .valid) i e q) (covers-self e) in
+              (both-r (leb (p .tier) (height l)) _ t)) (entry-in l (s .valid) i e q) (covers-self e) in
               omega arith
 
   module _ {v n : ℕ} {ws : List ℕ} (hy : Hybrid s l′ v ws) (a : AtNode l ν v (block (tierOrder (suc v)) (e .base)) n)
@@ -146,8 +146,7 @@ module _ {ws₀ : List ℕ} (s : WellFormed ws₀) (i m : ℕ) (m< : m < 3) (b :
 
           here : (n′ k : ℕ) → n′ ≡ n → k ≡ 2 + m → getD (set ws (place n (markField + m))
               (setBit (block (tierOrder v) (e .base) % slots) (slotMark l′ m v (block (tierOrder v) (e .base)))
-              (getD ws (place n (markField + m)) 0))) (place n′ k) 0 ≡ mixed l l′ ν (suc v) (getD (s .places) n′ none)
-              k
+              (getD ws (place n (markField + m)) 0))) (place n′ k) 0 ≡ mixed l l′ ν (suc v) (getD (s .places) n′ none) k
           here n′ k z₁ z₂ =
               rw (z₁, z₂, n< .1, le-leb (suc v) (suc v) (le-refl (suc v)))
               (getD-set-same ws (place n (markField + m))
@@ -246,7 +245,7 @@ module _ {ws₀ : List ℕ} (s : WellFormed ws₀) (i m : ℕ) (m< : m < 3) (b :
       low = All-map (λ x o. (o .order-le, o .in-range)) (sorted-ok (s .valid))
 
       flat : block (tierOrder u) (e .base) ≡ 0
-      flat = fits-base u e (look (height-fits low (omega arith)) (mem l (s .valid) i e q))
+      flat = fits-base u e (look (height-fits low (omega arith)) (entry-in l (s .valid) i e q))
 
       marked : t ≡ any (hasMark m) l′
       marked = tq ∙ (ap₂ (slotMark l′ m) top flat ∙ mark-top l (s .valid) i e q m m< b)

@@ -38,7 +38,7 @@ use Rattle.tree.proofs.HeightLaws.{Low, height-fits, fits-base}
 use Rattle.tree.proofs.SlotLaws.{tier-up, mark-up, mark-down}
 use Rattle.tree.proofs.RelabelLaws.{mapO, any-map, within-map, covering-map, height-map, has-map}
 use Rattle.layout.specs.Words.{field, anchorWord, nodeWords}
-use Rattle.marks.proofs.BitSetLaws.{marks-of-bits, marks-bits, set-bits, bits-zero, bits-none}
+use Rattle.marks.proofs.BitSetLaws.{marks-bits, set-bits, bits-zero, bits-none, marks-of-bits}
 
 -- a node's mark word is 0 where the slot that leads to the node has no mark
 pub word-mark : (l : List Entry) (m v b : ℕ) → not (eqb (bitsTo (λ j. slotMark l m v (slots * b + j)) slots) 0) ≡
@@ -61,20 +61,20 @@ word-mark l m v b =
 
 -- ONE ENTRY APART
 module _ (l : List Entry) (val : Valid l) (i : ℕ) (e : Entry) (q : covering l i ≡ some e) where
-  pub mem : In e l
-  mem = first-yes (covers i) (each l (λ x m. m)) q .1
+  pub entry-in : In e l
+  entry-in = first-yes (covers i) (each l (λ x m. m)) q .1
 
-  pub cov : covers i e ≡ true
-  cov = first-yes (covers i) (each l (λ x m. m)) q .0
+  pub entry-covers : covers i e ≡ true
+  entry-covers = first-yes (covers i) (each l (λ x m. m)) q .0
 
   pub one-apart : (p : Entry → Bool) → any p l ≡ either (p e) (any p (erase l i))
   one-apart p =
       sym (any-split p (covers i) l) ∙ ap (λ (t : Bool). either t (any p (erase l i))) (any-keep-both p (covers i) l ∙
       iff (any (λ x. both (covers i x) (p x)) l) (p e)
       (λ t. let (x, n, s) = any-in (λ x. both (covers i x) (p x)) l t in
-      subst (λ (y : Entry). p y ≡ true) (unique i val n mem (both-l (covers i x) (p x) s) cov)
+      subst (λ (y : Entry). p y ≡ true) (unique i val n entry-in (both-l (covers i x) (p x) s) entry-covers)
       (both-r (covers i x) (p x) s))
-      (λ t. in-any (λ x. both (covers i x) (p x)) mem (rw (cov, t))))
+      (λ t. in-any (λ x. both (covers i x) (p x)) entry-in (rw (entry-covers, t))))
 
   -- nothing else starts in the entry's own slot
   pub alone : (v : ℕ) → tierOrder v ≤ e .order → (m : ℕ) → slotMark (erase l i) m v (block (tierOrder v) (e .base)) ≡
@@ -85,8 +85,8 @@ module _ (l : List Entry) (val : Valid l) (i : ℕ) (e : Entry) (q : covering l 
       (All-map (λ x (f : (covers i x ≡ false) × In x l) t.
       let k : covers (x .base) e ≡ true = eq-eqb _ _ (block-up {j = tierOrder v} {k = e .order} (x .base) (e .base) h
       (marked-only m (tierOrder v) (block (tierOrder v) (e .base)) x t)) in
-      clash (subst (λ (y : Entry). covers i y ≡ true) (sym (unique (x .base) val (f .1) mem (covers-self x) k)) cov)
-      (f .0))
+      clash (subst (λ (y : Entry). covers i y ≡ true) (sym (unique (x .base) val (f .1) entry-in (covers-self x) k))
+      entry-covers) (f .0))
       (All-without (covers i) (each l (λ x n. n))))
 
   pub mark-old : (m u c : ℕ) → slotMark l m u c ≡ either (both (starts (tierOrder u) c e) (hasMark m e))
@@ -128,8 +128,8 @@ module _ (l : List Entry) (val : Valid l) (i : ℕ) (e : Entry) (q : covering l 
         let w : setBit m (g m) (bitsTo (λ j. hasMark j e) 3) ≡ bitsTo g 3 = set-bits (λ j. hasMark j e) g m 3 m<
         (λ j lt ne. sym (rw (ne-eqb j m ne))) in
         let t : b ≡ pick (eqb m m) b (hasMark m e) = rw (eq-eqb m m refl) in
-        rw cov (ap₂ (λ (t : Bool) (x : ℕ). setBit m t x) t
-        (sym (marks-bits e (look (sorted-ok val) mem .marks-fit))) ∙ w)
+        rw entry-covers (ap₂ (λ (t : Bool) (x : ℕ). setBit m t x) t
+        (sym (marks-bits e (look (sorted-ok val) entry-in .marks-fit))) ∙ w)
 
     pub has-new : (k : ℕ) → k < 3 → hasMark k (f e) ≡ pick (eqb k m) b (hasMark k e)
     has-new k h =

@@ -26,7 +26,7 @@ ghost use Rattle.layout.specs.Words.{marksWord};
 ghost use Rattle.layout.specs.Places.{render};
 ghost use Rattle.layout.specs.WellFormed.{WellFormed, num};
 ghost use Rattle.lookup.specs.Views.{Holds};
-ghost use Rattle.marks.specs.Climb.{Held};
+ghost use Rattle.marks.specs.Climb.{StandsAt};
 
 fn nonzero(w: u64) -> bool
     ensures { λ r. ⌜ r ≡ not (eqb w 0) ⌝ }
@@ -67,7 +67,7 @@ fn mark_anchor(pool: &mut [u64], m: u64, on: bool)
 // a slot above keeps the mark while any slot of the node below has it. Then the anchor's.
 pub fn climb(pool: &mut [u64], i: u64, at: Spot, m: u64, on: bool)
     requires { ⌜ m < markCount ⌝ }
-    requires { ⌜ Held i (at .node) (at .tier) (at .slot) (now pool) ⌝ }
+    requires { ⌜ StandsAt i (at .node) (at .tier) (at .slot) (now pool) ⌝ }
     ensures { λ _. ⌜ ((s : WellFormed (now (pool .entry))) →
         Holds (s .list) (num s) i (at .node) (at .tier) (at .slot) →
         now (pool .exit) ≡ render (remark (s .list) i m on) (s .places) (s .n)) ⌝ }

@@ -62,10 +62,12 @@ same-length-2 c = search needs
 returns-2 : tie.Need-returns-2
 returns-2 c = let a = c .before .before .before .before .before .before .before .before .before .before .before .args
     in (
-      (λ s. let (z, q) = at-head _ (c .before .before .before .before .before .before .before .before .locate .ensures s)
+      (λ s. let (z, q) = at-head _ (c .before .before .before .before .before .before .before .before .locate .ensures
+          s)
           (c .before .before .before .before .before .before .k .given .1) in
           answer-some (s .list) (a .i) (a .m) (a .on) q (c .remarked .ensures (a .i))),
-      λ s. let (z, q) = at-head _ (c .before .before .before .before .before .before .before .before .locate .ensures s)
+      λ s. let (z, q) = at-head _ (c .before .before .before .before .before .before .before .before .locate .ensures
+          s)
           (c .before .before .before .before .before .before .k .given .1) in
           c .before .before .before .mark-anchor .ensures ∙ bare-mark s (a .i) (a .m) (a .on)
           (c .before .before .before .before .before .before .before .before .before .before .before .pre .1) _ q z,
@@ -80,7 +82,8 @@ returns-3 c = let a = c .before .before .before .before .before .before .before 
       (λ s. let (q, h, t, le, d) = at-spot _ _ _ (c .before .before .before .before .before .before .before .before
           .locate .ensures s) (c .before .before .before .before .before .before .k2 .given .1) in
           answer-some (s .list) (a .i) (a .m) (a .on) q (c .remarked2 .ensures (a .i))),
-      λ s. let (q, h, t, le, d) = at-spot _ _ _ (c .before .before .before .before .before .before .before .before .locate
+      λ s. let (q, h, t, le, d) = at-spot _ _ _ (c .before .before .before .before .before .before .before .before
+          .locate
           .ensures s) (c .before .before .before .before .before .before .k2 .given .1) in
           c .before .before .before .climb .ensures s h,
     )
