@@ -31,7 +31,7 @@ use Rattle.tree.proofs.RelabelLaws.{new-nodes-map}
 use Rattle.layout.specs.Places.{Places, Placed, freeCount, newPlaces}
 use Rattle.layout.proofs.PlacesLaws.{placed-new, blank-places}
 use Rattle.layout.proofs.StayLaws.{none-new}
-use Rattle.lookup.specs.Find.{anyMark, find}
+use Rattle.lookup.specs.Find.{anyMark}
 use Rattle.marks.proofs.RemarkLaws.{sorted-remark}
 use Rattle.batch.specs.declared.Command.{Command}
 use Rattle.batch.specs.declared.Command.the-variants.{Store, Load, Erase, Mark, Unmark, Find}
@@ -40,6 +40,18 @@ use Rattle.batch.specs.Fits.{Fits}
 use Rattle.execute.specs.Execute.{Executed, execute, short, refuse, replyOf, tooFewNodes}
 use Rattle.execute.specs.State.{State, next, states}
 
+-- COMMANDS THAT ONLY READ leave the list
+pub load-list : (n : ℕ) (l : List Entry) (i : ℕ) → execute n l (Load i) .list ≡ l
+unfolding execute
+load-list n l i = refl
+
+pub find-list : (n : ℕ) (l : List Entry) (a z f k : ℕ) → execute n l (Find a z f k) .list ≡ l
+unfolding execute
+find-list n l a z f k =
+    byT (ltb anyMark f) (λ t. rw t)
+    (λ t. byT (ltb z a) (λ u. rw (t, u)) (λ u. byT (eqb k 0) (λ w. rw (t, u, w)) (λ w. rw (t, u, w))))
+
+-- EVERY COMMAND
 -- what holds of a list after a change of it
 pub record Keeps (n : ℕ) (l l′ : List Entry) : Type 0 where
   pub valid : Valid l′
@@ -90,10 +102,7 @@ module _ (n : ℕ) (l : List Entry) (v : Valid l) where
       byT (leb markCount m) (λ t. rw t (stays n v)) (λ t. rw t (marked n i m true (leb-false _ _ t) v))
   execute-keeps (Unmark i m) f =
       byT (leb markCount m) (λ t. rw t (stays n v)) (λ t. rw t (marked n i m false (leb-false _ _ t) v))
-  execute-keeps (Find a z f k) _ =
-      byT (ltb anyMark f) (λ t. rw t (stays n v))
-      (λ t. byT (ltb z a) (λ s. rw (t, s) (stays n v))
-      (λ s. byT (eqb k 0) (λ d. rw (t, s, d) (stays n v)) (λ d. rw (t, s, d) (stays n v))))
+  execute-keeps (Find a z f k) _ = rw (find-list n l a z f k) (stays n v)
 
 -- STATES
 pub record Kept (n : ℕ) (s : State) : Type 0 where

@@ -38,13 +38,12 @@ use Rattle.tree.proofs.RelabelLaws.{mapO, covering-map}
 use Rattle.tree.proofs.StoreLaws.{store-covering}
 use Rattle.layout.specs.Places.{Places, newPlaces, wordAt}
 use Rattle.layout.proofs.StayLaws.{same-places}
-use Rattle.lookup.specs.Find.{anyMark}
 use Rattle.batch.specs.declared.Command.{Command}
 use Rattle.batch.specs.declared.Command.the-variants.{Store, Load, Erase, Mark, Unmark, Find}
 use Rattle.execute.specs.Execute.{execute, replyOf, short}
 use Rattle.execute.specs.State.{State, next}
 use Rattle.execute.specs.Part.{Range, rangeOf, addressed, changing, inPart, mayWrite}
-use Rattle.execute.proofs.ExecuteLaws.{Kept}
+use Rattle.execute.proofs.ExecuteLaws.{Kept, load-list, find-list}
 use Rattle.execute.proofs.LocalLaws.{Agree, agree-store, agree-clear, agree-map, agree-move}
 use Rattle.execute.proofs.PartLaws.{word-same}
 
@@ -166,24 +165,13 @@ module _ (n : ℕ) (l : List Entry) (v : Valid l) where
         (λ s. byT (short n l (store l i k w)) (λ d. inl (rw (t, s, d)))
         (λ d. inr (refl, rw (t, s, d) (done .0), rw (t, s, d) (done .1)))))
 
-  find-within : (a z f k : ℕ) → Within n l (Find a z f k)
-  unfolding execute
-  find-within a z f k =
-      byT (ltb anyMark f) (λ t. inl (rw t))
-      (λ t. byT (ltb z a) (λ s. inl (rw (t, s)))
-      (λ s. byT (eqb k 0) (λ d. inl (rw (t, s, d))) (λ d. inl (rw (t, s, d)))))
-
-  load-within : (i : ℕ) → Within n l (Load i)
-  unfolding execute
-  load-within i = inl refl
-
   within : (c : Command) → Within n l c
   within (Store i k w) = store-within i k w
-  within (Load i) = load-within i
+  within (Load i) = inl (load-list n l i)
   within (Erase i) = erase-within i
   within (Mark i m) = mark-within i m
   within (Unmark i m) = unmark-within i m
-  within (Find a z f k) = find-within a z f k
+  within (Find a z f k) = inl (find-list n l a z f k)
 
 -- "A word outside a command's part has the same value after it as before."
 pub footprint : (n : ℕ) (s : State) → Kept n s → (c : Command) (w : ℕ) → mayWrite n s c w ≡ false →

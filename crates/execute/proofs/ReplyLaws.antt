@@ -8,11 +8,11 @@ use mathlib.Core.Option.{Option, none, some}
 use lib.Dec.{leb, ltb, eqb}
 use borrow.Author.Tests.{lt-ltb, le-ltb, le-leb, lt-leb, eq-eqb, ne-eqb}
 use Rattle.model.specs.declared.Entry.{Entry}
-use Rattle.model.specs.Model.{covering, covered, remark, markCount}
+use Rattle.model.specs.Model.{covering, covered, erase, remark, markCount}
 use Rattle.marks.proofs.RemarkLaws.{places-remark}
-use Rattle.layout.specs.Places.{Places, newPlaces, render}
+use Rattle.layout.specs.Places.{Places, newPlaces, prune, render}
 use Rattle.layout.specs.WellFormed.{WellFormed}
-use Rattle.layout.proofs.StayLaws.{same-places}
+use Rattle.layout.proofs.StayLaws.{same-places, places-prune}
 use Rattle.lookup.specs.Load.{load, loaded, depth}
 use Rattle.lookup.specs.Find.{anyMark, find}
 use Rattle.batch.specs.declared.Command.{Command}
@@ -32,7 +32,7 @@ use Rattle.execute.specs.Execute.{
   firstAbove,
   noBudget,
 }
-use Rattle.execute.specs.State.{State, next}
+use Rattle.execute.proofs.ExecuteLaws.{erase-new}
 use Rattle.execute.specs.Contracts.{coveredReply, loadedReply, replyTo, wordsTo, stateOf, Executes}
 
 -- REPLIES
@@ -113,3 +113,25 @@ remarks s c t i m b e r w = record {
       ∙ ap (λ (os : Places). render (remark (s .list) i m b) os (s .n)) (sym (places-remark i m b (s .placed)))
       ∙ sym (words-after s c (ap (λ (x : Executed). x .list) e));
 }
+
+-- an erase
+pub erases : {ws ws′ : List ℕ} (s : WellFormed ws) (i : ℕ) {q : Reply} → q ≡ coveredReply 131 (covered (covering (s .list) i)) →
+    ws′ ≡ render (erase (s .list) i) (prune (erase (s .list) i) (s .places)) (s .n) → Executes s (Erase i) q ws′
+unfolding execute
+erases s i r w = record {
+  reply-is = r ∙ covered-is 131 (covering (s .list) i);
+  words-are =
+      w
+      ∙ ap (λ (os : Places). render (erase (s .list) i) os (s .n))
+      (sym (places-prune (s .list) (erase (s .list) i) (s .places) (erase-new i (s .valid))));
+}
+
+-- COMMANDS THAT ONLY READ
+pub leaves-words : {ws : List ℕ} (s : WellFormed ws) (c : Command) {q : Reply} →
+    execute (s .n) (s .list) c .list ≡ s .list → q ≡ replyTo s c → Executes s c q ws
+leaves-words s c {q} e r = leaves s c {r = replyTo s c} (λ i. record { reply = replyTo s c; list = e i }) r
+
+-- the command that a match found
+pub by-command : {ws ws′ : List ℕ} (s : WellFormed ws) {c d : Command} {q : Reply} → c ≡ d → Executes s d q ws′ →
+    Executes s c q ws′
+by-command {ws′ = ws′} s {q = q} e x = subst (λ (y : Command). Executes s y q ws′) (sym e) x

@@ -8,13 +8,11 @@ use lookup::Outcome;
 use model::Covered;
 use model::Entry;
 ghost use mathlib.Core.Path.{_≡_};
-ghost use mathlib.Core.Bool.{Bool};
-ghost use Prim.Native.Nat.{_<_};
-ghost use Rattle.model.specs.Model.{markCount};
+ghost use Prim.Native.Nat.{ℕ};
 ghost use Rattle.layout.specs.WellFormed.{WellFormed, InUse};
 ghost use Rattle.batch.specs.Reply.{answered, answeredBy};
 ghost use Rattle.execute.specs.Execute.{finding};
-ghost use Rattle.execute.specs.Contracts.{coveredReply, loadedReply, replyTo, wordsTo, Executes};
+ghost use Rattle.execute.specs.Contracts.{coveredReply, loadedReply, replyTo, Executes};
 
 // The answers that stand in a reply, and the reply's tags.
 const ORDER_ABOVE: u64 = 5;
@@ -144,6 +142,7 @@ fn run_find(pool: &[u64], first: u64, last: u64, filter: u64, budget: u64) -> Re
 fn run_mark(pool: &mut [u64], index: u64, mark: u64) -> Reply
     requires { ⌜ WellFormed (now pool) ⌝ }
     ensures { λ r. ⌜ ((s : WellFormed (now (pool .entry))) → Executes s (Command.Mark index mark) r (now (pool .exit))) ⌝ }
+    ensures { λ _. ⌜ ((low : ℕ) → InUse low (now (pool .entry)) → InUse low (now (pool .exit))) ⌝ }
 {
     if mark >= MARKS {
         return answered(MARKED, MARK_ABOVE, 0, 0);
@@ -155,10 +154,53 @@ fn run_mark(pool: &mut [u64], index: u64, mark: u64) -> Reply
 fn run_unmark(pool: &mut [u64], index: u64, mark: u64) -> Reply
     requires { ⌜ WellFormed (now pool) ⌝ }
     ensures { λ r. ⌜ ((s : WellFormed (now (pool .entry))) → Executes s (Command.Unmark index mark) r (now (pool .exit))) ⌝ }
+    ensures { λ _. ⌜ ((low : ℕ) → InUse low (now (pool .entry)) → InUse low (now (pool .exit))) ⌝ }
 {
     if mark >= MARKS {
         return answered(UNMARKED, MARK_ABOVE, 0, 0);
     }
     let c = marks::set_mark(pool, index, mark, false);
     covered_reply(UNMARKED, c)
+}
+
+fn run_erase(pool: &mut [u64], index: u64, low: u64) -> Execution
+    requires { ⌜ WellFormed (now pool) ⌝ }
+    requires { ⌜ InUse low (now pool) ⌝ }
+    ensures { λ r. ⌜ ((s : WellFormed (now (pool .entry))) → Executes s (Command.Erase index) (r .reply) (now (pool .exit))) ⌝ }
+    ensures { λ r. ⌜ InUse (r .low) (now (pool .exit)) ⌝ }
+{
+    let e = erase::erase(pool, index, low);
+    let c = e.entry;
+    let next = e.low;
+    Execution { reply: covered_reply(ERASED, c), low: next }
+}
+
+fn run_store(pool: &mut [u64], index: u64, order: u64, word: u64, low: u64) -> Execution
+    requires { ⌜ WellFormed (now pool) ⌝ }
+    requires { ⌜ InUse low (now pool) ⌝ }
+    ensures { λ r. ⌜ ((s : WellFormed (now (pool .entry))) →
+        Executes s (Command.Store index order word) (r .reply) (now (pool .exit))) ⌝ }
+    ensures { λ r. ⌜ InUse (r .low) (now (pool .exit)) ⌝ }
+{
+    Execution { reply: answered(STORED, TOO_FEW_NODES, 0, 0), low: low }
+}
+
+// One command: its reply, and the number below which every node is in use.
+pub fn execute(pool: &mut [u64], c: Command, low: u64) -> Execution
+    requires { ⌜ WellFormed (now pool) ⌝ }
+    requires { ⌜ InUse low (now pool) ⌝ }
+    ensures { λ r. ⌜ ((s : WellFormed (now (pool .entry))) → Executes s c (r .reply) (now (pool .exit))) ⌝ }
+    ensures { λ r. ⌜ InUse (r .low) (now (pool .exit)) ⌝ }
+{
+    match c {
+        Command::Store { index, order, word } => run_store(pool, index, order, word, low),
+        Command::Load { index } => Execution { reply: run_load(pool, index), low: low },
+        Command::Erase { index } => run_erase(pool, index, low),
+        Command::Mark { index, mark } => Execution { reply: run_mark(pool, index, mark), low: low },
+        Command::Unmark { index, mark } => Execution { reply: run_unmark(pool, index, mark), low: low },
+        Command::Find { first, last, filter, budget } => Execution {
+            reply: run_find(pool, first, last, filter, budget),
+            low: low,
+        },
+    }
 }

@@ -22,10 +22,10 @@ use Rattle.batch.proofs.ParseLaws.{rest-end, rest-bad, rest-next, not-refused}
 use Rattle.batch.proofs.WriteLaws.{overwrite-append}
 use Rattle.execute.specs.Execute.{execute}
 use Rattle.execute.specs.State.{State, next, states}
-use Rattle.execute.specs.Contracts.{stateOf, replyTo, wordsTo, Executes}
+use Rattle.execute.specs.Contracts.{stateOf, wordsTo}
 use Rattle.execute.proofs.ExecuteLaws.{Kept, next-kept}
 use Rattle.xapool.specs.Calls.{replies}
-use Rattle.xapool.specs.Running.{wordsOf, Ahead, Ends, Running}
+use Rattle.xapool.specs.Running.{wordsOf, Ahead, Ends, Turned, Running}
 
 -- WELL-FORMED AGAIN after a command
 pub kept-of : {ws : List ℕ} (s : WellFormed ws) → Kept (s .n) (stateOf s)
@@ -102,9 +102,6 @@ read-after batch at {c} {k} {cs} e q = go (restAt batch (k .at)) refl (sym (rest
     }
     go (Parsed.refused p) g h = absurd (not-refused (sym (ap (consTo c) g) ∙ h))
 
-encode-length : (r : Reply) → length (encode r) ≡ replyBytes
-encode-length r = refl
-
 -- one reply, then the others
 reply-then : (n : ℕ) (l : List Entry) (c : Command) (cs : List Command) (reply reply′ : List ℕ) (out : ℕ) →
     reply′ ≡ overwrite reply out (encode (execute n l c .reply)) →
@@ -122,25 +119,23 @@ module _ {pool₀ reply₀ batch pool reply : List ℕ} {at out low : ℕ} (r : 
         let q : length (r .ahead .rest) ≡ suc (length (a .rest)) = ap length (a .whole) in
         omega (arith, r .ahead .room)
 
-    pub running-on : {c : Command} {k : Cursor} → Next c k ≡ readAt batch at → Fits c → {x : Reply} {pool′ reply′ : List ℕ}
-        {low′ : ℕ} → Executes (r .formed) c x pool′ → reply′ ≡ overwrite reply out (encode x) → InUse low′ pool′ →
-        length reply′ ≡ length reply → Running pool₀ reply₀ batch pool′ reply′ (k .at) (out + replyBytes) low′
-    running-on {c} {k} e f {x} {pool′} {reply′} {low′} ex w u len =
+    pub running-on : {c : Command} {k : Cursor} → Next c k ≡ readAt batch at → Fits c → {pool′ reply′ : List ℕ} {low′ : ℕ} →
+        Turned (r .formed) c out reply pool′ reply′ → InUse low′ pool′ → length reply′ ≡ length reply →
+        Running pool₀ reply₀ batch pool′ reply′ (k .at) (out + replyBytes) low′
+    running-on {c} {k} e f {pool′} {reply′} {low′} d u len =
         let s : WellFormed pool = r .formed in
         let a : After batch at (k .at) c (r .ahead .rest) = read-after batch at e (r .ahead .rest-is) in
         let q : length (r .ahead .rest) ≡ suc (length (a .rest)) = ap length (a .whole) in
-        let w′ : reply′ ≡ overwrite reply out (encode (replyTo s c)) =
-        w ∙ ap (λ (y : Reply). overwrite reply out (encode y)) (ex .reply-is) in
         record {
-          formed = formed-after s c f (ex .words-are);
+          formed = formed-after s c f (d .words-are);
           used = u;
           ahead = record { rest = a .rest; rest-is = a .rest-is; room = omega (arith, r .ahead .room) };
           same-length = len ∙ r .same-length;
-          leads = λ s₀ cs g ws′ rs′ d. r .leads s₀ cs g ws′ rs′
+          leads = λ s₀ cs g ws′ rs′ x. r .leads s₀ cs g ws′ rs′
               (subst (λ (ys : List Command). Ends s ys out reply ws′ rs′) (sym (a .whole))
               (record {
-                words-are = d .words-are;
-                reply-is = d .reply-is ∙ reply-then (s .n) (s .list) c (a .rest) reply reply′ out w′;
+                words-are = x .words-are;
+                reply-is = x .reply-is ∙ reply-then (s .n) (s .list) c (a .rest) reply reply′ out (d .reply-is);
               }));
         }
 

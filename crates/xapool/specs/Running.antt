@@ -6,12 +6,11 @@ use lib.ListN.{length}
 use Rattle.layout.specs.Places.{render}
 use Rattle.layout.specs.WellFormed.{WellFormed, InUse}
 use Rattle.batch.specs.Bytes.{overwrite}
-use Rattle.batch.specs.Fits.{Bytes}
 use Rattle.batch.specs.declared.Command.{Command}
 use Rattle.batch.specs.Batch.{Parsed, Parsed.commands, restAt}
-use Rattle.batch.specs.Reply.{replyBytes}
+use Rattle.batch.specs.Reply.{replyBytes, encode}
 use Rattle.execute.specs.State.{State, states}
-use Rattle.execute.specs.Contracts.{stateOf}
+use Rattle.execute.specs.Contracts.{stateOf, replyTo, wordsTo}
 use Rattle.xapool.specs.Calls.{replies}
 
 -- the words of a state
@@ -29,6 +28,11 @@ pub record Ends {pool : List ℕ} (s : WellFormed pool) (cs : List Command) (out
   where
     pub words-are : pool′ ≡ wordsOf (s .n) (states (s .n) (stateOf s) cs)
     pub reply-is : reply′ ≡ overwrite reply out (replies (s .n) (s .list) cs)
+
+-- one command, with its reply written at `out`
+pub record Turned {pool : List ℕ} (s : WellFormed pool) (c : Command) (out : ℕ) (reply pool′ reply′ : List ℕ) : Type 0 where
+  pub words-are : pool′ ≡ wordsTo s c
+  pub reply-is : reply′ ≡ overwrite reply out (encode (replyTo s c))
 
 -- between two commands: what is left of the batch leads to what the whole batch leads to
 pub record Running (pool₀ reply₀ batch pool reply : List ℕ) (at out low : ℕ) : Type 0 where
