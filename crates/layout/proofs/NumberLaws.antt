@@ -1,0 +1,86 @@
+-- What stands at each number, and at which number a node stands.
+use Prim.Native.Nat.{ℕ, zero, suc, _<_}
+use mathlib.Core.Path.{_≡_, refl, sym, ap, subst}
+use mathlib.Core.Bool.{true, false}
+use mathlib.Core.List.{List, [], _∷_}
+use mathlib.Core.Option.{Option, none, some}
+use mathlib.Core.Logic.{_⊎_, inl, inr}
+use native.Mathlib.Omega.{arith}
+use lib.ListN.{length, getD}
+use borrow.Author.Tests.{eq-eqb}
+use Rattle.blocks.proofs.BoolLaws.{clash, byT, is-false}
+use Rattle.blocks.specs.Lists.{In, here, there, Distinct, d-more}
+use Rattle.blocks.proofs.ListLaws.{in-cons}
+use Rattle.model.specs.declared.Entry.{Entry}
+use Rattle.tree.specs.Tree.{has, Node}
+use Rattle.layout.specs.Places.{Places, same, numberOf, standing, allocate, keepIf, prune}
+use Rattle.layout.proofs.PlacesLaws.{same-is}
+
+abbrev pub nd : ℕ → ℕ → Node
+nd u b = record { tier = u; number = b }
+
+pub same-refl : (p : Node) → same p p ≡ true
+same-refl p = rw (eq-eqb (p .tier) _ refl, eq-eqb (p .number) _ refl)
+
+pub number-at : (p : Node) (os : Places) → In p (standing os) →
+    (numberOf p os < length os) × (getD os (numberOf p os) none ≡ some p)
+number-at p [] m = elim m [ ]
+number-at p (none ∷ os) m = let (a, b) = number-at p os m in (omega arith, b)
+number-at p (some q ∷ os) m =
+    byT (same q p) (λ t. rw t (omega arith, ap some (same-is q p t)))
+    (λ t. rw t (go t (in-cons m) (λ k. number-at p os k)))
+  where
+    go : same q p ≡ false → (p ≡ q) ⊎ In p (standing os) →
+        (In p (standing os) → (numberOf p os < length os) × (getD os (numberOf p os) none ≡ some p)) →
+        (suc (numberOf p os) < length (some q ∷ os)) × (getD (some q ∷ os) (suc (numberOf p os)) none ≡ some p)
+    go t (inl e) f = absurd (clash (rw e (same-refl q)) t)
+    go t (inr k) f = let (a, b) = f k in (omega arith, b)
+
+pub in-standing : (p : Node) (os : Places) (m : ℕ) → getD os m none ≡ some p → In p (standing os)
+in-standing p [] m e = let z : _≡_ {A = ℕ} 0 1 = cc in absurd (omega arith)
+in-standing p (none ∷ os) zero e = let z : _≡_ {A = ℕ} 0 1 = cc in absurd (omega arith)
+in-standing p (none ∷ os) (suc m) e = in-standing p os m e
+in-standing p (some q ∷ os) zero e = let d : q ≡ p = cc in subst (λ (r : Node). In r (q ∷ standing os)) d here
+in-standing p (some q ∷ os) (suc m) e = there (in-standing p os m e)
+
+pub number-of : (p : Node) (os : Places) (m : ℕ) → Distinct (standing os) → getD os m none ≡ some p →
+    numberOf p os ≡ m
+number-of p [] m d e = let z : _≡_ {A = ℕ} 0 1 = cc in absurd (omega arith)
+number-of p (none ∷ os) zero d e = let z : _≡_ {A = ℕ} 0 1 = cc in absurd (omega arith)
+number-of p (none ∷ os) (suc m) d e = ap suc (number-of p os m d e)
+number-of p (some q ∷ os) zero d e = let g : q ≡ p = cc in rw (← g, same-refl q)
+number-of p (some q ∷ os) (suc m) (d-more n d) e =
+    rw (is-false {b = same q p} (λ t. n (subst (λ (r : Node). In r (standing os)) (sym (same-is q p t))
+    (in-standing p os m e)))) (ap suc (number-of p os m d e))
+
+pub prune-get : (l : List Entry) (os : Places) (m : ℕ) → getD (prune l os) m none ≡ keepIf l (getD os m none)
+prune-get l [] m = refl
+prune-get l (o ∷ os) zero = refl
+prune-get l (o ∷ os) (suc m) = prune-get l os m
+
+pub fill-stays : (os : Places) (ps : List Node) (m : ℕ) (q : Node) → getD os m none ≡ some q →
+    getD (allocate os ps) m none ≡ some q
+fill-stays [] ps m q e = e
+fill-stays (some r ∷ os) ps zero q e = e
+fill-stays (some r ∷ os) ps (suc m) q e = fill-stays os ps m q e
+fill-stays (none ∷ os) ps zero q e = let z : _≡_ {A = ℕ} 0 1 = cc in absurd (omega arith)
+fill-stays (none ∷ os) [] (suc m) q e = fill-stays os [] m q e
+fill-stays (none ∷ os) (p ∷ ps) (suc m) q e = fill-stays os ps m q e
+
+pub fill-get : (os : Places) (ps : List Node) (m : ℕ) (p : Node) → getD (allocate os ps) m none ≡ some p →
+    (getD os m none ≡ some p) ⊎ ((getD os m none ≡ none) × In p ps)
+fill-get [] ps m p e = inl e
+fill-get (some r ∷ os) ps zero p e = inl e
+fill-get (some r ∷ os) ps (suc m) p e = fill-get os ps m p e
+fill-get (none ∷ os) [] zero p e = inl e
+fill-get (none ∷ os) [] (suc m) p e = fill-get os [] m p e
+fill-get (none ∷ os) (q ∷ ps) zero p e = let d : q ≡ p = cc in inr (refl, subst (λ (r : Node). In r (q ∷ ps)) d here)
+fill-get (none ∷ os) (q ∷ ps) (suc m) p e = elim (fill-get os ps m p e)
+    [ inl a ↦ inl a | inr b ↦ inr (b .0, there (b .1)) ]
+
+pub keep-some : (l : List Entry) (o : Option Node) (p : Node) → keepIf l o ≡ some p →
+    (o ≡ some p) × (has l (p .tier) (p .number) ≡ true)
+keep-some l none p e = let z : _≡_ {A = ℕ} 0 1 = cc in absurd (omega arith)
+keep-some l (some q) p e =
+    byT (has l (q .tier) (q .number)) (λ t. let d : q ≡ p = cc t in (ap some d, rw (← d) t))
+    (λ t. let z : _≡_ {A = ℕ} 0 1 = cc t in absurd (omega arith))
