@@ -5,10 +5,13 @@ use mathlib.Core.Bool.{true, false}
 use mathlib.Core.List.{List}
 use mathlib.Core.Option.{Option, none, some}
 use mathlib.Core.Logic.{inl, inr}
+use native.Mathlib.Omega.{arith}
 use lib.ListN.{getD}
 use Rattle.blocks.proofs.BoolLaws.{clash}
+use Rattle.blocks.proofs.ListLaws.{without-in}
 use Rattle.model.specs.declared.Entry.{Entry}
 use Rattle.tree.specs.Tree.{has, Node, newNodes, needed}
+use Rattle.tree.proofs.NodeListLaws.{nodes-in}
 use Rattle.layout.specs.Places.{
   Places,
   Placed,
@@ -30,6 +33,13 @@ use Rattle.layout.proofs.NumberLaws.{
   fill-get,
   keep-some,
 }
+
+-- a node of the tree stands at its number
+module _ (n : ℕ) (l : List Entry) (os : Places) (pl : Placed n l os) where
+  pub stands-at : (u b : ℕ) → has l u b ≡ true → (numberIn os u b < n) ×
+      (getD os (numberIn os u b) none ≡ some (nd u b))
+  stands-at u b t = let (a, e) = number-at (nd u b) os (pl .full (nd u b) t) in
+      (subst (λ (x : ℕ). numberIn os u b < x) (pl .size) a, e)
 
 module _ (n : ℕ) (l : List Entry) (os : Places) (pl : Placed n l os) (l′ : List Entry)
     (enough : needed l l′ ≤ freeCount os) where
@@ -82,3 +92,19 @@ module _ (n : ℕ) (l : List Entry) (os : Places) (pl : Placed n l os) (l′ : L
       (ap (λ (m : ℕ). getD os′ m none) e ∙ new-at u′ b′ t′ .1) in
       let r : nd u b ≡ nd u′ b′ = cc in
       (ap (λ (p : Node). p .tier) r, ap (λ (p : Node). p .number) r)
+
+-- a free place that a new node takes is in use after the command
+pub new-stays : (l l′ : List Entry) (os : Places) (m : ℕ) → getD os m none ≡ none →
+    (getD (allocate os (newNodes l l′)) m none ≡ none → ⊥) → getD (newPlaces l l′ os) m none ≡ none → ⊥
+new-stays l l′ os m free taken e = go (getD (allocate os (newNodes l l′)) m none) refl
+  where
+    go : (o : Option Node) → getD (allocate os (newNodes l l′)) m none ≡ o → ⊥
+    go none d = taken d
+    go (some p) d =
+        let t : has l′ (p .tier) (p .number) ≡ true = elim (fill-get os (newNodes l l′) m p d) [
+          | inl a ↦ (let z : _≡_ {A = ℕ} 0 1 = cc (sym free ∙ a) in absurd (omega arith))
+          | inr b ↦ nodes-in l′ (without-in (λ q. has l (q .tier) (q .number)) (b .1))
+        ] in
+        let x : keepIf l′ (some p) ≡ none = ap (keepIf l′) (sym d) ∙ (sym (prune-get l′
+        (allocate os (newNodes l l′)) m) ∙ e) in
+        let z : _≡_ {A = ℕ} 0 1 = cc (sym (rw t at x)) in omega arith

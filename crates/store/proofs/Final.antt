@@ -45,7 +45,7 @@ use Rattle.layout.specs.Places.{Places, numberIn, freeCount, newPlaces, Placed,
 use Rattle.layout.specs.Fill.{filled}
 use Rattle.layout.proofs.NewNumberLaws.{kept, was, was-not, new-number-of}
 use Rattle.layout.proofs.RenderWordLaws.{slot-node, render-node, render-anchor, render-long, field-mark, field-slot}
-use Rattle.store.specs.Plan.{Plan}
+use Rattle.plan.specs.Plan.{Plan}
 use Rattle.store.specs.Writes.{span, offset, joins, linked, chainWords, grownWords, entered}
 use Rattle.store.proofs.Right.{
   Long,
@@ -70,7 +70,7 @@ use Rattle.store.proofs.Right.{
   filled-makes,
 }
 use Rattle.store.proofs.Freeing.{Freed}
-use Rattle.store.proofs.AfterStore.{
+use Rattle.plan.proofs.AfterStore.{
   Lies,
   lies,
   on-path,
@@ -524,7 +524,7 @@ module _ (n : ℕ) (l : List Entry) (os : Places) (pl : Placed n l os) (valid : 
     -- what a node of the new tree had before
     start : (u b f : ℕ) → has l′ u b ≡ true → f < nodeWords →
         getD ws (place (ν′ u b) f) 0 ≡ fieldAt l ν (getD os (ν′ u b) none) f
-    start u b f t h = freed .render (ν′ u b) f (num-lt n l os pl l′ enough u b t) h ∙ rw (stay u b t)
+    start u b f t h = freed .words (ν′ u b) f (num-lt n l os pl l′ enough u b t) h ∙ rw (stay u b t)
         (render-node l os n (ν′ u b) f (num-lt n l os pl l′ enough u b t) h)
 
     start-old : (u b f : ℕ) → has l′ u b ≡ true → has l u b ≡ true → f < nodeWords →
@@ -788,8 +788,8 @@ module _ (n : ℕ) (l : List Entry) (os : Places) (pl : Placed n l os) (valid : 
         })
           where
             blank : (x : Bool) → q m ≡ x → getD ws (place m f) 0 ≡ 0
-            blank true y = freed .render m f a h ∙ rw y
-            blank false y = freed .render m f a h ∙ rw y
+            blank true y = freed .words m f a h ∙ rw y
+            blank false y = freed .words m f a h ∙ rw y
                 (render-node l os n m f a h ∙ ap (λ (o : Option Node). fieldAt l ν o f) (gone m a e y))
         go (some p) e =
             let (x, t) = new-number-of n l os pl l′ enough m p e in

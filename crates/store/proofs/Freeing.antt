@@ -38,8 +38,11 @@ use Rattle.tree.proofs.ReadLaws.{Seen, see, nothing, lower, entry, sibling, wor
 use Rattle.layout.specs.Words.{fieldAt, place, nodeWords, slotField, poolWords}
 use Rattle.layout.specs.Places.{Places, numberIn, Placed}
 use Rattle.layout.specs.Fill.{filled}
+use Rattle.layout.proofs.NewNumberLaws.{stands-at}
 use Rattle.layout.proofs.NumberLaws.{nd, number-at, number-of, in-standing}
-use Rattle.store.specs.Writes.{freeSlot, freeSlots, freeTree}
+use Rattle.layout.specs.declared.Slot.{Slot}
+use Rattle.layout.proofs.SlotWordLaws.{View, v-empty, v-held, v-sibling, v-child, view}
+use Rattle.store.specs.Writes.{freeBelow, freeSlot, freeSlots, freeTree}
 
 pub get-filled : (ws : List ℕ) (a x d p : ℕ) → a + d ≤ length ws →
     getD (filled ws a x d) p 0 ≡ pick (both (leb a p) (ltb p (a + d))) x (getD ws p 0)
@@ -70,17 +73,17 @@ length-filled ws a x (suc d) = simp length-set (length-filled ws a x d)
 pub record Freed (n : ℕ) (q : ℕ → Bool) (ws ws′ : List ℕ) : Type 0 where
   pub long : length ws′ ≡ length ws
   pub anchor : (i : ℕ) → i < 4 → getD ws′ i 0 ≡ getD ws i 0
-  pub render : (m f : ℕ) → m < n → f < nodeWords → getD ws′ (place m f) 0 ≡ pick (q m) 0 (getD ws (place m f) 0)
+  pub words : (m f : ℕ) → m < n → f < nodeWords → getD ws′ (place m f) 0 ≡ pick (q m) 0 (getD ws (place m f) 0)
 
 pub freed-none : (n : ℕ) (ws : List ℕ) → Freed n (λ m. false) ws ws
-freed-none n ws = record { long = refl; anchor = λ i h. refl; render = λ m f a b. refl }
+freed-none n ws = record { long = refl; anchor = λ i h. refl; words = λ m f a b. refl }
 
 pub freed-as : {n : ℕ} {q r : ℕ → Bool} {ws ws′ : List ℕ} → ((m : ℕ) → m < n → q m ≡ r m) → Freed n q ws ws′ →
     Freed n r ws ws′
 freed-as {n} {q} {r} {ws} e f = record {
   long = f .long;
   anchor = f .anchor;
-  render = λ m g a b. f .render m g a b ∙
+  words = λ m g a b. f .words m g a b ∙
       ap (λ (t : Bool). pick t 0 (getD ws (place m g) 0)) (e m a);
 }
 
@@ -89,7 +92,7 @@ pub freed-both : {n : ℕ} {q r : ℕ → Bool} {ws ws′ ws″ : List ℕ} → 
 freed-both {n} {q} {r} {ws} f g = record {
   long = g .long ∙ f .long;
   anchor = λ i h. g .anchor i h ∙ f .anchor i h;
-  render = λ m x a b. g .render m x a b ∙ (ap (λ (y : ℕ). pick (r m) 0 y) (f .render m x a b) ∙ two (q m) (r m)
+  words = λ m x a b. g .words m x a b ∙ (ap (λ (y : ℕ). pick (r m) 0 y) (f .words m x a b) ∙ two (q m) (r m)
       (getD ws (place m x) 0));
 }
   where
@@ -103,7 +106,7 @@ pub freed-node : (n : ℕ) (ws : List ℕ) (a : ℕ) → length ws ≡ poolWords
 freed-node n ws a len lt = record {
   long = length-filled ws (poolWords a) 0 nodeWords;
   anchor = λ i h. get-filled ws (poolWords a) 0 nodeWords i (omega arith) ∙ rw (lt-leb (poolWords a) i (omega arith));
-  render = λ m f p q. get-filled ws (poolWords a) 0 nodeWords (place m f) (omega arith) ∙ ap
+  words = λ m f p q. get-filled ws (poolWords a) 0 nodeWords (place m f) (omega arith) ∙ ap
       (λ (t : Bool). pick t 0 (getD ws (place m f) 0)) (inside m f q);
 }
   where
@@ -191,43 +194,23 @@ module _ (n : ℕ) (l : List Entry) (os : Places) (pl : Placed n l os) (ok : All
   Frees u f = (ws : List ℕ) (b : ℕ) → length ws ≡ poolWords n → has l u b ≡ true → Old ws u b →
       Freed n (under u b) ws (f ws (numberIn os u b))
 
-  pub stands-at : (u b : ℕ) → has l u b ≡ true → (numberIn os u b < n) ×
-      (getD os (numberIn os u b) none ≡ some (nd u b))
-  stands-at u b t = let (a, e) = number-at (nd u b) os (pl .full (nd u b) t) in
-      (subst (λ (x : ℕ). numberIn os u b < x) (pl .size) a, e)
-
   module _ (u : ℕ) (f : List ℕ → ℕ → List ℕ) (frees : Frees u f) (top : u ≤ height l) where
     pub freed-slot : (ws : List ℕ) (c w : ℕ) → length ws ≡ poolWords n → Old ws u c → w ≡ slot l (numberIn os) u c →
         Freed n (under u c) ws (freeSlot f n ws w)
     unfolding freeSlot has
-    freed-slot ws c w len old e = rw e (go (slot l (numberIn os) u c) (see l (numberIn os) u c ok))
+    freed-slot ws c w len old e = rw e (go (view l (numberIn os) u c ok))
       where
-        nil : (x : ℕ) → (x % 4 ≡ 2 → 4096 ≤ x → ⊥) → any (within (tierOrder u) c) l ≡ false →
-            Freed n (under u c) ws (pick (both (eqb (x % 4) 2)
-            (both (leb (4 * nodeOffset) x) (ltb (x / 4 - nodeOffset) n))) (f ws (x / 4 - nodeOffset)) ws)
-        nil x h z = rw (is-false {b = both (eqb (x % 4) 2)
-            (both (leb (4 * nodeOffset) x) (ltb (x / 4 - nodeOffset) n))}
-            (λ s. h (eqb-true _ _ (both-l (eqb (x % 4) 2) _ s))
-            (leb-true _ _ (both-l (leb (4 * nodeOffset) x) _ (both-r (eqb (x % 4) 2) _ s)))))
-            (freed-as (λ m a. sym (no-under u c z m)) (freed-none n ws))
+        nil : any (within (tierOrder u) c) l ≡ false → Freed n (under u c) ws ws
+        nil z = freed-as (λ m a. sym (no-under u c z m)) (freed-none n ws)
 
-        go : (x : ℕ) → Seen l (numberIn os) u c x → Freed n (under u c) ws
-            (pick (both (eqb (x % 4) 2) (both (leb (4 * nodeOffset) x) (ltb (x / 4 - nodeOffset) n)))
-            (f ws (x / 4 - nodeOffset)) ws)
-        go x (nothing z q) = nil 0 (λ a b. omega arith) z
-        go x (entry d z q s y) = nil (d .word) (λ a b. word-kind (d .word) (y .word-ok) .1 a) z
-        go x (sibling d z q s y) = nil (siblingWord (block (tierOrder u) (d .base) % slots)) (λ a b. omega arith) z
-        go x (lower z) =
+        go : {x : Slot} → View l (numberIn os) u c x → Freed n (under u c) ws (freeBelow f n ws x)
+        go (v-empty z q) = nil z
+        go (v-held d z q s) = nil z
+        go (v-sibling d z q s) = nil z
+        go (v-child z) =
             let t : has l u c ≡ true = rw (le-leb u (height l) top, z) in
-            let (lt, at) = stands-at u c t in
-            let k : ℕ = numberIn os u c in
-            let d : nodeWord k / 4 - nodeOffset ≡ k = omega arith in
-            rw (
-              eq-eqb (nodeWord k % 4) 2 (omega arith),
-              le-leb (4 * nodeOffset) (nodeWord k) (omega arith),
-              d,
-              lt-ltb k n lt,
-            ) (frees ws c len t old)
+            let (lt, at) = stands-at n l os pl u c t in
+            rw (lt-ltb (numberIn os u c) n lt) (frees ws c len t old)
 
     -- the slots of the node (u + 1, b)
     pub freed-slots : (ws : List ℕ) (b o j : ℕ) → length ws ≡ poolWords n → has l (suc u) b ≡ true → o + j ≤ slots →
@@ -240,20 +223,20 @@ module _ (n : ℕ) (l : List Entry) (os : Places) (pl : Placed n l os) (ok : All
         let a : ℕ = numberIn os (suc u) b in
         let r : Freed n (ups u (slots * b + o) j) ws (freeSlots f n a o ws j) = freed-slots ws b o j len t
         (omega arith) (λ t h. old t (omega arith)) (λ t h. rd t (omega arith)) in
-        let lt : a < n = stands-at (suc u) b t .0 in
+        let lt : a < n = stands-at n l os pl (suc u) b t .0 in
         let off : ups u (slots * b + o) j a ≡ false = is-false
         (λ s. let (x, h, g) = ups-in u (slots * b + o) j a s in not-self (slots * b + o + x) g) in
         freed-both r (freed-slot (freeSlots f n a o ws j) (slots * b + o + j) _ (r .long ∙ len)
-        (λ m x p q g. r .render m x p q ∙ (rw (is-false {b = ups u (slots * b + o) j m}
+        (λ m x p q g. r .words m x p q ∙ (rw (is-false {b = ups u (slots * b + o) j m}
         (λ s. let (y, h, z) = ups-in u (slots * b + o) j m s in omega (arith, one-under u _ _ m g z)))
         (old j (omega arith) m x p q g)))
-        (r .render a (5 + (o + j)) lt (omega arith) ∙ rw off (rd j (omega arith))))
+        (r .words a (5 + (o + j)) lt (omega arith) ∙ rw off (rd j (omega arith))))
       where
         not-self : (c : ℕ) → under u c (numberIn os (suc u) b) ≡ true → ⊥
         not-self c g = omega (
           arith,
           leb-true (suc u) u
-              (both-l (leb (suc u) u) _ (subst (λ (x : Option Node). below u c x ≡ true) (stands-at (suc u) b t .1) g)),
+              (both-l (leb (suc u) u) _ (subst (λ (x : Option Node). below u c x ≡ true) (stands-at n l os pl (suc u) b t .1) g)),
         )
 
   -- under (u + 1, b): under one of its slots, or the node itself
@@ -281,7 +264,7 @@ module _ (n : ℕ) (l : List Entry) (os : Places) (pl : Placed n l os) (ok : All
       to s = either-e (ups u (slots * b + 0) slots m) _ s
           (λ a. let (x, h, g) = ups-in u (slots * b + 0) slots m a in
           up (slots * b + 0 + x) (getD os m none) (omega arith) g)
-          (λ a. let z : under (suc u) b (numberIn os (suc u) b) ≡ true = rw (stands-at (suc u) b t .1) self in
+          (λ a. let z : under (suc u) b (numberIn os (suc u) b) ≡ true = rw (stands-at n l os pl (suc u) b t .1) self in
           subst (λ (y : ℕ). under (suc u) b y ≡ true) (eqb-true _ _ a) z)
 
       back : under (suc u) b m ≡ true → either (ups u (slots * b + 0) slots m) (eqb (numberIn os (suc u) b) m) ≡ true
@@ -318,7 +301,7 @@ module _ (n : ℕ) (l : List Entry) (os : Places) (pl : Placed n l os) (ok : All
       absurd (omega (arith, ltb-true (x .order) 0 (both-l (ltb (x .order) 0) _ w)))
   freed-tree (suc u) le ws b len t old =
       let a : ℕ = numberIn os (suc u) b in
-      let at : (a < n) × (getD os a none ≡ some (nd (suc u) b)) = stands-at (suc u) b t in
+      let at : (a < n) × (getD os a none ≡ some (nd (suc u) b)) = stands-at n l os pl (suc u) b t in
       let down : (x : ℕ) (m : ℕ) → x < slots → under u (slots * b + 0 + x) m ≡ true →
       under (suc u) b m ≡ true = λ x m h g. sym (under-suc u b m t) ∙ rw (in-ups u (slots * b + 0) slots m x h g)
       in

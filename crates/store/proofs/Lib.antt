@@ -1,5 +1,4 @@
 pub mod Right
-pub mod AfterStore
 pub mod Target
 pub mod Freeing
 pub mod RunLaws
@@ -8,11 +7,7 @@ pub mod MarkWordLaws
 pub mod StoredWords
 pub mod Clearing
 pub mod Whole
-pub mod FreeNumbers
-pub mod Reading
-pub mod Giving
-pub mod FreshNumbers
-pub mod Planning
-pub mod Choosing
 pub mod HeadEntry
-pub mod Next
+pub mod SparedLaws
+pub mod Replaced
+pub mod Results

@@ -3,20 +3,21 @@ use Prim.Native.Nat.{ℕ, _+_, _/_, _^_, _≤_, _<_}
 use mathlib.Core.Path.{_≡_, refl, sym, ap, subst, _∙_}
 use mathlib.Core.Bool.{Bool, true, not}
 use mathlib.Core.List.{List, [], _∷_}
+use mathlib.Core.Option.{none}
 use native.Mathlib.Omega.{arith}
 use native.Mathlib.Nat.{le-refl}
 use lib.Dec.{ltb, eqb}
 use lib.ListN.{length, getD}
 use borrow.Author.Tests.{eq-eqb, ne-eqb}
 use Rattle.blocks.proofs.ListLaws.{All-map, look}
-use Rattle.blocks.proofs.BoolLaws.{both-l, both-r, clash}
+use Rattle.blocks.proofs.BoolLaws.{both-l, both-r, clash, byT}
 use Rattle.blocks.specs.Choice.{both}
 use Rattle.blocks.specs.Blocks.{block}
 use Rattle.blocks.specs.Lists.{All, here, nonempty}
 use Rattle.model.specs.declared.Entry.{Entry}
 use Rattle.model.specs.Model.{storeNew, newEntry, Valid, marksOf}
 use Rattle.model.proofs.ValidLaws.{sorted-ok}
-use Rattle.tree.specs.Tree.{height, tall, tierOrder}
+use Rattle.tree.specs.Tree.{height, tall, tierOrder, newNodes}
 use Rattle.tree.specs.Slots.{slot, Numbering}
 use Rattle.tree.proofs.HeightLaws.{height-fits, fits-base, fits-most, fits-tall, new-low, Low}
 use Rattle.tree.proofs.EraseLaws.{height-le}
@@ -25,25 +26,20 @@ use Rattle.layout.specs.Places.{Places, numberIn, newPlaces, render}
 use Rattle.layout.specs.WellFormed.{WellFormed}
 use Rattle.layout.proofs.RenderWordLaws.{render-anchor, render-long}
 use Rattle.layout.specs.Words.{poolWords}
-use Rattle.store.specs.Writes.{span, offset, rebuilt}
-use Rattle.store.specs.Plan.{Ready}
-use Rattle.store.proofs.AfterStore.{rooms, lows, tops}
+use Rattle.store.specs.Writes.{span, offset, cleared, rebuilt, Spared}
+use Rattle.store.specs.Stored.{Ready}
+use Rattle.plan.proofs.FreeNumbers.{free-zero, below-taken}
+use Rattle.layout.proofs.NewNumberLaws.{new-stays}
+use Rattle.layout.specs.Words.{place, shiftField}
+use Rattle.plan.proofs.Reading.{head-zero}
+use Rattle.plan.proofs.AfterStore.{rooms, lows, tops}
 use Rattle.store.proofs.Target.{num-lt}
 use Rattle.store.proofs.Final.{low-num, low-has, v-lt, path-has, chain-has}
 use Rattle.store.proofs.StoredWords.{store-words}
-use Rattle.store.proofs.Clearing.{clear-run}
+use Rattle.store.proofs.Clearing.{Clear, clear-run}
 
--- the head's word is 0 exactly if there is no entry
-pub head-zero : (l : List Entry) (ν : Numbering) → Valid l → not (eqb (slot l ν (height l) 0) 0) ≡ nonempty l
-unfolding slot
-head-zero [] ν v = refl
-head-zero (x ∷ l) ν v = rw (ne-eqb (slot (x ∷ l) ν (height (x ∷ l)) 0) 0 (λ z.
-    let a : All Low (x ∷ l) = All-map (λ x ok. (ok .order-le, ok .in-range)) (sorted-ok v) in
-    look (zero-starts (x ∷ l) ν (height (x ∷ l)) 0 (sorted-ok v) z) here
-    (fits-base (height (x ∷ l)) x (look (height-fits a (le-refl _)) here))))
-
-module _ {ws : List ℕ} (s : WellFormed ws) (ps cs : List ℕ) (i k w n h top : ℕ) (i< : i < 2 ^ 64) (k≤ : k ≤ 63)
-    (r : Ready (s .n) (s .list) (s .places) ps cs i k w n h top) where
+module _ {ws : List ℕ} (s : WellFormed ws) (ps cs : List ℕ) (i k w n low h top : ℕ) (i< : i < 2 ^ 64) (k≤ : k ≤ 63)
+    (r : Ready (s .n) (s .list) (s .places) ps cs i k w n low h top) where
   abbrev l : List Entry
   l = s .list
 
@@ -105,18 +101,45 @@ module _ {ws : List ℕ} (s : WellFormed ws) (ps cs : List ℕ) (i k w n h top :
       (chain-has (s .n) l (s .places) (s .placed) (s .valid) i k w i< k≤ (r .new) (r .enough) some-node′ ps cs
       (r .plan) g′ e₁ e₂ u (omega (arith, r .h-is)) b (omega (arith, r .top-is))))
 
+  clearing : Clear (s .n) l (s .places) l′ (cleared (render l (s .places) (s .n)) (s .n) (getD ps (k / 6 + 1) 0)
+      (offset i k) (span k) (k / 6) (both (ltb (height l) (height l′)) (eqb (block k i) 0))
+      (slot l (numberIn (s .places)) (height l) 0) (height l))
+  clearing = clear-run (s .n) l (s .places) (s .placed) (s .valid) i k w i< k≤ (r .new) (r .enough)
+      (low-has (s .n) l (s .places) (s .placed) (s .valid) i k w i< k≤ (r .new) (r .enough) some-node′ ps cs
+      (r .plan)) (getD ps (k / 6 + 1) 0) (low-num (s .n) l (s .places) (s .placed) (s .valid) i k w i< k≤ (r .new)
+      (r .enough) some-node′ ps cs (r .plan))
+
+  -- below what clearing returns, every node is in use then
+  pub low-used : (q : ℕ) → Spared low q ws (cleared ws n (getD ps (k / 6 + 1) 0) (offset i k) (span k) (k / 6)
+      (both (ltb h top) (eqb (block k i) 0)) (getD ws 1 0) h) → (m : ℕ) → m < q → getD os′ m none ≡ none → ⊥
+  low-used q sp m lt z =
+      let le : m < low = omega (arith, sp .at-most) in
+      let mn : m < s .n = omega (arith, r .next-le, s .placed .size) in
+      let free : getD (s .places) m none ≡ none = byT (clearing .q m)
+      (λ t. free-zero s m mn (sym (sp .same m lt) ∙ (same-words ∙ clearing .freed .words m 0 mn (omega arith) ∙
+      rw t)))
+      (clearing .gone m mn z) in
+      new-stays l l′ (s .places) m free (below-taken (s .places) (newNodes l l′) low m (r .next-le) (r .next-taken)
+      le) z
+    where
+      same-words : getD (cleared ws n (getD ps (k / 6 + 1) 0) (offset i k) (span k) (k / 6)
+          (both (ltb h top) (eqb (block k i) 0)) (getD ws 1 0) h) (place m shiftField) 0 ≡ getD (cleared
+          (render l (s .places) (s .n)) (s .n) (getD ps (k / 6 + 1) 0) (offset i k) (span k) (k / 6)
+          (both (ltb (height l) (height l′)) (eqb (block k i) 0)) (slot l (numberIn (s .places)) (height l) 0)
+          (height l)) (place m shiftField) 0
+      same-words = rw (head-is, r .n-is, r .h-is, r .top-is) (ap (λ (y : List ℕ). getD (cleared y (s .n)
+          (getD ps (k / 6 + 1) 0) (offset i k) (span k) (k / 6) (both (ltb (height l) (height l′)) (eqb (block k i) 0))
+          (slot l (numberIn (s .places)) (height l) 0) (height l)) (place m shiftField) 0) (s .words-are))
+
   plain : rebuilt (render l (s .places) (s .n)) ps cs i (k / 6) (getD ps (k / 6 + 1) 0) (offset i k) (span k) (s .n)
       (height l) (height l′) (slot l (numberIn (s .places)) (height l) 0) (marksOf l)
       (both (ltb (height l) (height l′)) (eqb (block k i) 0)) (both (nonempty l) (not (eqb (block k i) 0))) w ≡ render
       l′ os′ (s .n)
   unfolding rebuilt
   plain =
-      let cl = clear-run (s .n) l (s .places) (s .placed) (s .valid) i k w i< k≤ (r .new) (r .enough)
-      (low-has (s .n) l (s .places) (s .placed) (s .valid) i k w i< k≤ (r .new) (r .enough) some-node′ ps cs
-      (r .plan)) (getD ps (k / 6 + 1) 0) (low-num (s .n) l (s .places) (s .placed) (s .valid) i k w i< k≤ (r .new)
-      (r .enough) some-node′ ps cs (r .plan)) in
       store-words (s .n) l (s .places) (s .placed) (s .valid) i k w i< k≤ (r .new) (r .enough) some-node′ ps cs
-      (r .plan) _ (cl .q) (cl .freed) (cl .stay) (cl .gone)
+      (r .plan) _ (clearing .q)
+      (clearing .freed) (clearing .stay) (clearing .gone)
 
   pub rebuild-is : rebuilt ws ps cs i (k / 6) (getD ps (k / 6 + 1) 0) (offset i k) (span k) n h top (getD ws 1 0)
       (getD ws 2 0) (both (ltb h top) (eqb (block k i) 0))

@@ -1,15 +1,19 @@
 -- What the writing functions leave: each definition goes as its loop goes.
-use Prim.Native.Nat.{ℕ, zero, suc, _+_, _*_, _-_, _/_, _%_, _^_, max}
+use Prim.Native.Nat.{ℕ, zero, suc, _+_, _*_, _-_, _/_, _%_, _^_, _≤_, _<_, max}
+use mathlib.Core.Path.{_≡_}
 use mathlib.Core.Bool.{Bool}
 use mathlib.Core.List.{List}
-use lib.Dec.{leb, ltb, eqb}
+use lib.Dec.{ltb, eqb}
 use lib.ListN.{getD, set}
-use Rattle.blocks.specs.Choice.{pick, both}
+use Rattle.blocks.specs.Choice.{pick}
 use Rattle.blocks.specs.Blocks.{block}
 use Rattle.tree.specs.Slots.{nodeWord, nodeOffset}
 use Rattle.tree.specs.Tree.{tierOrder, slots}
 use Rattle.layout.specs.Words.{place, nodeWords, shiftWord, shiftField, ownerField, slotField, poolWords}
 use Rattle.layout.specs.Fill.{filled}
+use Rattle.layout.specs.Pool.{slotOf}
+use Rattle.layout.specs.declared.Slot.{Slot}
+use Rattle.layout.specs.declared.Slot.the-variants.{Empty, Held, Sibling, Child}
 
 -- an edge: the node c, of tier u, in slot o of the node p
 abbrev pub joinAt : List ℕ → (p o c u : ℕ) → List ℕ
@@ -39,14 +43,16 @@ folded w o c = pick (eqb (w / 2 ^ o % 2 ^ c) 0) w (w - (w / 2 ^ o % 2 ^ c - 1) *
 abbrev pub foldAt : List ℕ → (a o c : ℕ) → List ℕ
 foldAt ws a o c = set ws a (folded (getD ws a 0) o c)
 
--- the word is a node's
-abbrev pub isNode : ℕ → Bool
-isNode w = both (eqb (w % 4) 2) (ltb 4095 w)
+-- what a slot leads to, if its number is below top
+abbrev pub freeBelow : (List ℕ → ℕ → List ℕ) → ℕ → List ℕ → Slot → List ℕ
+freeBelow f top ws Empty = ws
+freeBelow f top ws Held = ws
+freeBelow f top ws (Sibling o) = ws
+freeBelow f top ws (Child m) = pick (ltb m top) (f ws m) ws
 
 -- what the word w leads to
 unfoldable pub freeSlot : (List ℕ → ℕ → List ℕ) → ℕ → List ℕ → ℕ → List ℕ
-freeSlot f top ws w = pick (both (eqb (w % 4) 2) (both (leb (4 * nodeOffset) w) (ltb (w / 4 - nodeOffset) top)))
-    (f ws (w / 4 - nodeOffset)) ws
+freeSlot f top ws w = freeBelow f top ws (slotOf w)
 
 -- the slots of node n from o on, j of them
 unfoldable pub freeSlots : (List ℕ → ℕ → List ℕ) → ℕ → ℕ → ℕ → List ℕ → ℕ → List ℕ
@@ -58,6 +64,11 @@ freeSlots f top n o ws (suc j) = freeSlot f top (freeSlots f top n o ws j)
 unfoldable pub freeTree : ℕ → (u : ℕ) → List ℕ → ℕ → List ℕ
 freeTree top zero ws n = ws
 freeTree top (suc u) ws n = filled (freeSlots (freeTree top u) top n 0 ws slots) (poolWords n) 0 nodeWords
+
+-- below r no node was freed: r is at most low, and the first word of each node below r is as it was
+pub record Spared (low r : ℕ) (ws ws′ : List ℕ) : Type 0 where
+  pub at-most : r ≤ low
+  pub same : (m : ℕ) → m < r → getD ws′ (place m shiftField) 0 ≡ getD ws (place m shiftField) 0
 
 -- the head, of tier h, has number a
 abbrev pub headAt : List ℕ → (a h : ℕ) → List ℕ

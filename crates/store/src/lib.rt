@@ -1,4 +1,5 @@
-// Storing an entry: what to write is planned first, from the words before, then only final words are written.
+// Storing an entry: what to write is planned first (crate plan), from the words before, then only final words are
+// written.
 //
 // pool: the borrowed words, well-formed; n: how many nodes it has, or the number of one; low: below it every node is in
 // use; index, order, word: what is stored; u: a tier; v: the tier of the slots that hold the entry; h, top: the tier of
@@ -15,34 +16,61 @@ use layout::SHIFT_FIELD;
 use layout::SLOT_BITS;
 use layout::SLOT_FIELD;
 use layout::SLOTS;
+use layout::Slot;
 use layout::block_of;
 use layout::field;
 use layout::fill;
 use layout::pow2;
 use layout::put;
-ghost use Prim.Native.Nat.{ℕ, suc, _+_, _*_, _-_, _/_, _%_, _^_, _<_, _≤_, max};
+use layout::read_slot;
+use lookup::Located;
+use lookup::locate;
+use lookup::marks_of;
+use model::Entry;
+use plan::Choice;
+use plan::at_least_1;
+use plan::chained_of;
+use plan::height_of;
+use plan::plan;
+use plan::starts_at_0;
+use plan::top_of;
+ghost use Prim.Native.Nat.{ℕ, suc, _+_, _*_, _-_, _/_, _%_, _<_, _≤_, min};
 ghost use mathlib.Core.Path.{_≡_};
-ghost use mathlib.Core.Bool.{true, false, not};
+ghost use mathlib.Core.Bool.{true, false};
 ghost use mathlib.Core.List.{List};
-ghost use mathlib.Core.Option.{none};
-ghost use lib.Dec.{eqb, ltb};
-ghost use lib.ListN.{getD, set, length};
-ghost use Rattle.blocks.specs.Choice.{both, pick};
-ghost use Rattle.blocks.specs.Lists.{any};
+ghost use mathlib.Core.Option.{some};
+ghost use lib.Dec.{ltb, T};
+ghost use lib.ListN.{getD, length};
+ghost use Rattle.blocks.specs.Choice.{both};
+ghost use Rattle.blocks.specs.Lists.{any, In};
 ghost use Rattle.blocks.specs.Blocks.{block};
-ghost use Rattle.model.specs.Model.{storeNew, Valid, over};
-ghost use Rattle.model.specs.declared.Entry.{Entry};
-ghost use Rattle.tree.specs.Tree.{height, has, tierOrder, slots};
-ghost use Rattle.tree.specs.Slots.{nodeOffset};
-ghost use Rattle.layout.specs.Words.{place, poolWords, lastField, headWord};
-ghost use Rattle.layout.specs.Places.{render, newPlaces, numberIn};
-ghost use Rattle.layout.specs.WellFormed.{WellFormed};
+ghost use Rattle.model.specs.Model;
+ghost use Rattle.model.specs.Model.{storeNew, newEntry, over, covers, covering, withWord, storable, maxOrder};
+ghost use Rattle.tree.specs.Tree.{slots, tierOrder, topTier, height};
+ghost use Rattle.layout.specs.Words.{place, poolWords, lastField};
+ghost use Rattle.layout.specs.WellFormed.{WellFormed, InUse, num};
+ghost use Rattle.lookup.specs.Views.{AtNode, Holds};
+ghost use Rattle.plan.specs.Plan.{Known};
 ghost use Rattle.store.specs.Writes;
-ghost use Rattle.store.specs.Plan;
-ghost use Rattle.store.specs.Plan.{Ready, Found, Walked, fitsRun, Depth, Known, Planned, StoredNew};
+ghost use Rattle.store.specs.Writes.{Spared};
+ghost use Rattle.store.specs.Stored.{Ready, Written, Stores};
 
-// Internal words from here on are those of nodes.
-const NODES_FROM: u64 = 4 * NODE_OFFSET;
+// The mark words of marks 1 and 2.
+const MARK_1_FIELD: u64 = MARK_FIELD + 1;
+
+const MARK_2_FIELD: u64 = MARK_FIELD + 2;
+
+// What a store comes to: the entry as it then stands; too few free nodes.
+pub enum Stored {
+    Done(Entry),
+    Short,
+}
+
+// A store's outcome, and a number below which every node is in use after it.
+pub struct StoreResult {
+    pub outcome: Stored,
+    pub low: u64,
+}
 
 // The edge from slot o of node p to node c, of tier u.
 fn join(pool: &mut [u64], p: u64, o: u64, c: u64, u: u64)
@@ -50,7 +78,7 @@ fn join(pool: &mut [u64], p: u64, o: u64, c: u64, u: u64)
     requires { do ⌜ place c lastField < (← ⟦pool.len()⟧) ⌝ }
     requires { ⌜ o < slots ⌝ }
     requires { ⌜ 1 ≤ u ⌝ }
-    requires { ⌜ u ≤ 11 ⌝ }
+    requires { ⌜ u ≤ topTier ⌝ }
     ensures { λ _. ⌜ now (pool .exit) ≡ Writes.joinAt (now (pool .entry)) p o c u ⌝ }
 {
     put(pool, c, SHIFT_FIELD, SLOT_BITS * u - 5);
@@ -61,7 +89,7 @@ fn join(pool: &mut [u64], p: u64, o: u64, c: u64, u: u64)
 // The edges on the way to the index, between the tiers from and to.
 fn join_all(pool: &mut [u64], nums: &[u64], index: u64, from: u64, to: u64)
     requires { ⌜ 1 ≤ from ⌝ }
-    requires { ⌜ to ≤ 11 ⌝ }
+    requires { ⌜ to ≤ topTier ⌝ }
     requires { do ⌜ to < (← ⟦nums.len()⟧) ⌝ }
     requires { ⌜ ((u : ℕ) → from ≤ u → u ≤ to → place (getD (now nums) u 0) lastField < length (now pool)) ⌝ }
     ensures { λ _. ⌜ now (pool .exit) ≡ Writes.joins (now (nums .entry)) index (now (pool .entry)) from (to - from) ⌝ }
@@ -75,18 +103,19 @@ fn join_all(pool: &mut [u64], nums: &[u64], index: u64, from: u64, to: u64)
     }
 }
 
+// The mark words of node n where only slot 0 has marks: those of m.
 fn put_marks(pool: &mut [u64], n: u64, m: u64)
     requires { do ⌜ place n lastField < (← ⟦pool.len()⟧) ⌝ }
     ensures { λ _. ⌜ now (pool .exit) ≡ Writes.markAt (now (pool .entry)) n (m % 2) (m / 2 % 2) (m / 4 % 2) ⌝ }
 {
-    put(pool, n, 2, m % 2);
-    put(pool, n, 3, m / 2 % 2);
-    put(pool, n, 4, m / 4 % 2);
+    put(pool, n, MARK_FIELD, m % 2);
+    put(pool, n, MARK_1_FIELD, m / 2 % 2);
+    put(pool, n, MARK_2_FIELD, m / 4 % 2);
 }
 
 // The marks of the slots 0 of the tiers from to to.
 fn mark_all(pool: &mut [u64], nums: &[u64], m: u64, from: u64, to: u64)
-    requires { ⌜ to ≤ 11 ⌝ }
+    requires { ⌜ to ≤ topTier ⌝ }
     requires { do ⌜ to < (← ⟦nums.len()⟧) ⌝ }
     requires { ⌜ ((u : ℕ) → from ≤ u → u ≤ to → place (getD (now nums) u 0) lastField < length (now pool)) ⌝ }
     ensures { λ _. ⌜ now (pool .exit) ≡ Writes.marked (now (nums .entry)) m (now (pool .entry)) from (to + 1 - from) ⌝ }
@@ -99,6 +128,7 @@ fn mark_all(pool: &mut [u64], nums: &[u64], m: u64, from: u64, to: u64)
     }
 }
 
+// Mark word w with the bits from o on, c of them, given way to their OR at o.
 fn fold(w: u64, o: u64, c: u64) -> u64
     requires { ⌜ o < slots ⌝ }
     requires { ⌜ c < slots ⌝ }
@@ -111,6 +141,7 @@ fn fold(w: u64, o: u64, c: u64) -> u64
     w - (x - 1) * pow2(o)
 }
 
+// The same of field f of node n.
 fn fold_at(pool: &mut [u64], n: u64, f: u64, o: u64, c: u64)
     requires { do ⌜ place n f < (← ⟦pool.len()⟧) ⌝ }
     requires { ⌜ o < slots ⌝ }
@@ -121,79 +152,109 @@ fn fold_at(pool: &mut [u64], n: u64, f: u64, o: u64, c: u64)
     pool[(ANCHOR_WORDS + NODE_WORDS * n + f) as usize] = fold(w, o, c);
 }
 
-// What the word of a slot leads to, of tier u, is freed.
-fn free_slot(pool: &mut [u64], top: u64, w: u64, u: u64)
+// The smaller of two.
+fn lesser(a: u64, b: u64) -> u64
+    ensures { λ r. ⌜ r ≡ min a b ⌝ }
+{
+    if a < b { a } else { b }
+}
+
+// Frees what the word of a slot leads to, of tier u. All that free a node take low and return the least of it and the
+// numbers freed.
+fn free_slot(pool: &mut [u64], top: u64, w: u64, u: u64, low: u64) -> u64
     requires { do ⌜ poolWords top ≤ (← ⟦pool.len()⟧) ⌝ }
     ensures { λ _. ⌜ now (pool .exit) ≡ Writes.freeSlot (Writes.freeTree top u) top (now (pool .entry)) w ⌝ }
+    ensures { λ r. ⌜ Spared low r (now (pool .entry)) (now (pool .exit)) ⌝ }
 {
-    if w % 4 != 2 {
-        return;
-    }
-    if w < NODES_FROM {
-        return;
-    }
-    let n = w / 4 - NODE_OFFSET;
-    if n < top {
-        free_tree(pool, top, n, u);
+    let s = read_slot(w);
+    match s {
+        Slot::Child(n) => {
+            if n < top {
+                return free_tree(pool, top, n, u, low);
+            }
+            low
+        }
+        Slot::Empty => low,
+        Slot::Held => low,
+        Slot::Sibling(_) => low,
     }
 }
 
-// What the slots of node n from o on, c of them, lead to, of tier u.
-fn free_slots(pool: &mut [u64], top: u64, n: u64, o: u64, c: u64, u: u64)
+// Frees what the slots of node n from o on, c of them, lead to, of tier u.
+fn free_slots(pool: &mut [u64], top: u64, n: u64, o: u64, c: u64, u: u64, low: u64) -> u64
     requires { do ⌜ poolWords top ≤ (← ⟦pool.len()⟧) ⌝ }
     requires { ⌜ n < top ⌝ }
     requires { ⌜ o + c ≤ slots ⌝ }
     ensures { λ _. ⌜ now (pool .exit) ≡ Writes.freeSlots (Writes.freeTree top u) top n o (now (pool .entry)) c ⌝ }
+    ensures { λ r. ⌜ Spared low r (now (pool .entry)) (now (pool .exit)) ⌝ }
 {
     let mut j = 0;
+    let mut r = low;
     while j < c {
         let w = field(pool, n, SLOT_FIELD + (o + j));
-        free_slot(pool, top, w, u);
+        r = free_slot(pool, top, w, u, r);
         j = j + 1;
     }
+    r
 }
 
-// Node n, of tier u, and all below it.
-fn free_tree(pool: &mut [u64], top: u64, n: u64, u: u64)
+// Frees node n, of tier u, and all below it.
+fn free_tree(pool: &mut [u64], top: u64, n: u64, u: u64, low: u64) -> u64
     requires { do ⌜ poolWords top ≤ (← ⟦pool.len()⟧) ⌝ }
     requires { ⌜ n < top ⌝ }
     ensures { λ _. ⌜ now (pool .exit) ≡ Writes.freeTree top u (now (pool .entry)) n ⌝ }
+    ensures { λ r. ⌜ Spared low r (now (pool .entry)) (now (pool .exit)) ⌝ }
 {
     if u == 0 {
-        return;
+        return low;
     }
-    free_slots(pool, top, n, 0, SLOTS, u - 1);
+    let r = free_slots(pool, top, n, 0, SLOTS, u - 1, low);
     fill(pool, ANCHOR_WORDS + NODE_WORDS * n, 0, NODE_WORDS);
+    lesser(r, n)
 }
 
-// Frees what lies inside a run: below the slots o on of node a, and the whole old tree.
-fn clear(pool: &mut [u64], top: u64, a: u64, o: u64, c: u64, v: u64, whole: bool, word: u64, h: u64)
+// Frees what lies inside the target range: below the slots o on of node a, and, if whole, the whole old tree.
+fn clear(
+    pool: &mut [u64],
+    top: u64,
+    a: u64,
+    o: u64,
+    c: u64,
+    v: u64,
+    whole: bool,
+    word: u64,
+    h: u64,
+    low: u64,
+) -> u64
     requires { do ⌜ poolWords top ≤ (← ⟦pool.len()⟧) ⌝ }
     requires { ⌜ a < top ⌝ }
     requires { ⌜ o + c ≤ slots ⌝ }
     ensures { λ _. ⌜ now (pool .exit) ≡ Writes.cleared (now (pool .entry)) top a o c v whole word h ⌝ }
+    ensures { λ r. ⌜ Spared low r (now (pool .entry)) (now (pool .exit)) ⌝ }
 {
-    free_slots(pool, top, a, o, c, v);
+    let r = free_slots(pool, top, a, o, c, v, low);
     if whole {
-        free_slot(pool, top, word, h);
+        return free_slot(pool, top, word, h, r);
     }
+    r
 }
 
+// Node a becomes the head, of tier h.
 fn put_head(pool: &mut [u64], a: u64, h: u64)
     requires { do ⌜ place a lastField < (← ⟦pool.len()⟧) ⌝ }
     requires { ⌜ 1 ≤ h ⌝ }
-    requires { ⌜ h ≤ 11 ⌝ }
+    requires { ⌜ h ≤ topTier ⌝ }
     ensures { λ _. ⌜ now (pool .exit) ≡ Writes.headAt (now (pool .entry)) a h ⌝ }
 {
-    put(pool, a, 0, SLOT_BITS * h - 5);
-    put(pool, a, 1, 0);
+    put(pool, a, SHIFT_FIELD, SLOT_BITS * h - 5);
+    put(pool, a, OWNER_FIELD, 0);
     pool[HEAD_WORD] = 4 * (NODE_OFFSET + a) + 2;
 }
 
 // The path from the head, of tier top, to tier v + 1.
 fn link(pool: &mut [u64], path: &[u64], index: u64, v: u64, top: u64)
     requires { ⌜ v < top ⌝ }
-    requires { ⌜ top ≤ 11 ⌝ }
+    requires { ⌜ top ≤ topTier ⌝ }
     requires { do ⌜ top < (← ⟦path.len()⟧) ⌝ }
     requires { ⌜ ((u : ℕ) → v + 1 ≤ u → u ≤ top → place (getD (now path) u 0) lastField < length (now pool)) ⌝ }
     ensures { λ _. ⌜ now (pool .exit) ≡ Writes.linked (now (pool .entry)) (now (path .entry)) index v top ⌝ }
@@ -203,6 +264,7 @@ fn link(pool: &mut [u64], path: &[u64], index: u64, v: u64, top: u64)
     put_head(pool, a, top);
 }
 
+// An entry that was the head goes to slot 0 of the lowest node of the chain.
 fn put_bottom(pool: &mut [u64], chain: &[u64], h: u64, word: u64)
     requires { do ⌜ 1 < (← ⟦chain.len()⟧) ⌝ }
     requires { ⌜ (h ≡ 0 → place (getD (now chain) 1 0) lastField < length (now pool)) ⌝ }
@@ -210,20 +272,14 @@ fn put_bottom(pool: &mut [u64], chain: &[u64], h: u64, word: u64)
 {
     if h == 0 {
         let a = chain[1];
-        put(pool, a, 5, word);
+        put(pool, a, SLOT_FIELD, word);
     }
-}
-
-fn at_least_1(h: u64) -> u64
-    ensures { λ r. ⌜ r ≡ max 1 h ⌝ }
-{
-    if h == 0 { 1 } else { h }
 }
 
 // The old head, of tier h, under a higher one.
 fn put_chain(pool: &mut [u64], chain: &[u64], m: u64, h: u64, top: u64, word: u64)
     requires { ⌜ h < top ⌝ }
-    requires { ⌜ top ≤ 11 ⌝ }
+    requires { ⌜ top ≤ topTier ⌝ }
     requires { do ⌜ top < (← ⟦chain.len()⟧) ⌝ }
     requires { ⌜ ((u : ℕ) → h ≤ u → 1 ≤ u → u ≤ top → place (getD (now chain) u 0) lastField < length (now pool)) ⌝ }
     ensures { λ _. ⌜ now (pool .exit) ≡ Writes.chainWords (now (pool .entry)) (now (chain .entry)) m h top word ⌝ }
@@ -233,6 +289,7 @@ fn put_chain(pool: &mut [u64], chain: &[u64], m: u64, h: u64, top: u64, word: u6
     mark_all(pool, chain, m, h + 1, top);
 }
 
+// The nodes above the old head, if the new one is higher: the chain, or the new head's marks alone.
 fn grow(
     pool: &mut [u64],
     path: &[u64],
@@ -243,7 +300,7 @@ fn grow(
     word: u64,
     chained: bool,
 )
-    requires { ⌜ top ≤ 11 ⌝ }
+    requires { ⌜ top ≤ topTier ⌝ }
     requires { do ⌜ top < (← ⟦path.len()⟧) ⌝ }
     requires { do ⌜ top < (← ⟦chain.len()⟧) ⌝ }
     requires { ⌜ place (getD (now path) top 0) lastField < length (now pool) ⌝ }
@@ -278,15 +335,16 @@ fn enter(pool: &mut [u64], a: u64, o: u64, c: u64, word: u64)
     put(pool, a, SLOT_FIELD + o, word);
 }
 
+// The same of the three mark words of the entry's node.
 fn fold_all(pool: &mut [u64], a: u64, o: u64, c: u64)
     requires { do ⌜ place a lastField < (← ⟦pool.len()⟧) ⌝ }
     requires { ⌜ o < slots ⌝ }
     requires { ⌜ c < slots ⌝ }
     ensures { λ _. ⌜ now (pool .exit) ≡ Writes.foldAll (now (pool .entry)) a o c ⌝ }
 {
-    fold_at(pool, a, 2, o, c);
-    fold_at(pool, a, 3, o, c);
-    fold_at(pool, a, 4, o, c);
+    fold_at(pool, a, MARK_FIELD, o, c);
+    fold_at(pool, a, MARK_1_FIELD, o, c);
+    fold_at(pool, a, MARK_2_FIELD, o, c);
 }
 
 // All writes of a store of a new entry.
@@ -307,45 +365,30 @@ fn rebuild(
     whole: bool,
     chained: bool,
     word: u64,
-)
+    low: u64,
+) -> u64
     requires { ⌜ length (now pool) ≡ poolWords n ⌝ }
-    requires { ⌜ (a < n) × (o + c ≤ slots) × (1 ≤ c) × (c < slots) × (v < top) × (top ≤ 11) ⌝ }
+    requires { ⌜ (a < n) × (o + c ≤ slots) × (1 ≤ c) × (c < slots) × (v < top) × (top ≤ topTier) ⌝ }
     requires { ⌜ (top < length (now path)) × (top < length (now chain)) ⌝ }
     requires { ⌜ ((u : ℕ) → v + 1 ≤ u → u ≤ top → getD (now path) u 0 < n) ⌝ }
     requires { ⌜ (h < top → chained ≡ true → (u : ℕ) → h ≤ u → 1 ≤ u → u ≤ top → getD (now chain) u 0 < n) ⌝ }
     ensures { λ _. ⌜ now (pool .exit) ≡ Writes.rebuilt (now (pool .entry)) (now (path .entry)) (now (chain .entry))
         index v a o c n h top head marks whole chained word ⌝ }
+    ensures { λ r. ⌜ Spared low r (now (pool .entry)) (Writes.cleared (now (pool .entry)) n a o c v whole head h) ⌝ }
 {
-    clear(pool, n, a, o, c, v, whole, head, h);
+    let r = clear(pool, n, a, o, c, v, whole, head, h, low);
     link(pool, path, index, v, top);
     grow(pool, path, chain, marks, h, top, head, chained);
     enter(pool, a, o, c, word);
     fold_all(pool, a, o, c);
+    r
 }
 
-fn starts_at_0(order: u64, index: u64) -> bool
-    requires { ⌜ order < slots ⌝ }
-    ensures { λ r. ⌜ r ≡ eqb (index / 2 ^ order) 0 ⌝ }
-{
-    index >> order == 0
-}
-
+// Whether the whole old tree lies inside the target range.
 fn whole_of(h: u64, top: u64, zero: bool) -> bool
     ensures { λ r. ⌜ r ≡ both (ltb h top) zero ⌝ }
 {
     if h < top { zero } else { false }
-}
-
-fn chained_of(head: u64, zero: bool) -> bool
-    ensures { λ r. ⌜ r ≡ both (not (eqb head 0)) (not zero) ⌝ }
-{
-    if head == 0 {
-        return false;
-    }
-    if zero {
-        return false;
-    }
-    true
 }
 
 // How many slots an entry takes.
@@ -357,7 +400,7 @@ fn span_of(order: u64) -> u64
 
 // The first slot of an entry in its node.
 fn offset_of(index: u64, order: u64) -> u64
-    requires { ⌜ order ≤ 63 ⌝ }
+    requires { ⌜ order ≤ maxOrder ⌝ }
     ensures { λ r. ⌜ (r ≡ Writes.offset index order) × (r + Writes.span order ≤ slots) ⌝ }
 {
     let c = span_of(order);
@@ -375,15 +418,15 @@ fn write_new(
     n: u64,
     h: u64,
     top: u64,
-)
+    low: u64,
+) -> u64
     requires { ⌜ WellFormed (now pool) ⌝ }
-    requires { ⌜ order ≤ 63 ⌝ }
-    requires { ⌜ (11 < length (now path)) × (11 < length (now chain)) ⌝ }
-    requires { ⌜ ((s : WellFormed (now pool)) → Ready (s .n) (s .list) (s .places) (now path) (now chain) index order
-        word n h top) ⌝ }
-    ensures { λ _. ⌜ ((s : WellFormed (now (pool .entry))) →
-        now (pool .exit) ≡ render (storeNew (s .list) index order word)
-        (newPlaces (s .list) (storeNew (s .list) index order word) (s .places)) (s .n)) ⌝ }
+    requires { ⌜ order ≤ maxOrder ⌝ }
+    requires { ⌜ (topTier < length (now path)) × (topTier < length (now chain)) ⌝ }
+    requires { ⌜ ((s : WellFormed (now pool)) →
+        Ready (s .n) (s .list) (s .places) (now path) (now chain) index order word n low h top) ⌝ }
+    ensures { λ r. ⌜ ((s : WellFormed (now (pool .entry))) →
+        Written (s .n) (s .list) (s .places) (storeNew (s .list) index order word) (now (pool .exit)) r) ⌝ }
 {
     let v = order / SLOT_BITS;
     let c = span_of(order);
@@ -411,257 +454,27 @@ fn write_new(
         whole,
         chained,
         word,
-    );
+        low,
+    )
 }
 
-// Takes number m, if the first word of its node, w, is 0.
-fn take_one(nums: &mut [u64], cnt: u64, m: u64, w: u64) -> u64
-    requires { do ⌜ cnt < (← ⟦nums.len()⟧) ⌝ }
-    ensures { λ r. ⌜ (r ≡ pick (eqb w 0) (cnt + 1) cnt) ×
-        (now (nums .exit) ≡ pick (eqb w 0) (set (now (nums .entry)) cnt m) (now (nums .entry))) ⌝ }
+// The entry just written, whose first slot is in node a.
+fn new_entry(pool: &[u64], a: u64, index: u64, order: u64, word: u64) -> Entry
+    requires { do ⌜ place a lastField < (← ⟦pool.len()⟧) ⌝ }
+    requires { ⌜ order ≤ maxOrder ⌝ }
+    ensures { λ r. ⌜ ((s : WellFormed (now (pool .entry))) (l : List Entry) →
+        In (newEntry l index order word) (s .list) →
+        AtNode (s .list) (num s) (order / 6) (block (tierOrder (suc (order / 6))) index) a →
+        r ≡ newEntry l index order word) ⌝ }
 {
-    if w != 0 {
-        return cnt;
+    let o = offset_of(index, order);
+    let m = marks_of(pool, a, o);
+    Entry {
+        base: (index >> order) * pow2(order),
+        order: order,
+        word: word,
+        marks: m,
     }
-    nums[cnt as usize] = m;
-    cnt + 1
-}
-
-// The lowest free numbers, as many as needed if there are.
-fn take_free(pool: &[u64], nums: &mut [u64], n: u64, low: u64, need: u64) -> u64
-    requires { ⌜ WellFormed (now pool) ⌝ }
-    requires { do ⌜ need ≤ (← ⟦nums.len()⟧) ⌝ }
-    requires { ⌜ ((s : WellFormed (now pool)) → (n ≡ s .n) × (low ≤ n) ×
-        ((m : ℕ) → m < low → getD (s .places) m none ≡ none → ⊥)) ⌝ }
-    ensures { λ r. ⌜ ((s : WellFormed (now (pool .entry))) → Found (s .places) need (now (nums .exit)) r) ⌝ }
-{
-    let mut m = low;
-    let mut cnt = 0;
-    while m < n {
-        if cnt == need {
-            return cnt;
-        }
-        cnt = take_one(nums, cnt, m, field(pool, m, 0));
-        m = m + 1;
-    }
-    cnt
-}
-
-// The tier of the head.
-fn height_of(pool: &[u64]) -> u64
-    requires { ⌜ WellFormed (now pool) ⌝ }
-    ensures { λ r. ⌜ ((s : WellFormed (now (pool .entry))) → r ≡ height (s .list)) ⌝ }
-{
-    let w = pool[HEAD_WORD];
-    if w % 4 != 2 {
-        return 0;
-    }
-    (field(pool, w / 4 - NODE_OFFSET, 0) + 5) / SLOT_BITS
-}
-
-// The run of the index fits under a head of tier t.
-fn fits_run(index: u64, order: u64, t: u64) -> bool
-    requires { ⌜ t ≤ 11 ⌝ }
-    ensures { λ r. ⌜ r ≡ fitsRun index order t ⌝ }
-{
-    if order >= at_least_1(SLOT_BITS * t) {
-        return false;
-    }
-    if t == 11 {
-        return true;
-    }
-    block_of(t, index) == 0
-}
-
-// The tier of the head after a store.
-fn top_of(h: u64, index: u64, order: u64) -> u64
-    requires { ⌜ h ≤ 11 ⌝ }
-    requires { ⌜ order ≤ 63 ⌝ }
-    ensures { λ r. ⌜ ((l : List Entry) (w : ℕ) → Valid l → any (over index order) l ≡ false → h ≡ height l →
-        r ≡ height (storeNew l index order w)) ⌝ }
-{
-    let mut t = h;
-    while !fits_run(index, order, t) {
-        t = t + 1;
-    }
-    t
-}
-
-fn is_node(w: u64) -> bool
-    ensures { λ r. ⌜ r ≡ Writes.isNode w ⌝ }
-{
-    if w % 4 != 2 {
-        return false;
-    }
-    w >= NODES_FROM
-}
-
-// The numbers of the nodes on the path, from the head, number first of tier h, down to tier v + 1 at most; the lowest tier there is.
-fn walk(pool: &[u64], path: &mut [u64], index: u64, v: u64, h: u64, first: u64) -> u64
-    requires { ⌜ WellFormed (now pool) ⌝ }
-    requires { ⌜ (v < h) × (h ≤ 11) × (11 < length (now path)) ⌝ }
-    requires { ⌜ ((s : WellFormed (now pool)) → (h ≡ height (s .list)) ×
-        (has (s .list) h (block (tierOrder h) index) ≡ true) ×
-        (first ≡ numberIn (s .places) h (block (tierOrder h) index))) ⌝ }
-    ensures { λ r. ⌜ ((s : WellFormed (now (pool .entry))) →
-        Walked (s .list) (numberIn (s .places)) index v h (now (path .exit)) r) ⌝ }
-{
-    let mut u = h;
-    let mut n = first;
-    path[u as usize] = n;
-    while u > v + 1 {
-        let w = field(pool, n, SLOT_FIELD + block_of(u - 1, index) % SLOTS);
-        if !is_node(w) {
-            return u;
-        }
-        u = u - 1;
-        n = w / 4 - NODE_OFFSET;
-        path[u as usize] = n;
-    }
-    u
-}
-
-fn in_chain(chained: bool, h: u64, top: u64, u: u64) -> bool
-    ensures { λ r. ⌜ r ≡ both chained (both (ltb h u) (ltb u top)) ⌝ }
-{
-    if !chained {
-        return false;
-    }
-    if u <= h {
-        return false;
-    }
-    u < top
-}
-
-fn on_path(v: u64, d: u64, u: u64) -> bool
-    ensures { λ r. ⌜ r ≡ both (ltb v u) (ltb u d) ⌝ }
-{
-    if u <= v {
-        return false;
-    }
-    u < d
-}
-
-fn one_if(b: bool) -> u64
-    ensures { λ r. ⌜ (r ≡ pick b 1 0) × (r ≤ 1) ⌝ }
-{
-    if b { 1 } else { 0 }
-}
-
-// How many new nodes a store makes.
-fn count_new(chained: bool, h: u64, v: u64, d: u64, top: u64) -> u64
-    requires { ⌜ top ≤ 11 ⌝ }
-    ensures { λ r. ⌜ (r ≡ Plan.before chained h v d top top) × (r ≤ 22) ⌝ }
-{
-    let mut e = 0;
-    let mut j = 0;
-    while e < top {
-        let u = top - e;
-        j = j + (one_if(in_chain(chained, h, top, u)) + one_if(on_path(v, d, u)));
-        e = e + 1;
-    }
-    j
-}
-
-fn give(to: &mut [u64], u: u64, x: u64, yes: bool)
-    requires { do ⌜ u < (← ⟦to.len()⟧) ⌝ }
-    ensures { λ _. ⌜ now (to .exit) ≡ pick yes (set (now (to .entry)) u x) (now (to .entry)) ⌝ }
-{
-    if yes {
-        to[u as usize] = x;
-    }
-}
-
-// Gives the new nodes their numbers: widest tier first, then lowest block.
-fn assign(
-    nums: &[u64],
-    path: &mut [u64],
-    chain: &mut [u64],
-    chained: bool,
-    h: u64,
-    v: u64,
-    d: u64,
-    top: u64,
-)
-    requires { ⌜ top ≤ 11 ⌝ }
-    requires { ⌜ (22 < length (now nums)) × (11 < length (now path)) × (11 < length (now chain)) ⌝ }
-    ensures { λ _. ⌜ Plan.Assigning chained h v d top (now (nums .entry)) (now (path .entry)) (now (chain .entry))
-        (now (path .exit)) (now (chain .exit)) 0 ⌝ }
-{
-    let mut u = top;
-    let mut j = 0;
-    while u > 0 {
-        let c = in_chain(chained, h, top, u);
-        let p = on_path(v, d, u);
-        let x = nums[j as usize];
-        give(chain, u, x, c);
-        j = j + one_if(c);
-        let y = nums[j as usize];
-        give(path, u, y, p);
-        j = j + one_if(p);
-        u = u - 1;
-    }
-}
-
-fn head_number(w: u64) -> u64
-    ensures { λ r. ⌜ (4 * nodeOffset ≤ w → r ≡ w / 4 - nodeOffset) ⌝ }
-{
-    if w < NODES_FROM {
-        return 0;
-    }
-    w / 4 - NODE_OFFSET
-}
-
-// The lowest tier of the path that is there, with the numbers from the head down to it; past the head where that grows.
-fn lowest(pool: &[u64], path: &mut [u64], index: u64, v: u64, h: u64, top: u64, first: u64) -> u64
-    requires { ⌜ WellFormed (now pool) ⌝ }
-    requires { ⌜ (v < top) × (top ≤ 11) × (h ≤ top) × (11 < length (now path)) ⌝ }
-    requires { ⌜ ((s : WellFormed (now pool)) → (h ≡ height (s .list)) ×
-        (h ≡ top → (has (s .list) h (block (tierOrder h) index) ≡ true) ×
-        (first ≡ numberIn (s .places) h (block (tierOrder h) index)))) ⌝ }
-    ensures { λ r. ⌜ ((s : WellFormed (now (pool .entry))) → Depth (s .list) (numberIn (s .places)) index v h top
-        (now (path .exit)) r) ⌝ }
-{
-    if h < top {
-        return top + 1;
-    }
-    walk(pool, path, index, v, h, first)
-}
-
-// The numbers of the nodes that a store of a new entry writes, if there are enough free ones.
-fn plan(
-    pool: &[u64],
-    path: &mut [u64],
-    chain: &mut [u64],
-    index: u64,
-    order: u64,
-    word: u64,
-    n: u64,
-    low: u64,
-    h: u64,
-    top: u64,
-    head: u64,
-) -> bool
-    requires { ⌜ WellFormed (now pool) ⌝ }
-    requires { ⌜ (order ≤ 63) × (head ≡ getD (now pool) 1 0) × (11 < length (now path)) × (11 < length (now chain)) ⌝ }
-    requires { ⌜ ((s : WellFormed (now pool)) → Known (s .n) (s .list) (s .places) index order word n low h top head) ⌝ }
-    ensures { λ r. ⌜ ((s : WellFormed (now (pool .entry))) →
-        Planned (s .list) (s .places) index order word (now (path .exit)) (now (chain .exit)) r) ⌝ }
-{
-    let v = order / SLOT_BITS;
-    let first = head_number(head);
-    let d = lowest(pool, path, index, v, h, top, first);
-    let chained = chained_of(head, starts_at_0(order, index));
-    let need = count_new(chained, h, v, d, top);
-    let mut nums = [0u64; 24];
-    let got = take_free(pool, &mut nums, n, low, need);
-    if got < need {
-        return false;
-    }
-    chain[h as usize] = first;
-    assign(&nums, path, chain, chained, h, v, d, top);
-    chain[top as usize] = path[top as usize];
-    true
 }
 
 // Plans and writes, where there are nodes.
@@ -674,18 +487,19 @@ fn store_nodes(
     low: u64,
     h: u64,
     top: u64,
-) -> u64
+) -> StoreResult
     requires { ⌜ WellFormed (now pool) ⌝ }
-    requires { ⌜ order ≤ 63 ⌝ }
-    requires { ⌜ ((s : WellFormed (now pool)) → Known (s .n) (s .list) (s .places) index order word n low h top
-        (getD (now pool) 1 0)) ⌝ }
-    ensures { λ r. ⌜ ((s : WellFormed (now (pool .entry))) → StoredNew (s .n) (s .list) (s .places) index order word
-        (now (pool .entry)) (now (pool .exit)) r) ⌝ }
+    requires { ⌜ (order ≤ maxOrder) × T (storable word) × InUse low (now pool) ⌝ }
+    requires { ⌜ ((s : WellFormed (now pool)) →
+        Known (s .n) (s .list) (s .places) index order word n low h top (getD (now pool) 1 0)) ⌝ }
+    ensures { λ r. ⌜ ((s : WellFormed (now (pool .entry))) → Stores (s .n) (s .list) (s .places)
+        (storeNew (s .list) index order word) index (now (pool .entry)) (now (pool .exit)) (r .outcome)) ⌝ }
+    ensures { λ r. ⌜ InUse (r .low) (now (pool .exit)) ⌝ }
 {
     let head = pool[HEAD_WORD];
     let mut path = [0u64; 12];
     let mut chain = [0u64; 12];
-    let enough = plan(
+    let choice = plan(
         pool,
         &mut path,
         &mut chain,
@@ -698,28 +512,144 @@ fn store_nodes(
         top,
         head,
     );
-    if !enough {
-        return 11;
+    match choice {
+        Choice::TooFew => StoreResult {
+            outcome: Stored::Short,
+            low: low,
+        },
+        Choice::Chosen(next) => {
+            let r = write_new(pool, &path, &chain, index, order, word, n, h, top, next);
+            let a = path[(order / SLOT_BITS + 1) as usize];
+            let e = new_entry(pool, a, index, order, word);
+            StoreResult {
+                outcome: Stored::Done(e),
+                low: r,
+            }
+        }
     }
-    write_new(pool, &path, &chain, index, order, word, n, h, top);
-    0
 }
 
 // Stores an entry that no entry of that order or more covers.
-pub fn store_new(pool: &mut [u64], index: u64, order: u64, word: u64, low: u64) -> u64
+fn store_new(pool: &mut [u64], index: u64, order: u64, word: u64, low: u64) -> StoreResult
     requires { ⌜ WellFormed (now pool) ⌝ }
-    requires { ⌜ order ≤ 63 ⌝ }
-    requires { ⌜ ((s : WellFormed (now pool)) → (any (over index order) (s .list) ≡ false) × (low ≤ s .n) ×
-        ((m : ℕ) → m < low → getD (s .places) m none ≡ none → ⊥)) ⌝ }
-    ensures { λ r. ⌜ ((s : WellFormed (now (pool .entry))) → StoredNew (s .n) (s .list) (s .places) index order word
-        (now (pool .entry)) (now (pool .exit)) r) ⌝ }
+    requires { ⌜ (order ≤ maxOrder) × T (storable word) × InUse low (now pool) ⌝ }
+    requires { ⌜ ((s : WellFormed (now pool)) → any (over index order) (s .list) ≡ false) ⌝ }
+    ensures { λ r. ⌜ ((s : WellFormed (now (pool .entry))) → Stores (s .n) (s .list) (s .places)
+        (storeNew (s .list) index order word) index (now (pool .entry)) (now (pool .exit)) (r .outcome)) ⌝ }
+    ensures { λ r. ⌜ InUse (r .low) (now (pool .exit)) ⌝ }
 {
     let n = pool[0];
     let h = height_of(pool);
     let top = top_of(h, index, order);
     if top == 0 {
+        let m = pool[MARKS_WORD];
         pool[HEAD_WORD] = word;
-        return 0;
+        return StoreResult {
+            outcome: Stored::Done(Entry {
+                base: 0,
+                order: 0,
+                word: word,
+                marks: m,
+            }),
+            low: low,
+        };
     }
     store_nodes(pool, index, order, word, n, low, h, top)
+}
+
+// The entry with another word.
+fn with_word(e: Entry, word: u64) -> Entry
+    ensures { λ r. ⌜ ((i : ℕ) → covers i e ≡ true → r ≡ withWord i word e) ⌝ }
+{
+    Entry {
+        base: e.base,
+        order: e.order,
+        word: word,
+        marks: e.marks,
+    }
+}
+
+// Stores where the head is the entry e.
+fn store_at_head(
+    pool: &mut [u64],
+    e: Entry,
+    index: u64,
+    order: u64,
+    word: u64,
+    low: u64,
+) -> StoreResult
+    requires { ⌜ WellFormed (now pool) ⌝ }
+    requires { ⌜ (order ≤ maxOrder) × T (storable word) × InUse low (now pool) ⌝ }
+    requires { ⌜ ((s : WellFormed (now pool)) → (height (s .list) ≡ 0) × (covering (s .list) index ≡ some e)) ⌝ }
+    ensures { λ r. ⌜ ((s : WellFormed (now (pool .entry))) → Stores (s .n) (s .list) (s .places)
+        (Model.store (s .list) index order word) index (now (pool .entry)) (now (pool .exit)) (r .outcome)) ⌝ }
+    ensures { λ r. ⌜ InUse (r .low) (now (pool .exit)) ⌝ }
+{
+    if e.order < order {
+        return store_new(pool, index, order, word, low);
+    }
+    pool[HEAD_WORD] = word;
+    StoreResult {
+        outcome: Stored::Done(with_word(e, word)),
+        low: low,
+    }
+}
+
+// Stores where the entry e covers the index, with its first slot at offset o of node a.
+fn store_in_node(
+    pool: &mut [u64],
+    e: Entry,
+    a: u64,
+    v: u64,
+    o: u64,
+    index: u64,
+    order: u64,
+    word: u64,
+    low: u64,
+) -> StoreResult
+    requires { ⌜ WellFormed (now pool) ⌝ }
+    requires { ⌜ (order ≤ maxOrder) × T (storable word) × InUse low (now pool) ⌝ }
+    requires { ⌜ ((s : WellFormed (now pool)) → (covering (s .list) index ≡ some e) ×
+        Holds (s .list) (num s) index a v o) ⌝ }
+    ensures { λ r. ⌜ ((s : WellFormed (now (pool .entry))) → Stores (s .n) (s .list) (s .places)
+        (Model.store (s .list) index order word) index (now (pool .entry)) (now (pool .exit)) (r .outcome)) ⌝ }
+    ensures { λ r. ⌜ InUse (r .low) (now (pool .exit)) ⌝ }
+{
+    if e.order < order {
+        return store_new(pool, index, order, word, low);
+    }
+    put(pool, a, SLOT_FIELD + o, word);
+    StoreResult {
+        outcome: Stored::Done(with_word(e, word)),
+        low: low,
+    }
+}
+
+// Stores an entry: the one that covers the index keeps its order and takes the word, if its order is no smaller; else
+// the new entry takes the place of all in the target range.
+pub fn store(pool: &mut [u64], index: u64, order: u64, word: u64, low: u64) -> StoreResult
+    requires { ⌜ WellFormed (now pool) ⌝ }
+    requires { ⌜ order ≤ maxOrder ⌝ }
+    requires { ⌜ T (storable word) ⌝ }
+    requires { ⌜ InUse low (now pool) ⌝ }
+    ensures { λ r. ⌜ ((s : WellFormed (now (pool .entry))) → Stores (s .n) (s .list) (s .places)
+        (Model.store (s .list) index order word) index (now (pool .entry)) (now (pool .exit)) (r .outcome)) ⌝ }
+    ensures { λ r. ⌜ InUse (r .low) (now (pool .exit)) ⌝ }
+{
+    let found = locate(pool, index);
+    match found {
+        Located::Uncovered(_) => store_new(pool, index, order, word, low),
+        Located::AtHead(e) => store_at_head(pool, e, index, order, word, low),
+        Located::InNode(e, at, _) => store_in_node(
+            pool,
+            e,
+            at.node,
+            at.tier,
+            at.slot,
+            index,
+            order,
+            word,
+            low,
+        ),
+    }
 }

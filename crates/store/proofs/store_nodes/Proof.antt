@@ -1,8 +1,8 @@
-use mathlib.Core.Path.{refl}
 use native.Mathlib.Omega.{arith}
+use Rattle.plan.proofs.Reading.{pool-long}
+use mathlib.Core.Path.{refl}
+use Rattle.store.proofs.Results.{ready, node-lt, stores-new, low-after}
 use borrow.Author.Needs.{needs}
-use Rattle.blocks.proofs.BoolLaws.{not-true, not-false}
-use Rattle.store.proofs.Reading.{pool-long}
 use Rattle.store.proofs.store_nodes.Statement.{statement}
 use Rattle.store.proofs.store_nodes.Tie as tie
 
@@ -16,20 +16,13 @@ slice-aggregate-plan-2 : tie.Need-slice-aggregate-plan-2
 slice-aggregate-plan-2 c = search needs
 
 plan-requires : tie.Need-plan-requires
-plan-requires c κs = (
-  c .before .before .before .before .before .pre .0,
-  (
-    (c .before .before .before .before .before .pre .1 .0, refl, omega arith, omega arith),
-    c .before .before .before .before .before .pre .1 .1,
-  ),
-)
+plan-requires c κs = let p = c .before .before .before .before .before .pre in (p .0, ((p .1 .0 .0, refl, omega arith, omega arith), p .1 .1))
 
-same-length : tie.Need-same-length
-same-length c = search needs
+enum-told : tie.Need-enum-told
+enum-told c = search needs
 
-returns : tie.Need-returns
-returns c = λ s. let short = c .before .before .before .plan .ensures s .if-no (not-true _ (c .if1 .taken)) in
-    record { done = λ e. absurd (omega arith); short = λ e. (refl, refl) }
+enum-known-choice : tie.Need-enum-known-choice
+enum-known-choice c = search needs
 
 slice-aggregate-write-new : tie.Need-slice-aggregate-write-new
 slice-aggregate-write-new c = search needs
@@ -38,38 +31,61 @@ slice-aggregate-write-new-2 : tie.Need-slice-aggregate-write-new-2
 slice-aggregate-write-new-2 c = search needs
 
 write-new-requires : tie.Need-write-new-requires
-write-new-requires c κs = let k₁ = c .before .before .before .before .before .before .plan .kept .1 .0 in
-    let k₂ = c .before .before .before .before .before .before .plan .kept .1 .1 .0 in (
-      c .before .before .before .before .before .before .before .before .before .before .before .before .pre .0,
+write-new-requires c κs = let p = c .before .before .before .before .before .before .before .before .before .before .before .before .before .before .pre in
+    let f = c .before .before .before .before .before .before .before .before .before .before .before .before .before .before .fits .index .fits in (
+      p .0,
       (
-        c .before .before .before .before .before .before .before .before .before .before .before .before .pre .1 .0,
+        p .1 .0 .0,
         (
-          (omega (arith, k₁), omega (arith, k₂)),
-          λ s. let k = c .before .before .before .before .before .before
-              .before .before .before .before .before .before .pre .1 .1 s in
-              let y = c .before .before .before .before .before .before .plan .ensures s .if-yes
-              (not-false _ (c .before .before .before .if1 .left)) in
-              record {
-                new = k .new;
-                enough = y .0;
-                n-is = k .n-is;
-                h-is = k .h-is;
-                top-is = k .top-is;
-                some-node = k
-                    .some-node;
-                plan = y .1;
-              },
+          (omega (arith, c .before .before .before .before .before .before .before .before .plan .kept .1 .0), omega (arith, c .before .before .before .before .before .before .before .before .plan .kept .1 .1 .0)),
+          λ s. ready s _ _ _ _ _ _ _ _ f (p .1 .0 .0) _ _ _ (p .1 .1 s)
+              (c .before .before .before .before .before .before .before .before .plan .ensures s .if-chosen _ (c .before .before .before .before .choice .given .1)),
         ),
       ),
     )
+
+add-a : tie.Need-add-a
+add-a c = search needs
+
+mul-a : tie.Need-mul-a
+mul-a c = search needs
+
+array-read-a : tie.Need-array-read-a
+array-read-a c = search needs
+
+new-entry-requires : tie.Need-new-entry-requires
+new-entry-requires c κs = let p = c .before .before .before .before .before .before .before .before .before .before .before .before .before .before .before .before .before .before .pre in
+    let f = c .before .before .before .before .before .before .before .before .before .before .before .before .before .before .before .before .before .before .fits .index .fits in
+    let lt = node-lt (p .0) _ _ _ _ _ _ _ _ f (p .1 .0 .0) _ _ _ (p .1 .1 (p .0))
+    (c .before .before .before .before .before .before .before .before .before .before .before .before .plan .ensures (p .0) .if-chosen _ (c .before .before .before .before .before .before .before .before .choice .given .1)) in
+    (omega (arith, lt, c .before .before .before .write-new .kept .0, pool-long (p .0)), p .1 .0 .0)
+
+same-length : tie.Need-same-length
+same-length c = search needs
+
+returns : tie.Need-returns
+returns c = (
+  λ s. record {
+    done = λ e. absurd (omega (arith, c .before .before .before .before .plan .ensures s .if-short (c .enum-told .given .1)));
+    short = λ e. (refl, refl);
+  },
+  c .before .before .before .before .before .before .before .before .before .before .pre .1 .0 .2,
+)
 
 same-length-2 : tie.Need-same-length-2
 same-length-2 c = search needs
 
 returns-2 : tie.Need-returns-2
-returns-2 c = λ s. let y = c .before .before .before .before .before .before .before .before .before .plan .ensures s
-    .if-yes (not-false _ (c .before .before .before .before .before .before .if1 .left)) in
-    record { done = λ e. (refl, c .before .before .write-new .ensures s); short = λ e. absurd (omega (arith, y .0)) }
+returns-2 c = let p = c .before .before .before .before .before .before .before .before .before .before .before .before .before .before .before .before .before .before .before .pre in
+    let f = c .before .before .before .before .before .before .before .before .before .before .before .before .before .before .before .before .before .before .before .fits .index .fits in
+    let g = c .before .before .before .before .before .before .before .before .before .before .before .before .before .before .before .before .before .before .before .fits .word .fits in (
+      λ s. stores-new s _ _ _ _ _ _ _ _ f (p .1 .0 .0) _ _ _ (p .1 .1 s)
+          (c .before .before .before .before .before .before .before .before .before .before .before .before .before .plan .ensures s .if-chosen _ (c .before .before .before .before .before .before .before .before .before .choice .given .1)) (p .1 .0 .1) g (c .before .before .before .before .write-new .ensures s)
+          (c .new-entry .result) (c .new-entry .ensures),
+      low-after (p .0) _ _ _ _ _ _ _ _ f (p .1 .0 .0) _ _ _ (p .1 .1 (p .0))
+          (c .before .before .before .before .before .before .before .before .before .before .before .before .before .plan .ensures (p .0) .if-chosen _ (c .before .before .before .before .before .before .before .before .before .choice .given .1)) (p .1 .0 .1) g
+          (c .before .before .before .before .write-new .ensures (p .0)),
+    )
 
 pub store-nodes-spec : {M : Type 1} → statement M
 store-nodes-spec =
@@ -79,10 +95,16 @@ store-nodes-spec =
     slice-aggregate-plan
     slice-aggregate-plan-2
     plan-requires
-    same-length
-    returns
+    enum-told
+    enum-known-choice
     slice-aggregate-write-new
     slice-aggregate-write-new-2
     write-new-requires
+    add-a
+    mul-a
+    array-read-a
+    new-entry-requires
+    same-length
+    returns
     same-length-2
     returns-2)

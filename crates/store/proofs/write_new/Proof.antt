@@ -9,7 +9,7 @@ use borrow.Author.Needs.{needs}
 use Rattle.blocks.specs.Choice.{both}
 use Rattle.layout.specs.WellFormed.{WellFormed}
 use Rattle.layout.proofs.RenderWordLaws.{render-long}
-use Rattle.store.proofs.Whole.{long, top-le, low-top, path-lt, chain-lt, rebuild-is}
+use Rattle.store.proofs.Whole.{low-used, long, top-le, low-top, path-lt, chain-lt, rebuild-is}
 use Rattle.store.proofs.write_new.Statement.{statement}
 use Rattle.store.proofs.write_new.Tie as tie
 
@@ -59,10 +59,10 @@ rebuild-requires c κs = let a = c .before .before .before .before .before .befo
     .index .fits in
     let g = c .before .before .before .before .before .before .before .before .before .before .before .before .pre .1
     .0 in
-    let tl = top-le s (a .path .now) (a .chain .now) (a .index) (a .order) (a .word) (a .n) (a .h) (a .top) f g r in
-    let lt = low-top s (a .path .now) (a .chain .now) (a .index) (a .order) (a .word) (a .n) (a .h) (a .top) f g r in
-    let pl = path-lt s (a .path .now) (a .chain .now) (a .index) (a .order) (a .word) (a .n) (a .h) (a .top) f g r in (
-      long s (a .path .now) (a .chain .now) (a .index) (a .order) (a .word) (a .n) (a .h) (a .top) f g r,
+    let tl = top-le s (a .path .now) (a .chain .now) (a .index) (a .order) (a .word) (a .n) (a .low) (a .h) (a .top) f g r in
+    let lt = low-top s (a .path .now) (a .chain .now) (a .index) (a .order) (a .word) (a .n) (a .low) (a .h) (a .top) f g r in
+    let pl = path-lt s (a .path .now) (a .chain .now) (a .index) (a .order) (a .word) (a .n) (a .low) (a .h) (a .top) f g r in (
+      long s (a .path .now) (a .chain .now) (a .index) (a .order) (a .word) (a .n) (a .low) (a .h) (a .top) f g r,
       (
         (
           pl (a .order / 6 + 1) (omega arith) (omega arith),
@@ -80,7 +80,7 @@ rebuild-requires c κs = let a = c .before .before .before .before .before .befo
           (omega arith, omega arith),
           (
             pl,
-            λ x y. chain-lt s (a .path .now) (a .chain .now) (a .index) (a .order) (a .word) (a .n) (a .h) (a .top) f g r x
+            λ x y. chain-lt s (a .path .now) (a .chain .now) (a .index) (a .order) (a .word) (a .n) (a .low) (a .h) (a .top) f g r x
                 (sym (c .before .chained-of .ensures ∙ ap (λ (b : Bool). both (not (eqb (getD (a .pool .now) 1 0) 0)) (not b))
                 (c .before .before .before .starts-at-0 .ensures)) ∙ y),
           ),
@@ -92,30 +92,23 @@ same-length : tie.Need-same-length
 same-length c = search needs
 
 returns : tie.Need-returns
-returns c = let a = c .before .before .before .before .before .before .before .before .before .before .before .before
-    .before .before .before .args in λ s.
+returns c = let a = c .before .before .before .before .before .before .before .before .before .before .before .before .before .before .before .args in λ s.
+    let q = c .before .before .before .before .before .before .before .before .before .before .before .before .before .before .before .pre .1 .1 .1 s in
+    let f = c .before .before .before .before .before .before .before .before .before .before .before .before .before .before .before .fits .index .fits in
+    let g = c .before .before .before .before .before .before .before .before .before .before .before .before .before .before .before .pre .1 .0 in
     let e₁ : c .before .before .before .before .chained-of .result ≡ both (not (eqb (getD (a .pool .now) 1 0) 0))
     (not (eqb (a .index / 2 ^ a .order) 0)) = c .before .before .before .before .chained-of .ensures ∙ ap
-    (λ (b : Bool). both (not (eqb (getD (a .pool .now) 1 0) 0)) (not b))
-    (c .before .before .before .before .before .before .starts-at-0 .ensures) in
-    let e₂ : c .before .before .before .before .before .whole-of .result ≡ both (ltb (a .h) (a .top))
-    (eqb (a .index / 2 ^ a .order) 0) = c .before .before .before .before .before .whole-of .ensures ∙ ap
-    (λ (b : Bool). both (ltb (a .h) (a .top)) b) (c .before .before .before .before .before .before .starts-at-0
-    .ensures) in
-    c .before .before .rebuild .ensures ∙ (rw (
-      e₁,
-      e₂,
-      c .before .before .before .before .before .before .before
-          .before .before .before .offset-of .ensures .0,
-      c .before .before .before .before .before .before .before
-          .before .before .before .before .span-of .ensures .0,
-    )
-    (rebuild-is s (a .path .now) (a .chain .now) (a .index) (a .order) (a .word) (a .n) (a .h) (a .top)
-    (c .before .before .before .before .before .before .before .before .before .before .before .before .before
-    .before .before .fits .index .fits) (c .before .before .before .before .before .before .before .before .before
-    .before .before .before .before .before .before .pre .1 .0)
-    (c .before .before .before .before .before .before .before .before .before .before .before .before .before
-    .before .before .pre .1 .1 .1 s)))
+    (λ (b : Bool). both (not (eqb (getD (a .pool .now) 1 0) 0)) (not b)) (c .before .before .before .before .before .before .starts-at-0 .ensures) in
+    let e₂ : c .before .before .before .before .before .whole-of .result ≡ both (ltb (a .h) (a .top)) (eqb (a .index / 2 ^ a .order) 0) =
+    c .before .before .before .before .before .whole-of .ensures ∙ ap (λ (b : Bool). both (ltb (a .h) (a .top)) b) (c .before .before .before .before .before .before .starts-at-0 .ensures) in
+    let sp = rw (e₂, c .before .before .before .before .before .before .before .before .before .before .offset-of .ensures .0, c .before .before .before .before .before .before .before .before .before .before .before .span-of .ensures .0) at (c .before .before .rebuild .ensures .1) in
+    record {
+      words-are = c .before .before .rebuild .ensures .0 ∙ (rw (e₁, e₂, c .before .before .before .before .before .before .before .before .before .before .offset-of .ensures .0, c .before .before .before .before .before .before .before .before .before .before .before .span-of .ensures .0)
+          (rebuild-is s (a .path .now) (a .chain .now) (a .index) (a .order) (a .word) (a .n) (a .low) (a .h) (a .top) f g q));
+      low-le = omega (arith, c .before .before .rebuild .ensures .1 .at-most, q .next-le, s .placed .size);
+      low-used = low-used s (a .path .now) (a .chain .now) (a .index) (a .order) (a .word) (a .n) (a .low) (a .h) (a .top)
+          f g q _ sp;
+    }
 
 pub write-new-spec : {M : Type 1} → statement M
 write-new-spec =
