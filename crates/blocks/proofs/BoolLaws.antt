@@ -1,6 +1,6 @@
 -- Laws of tests and choices. Tests stand as equations `b ≡ true`.
 use mathlib.Core.Path.{_≡_, refl, sym, subst, _∙_}
-use mathlib.Core.Bool.{Bool, true, false}
+use mathlib.Core.Bool.{Bool, true, false, not}
 use lib.Dec.{T}
 use Rattle.blocks.specs.Choice.{both, either}
 
@@ -60,3 +60,12 @@ pub either-swap : (a b c : Bool) → either a (either b c) ≡ either b (either 
 either-swap true true c = refl
 either-swap true false c = refl
 either-swap false b c = refl
+
+-- a test under `!`
+pub not-true : (b : Bool) → not b ≡ true → b ≡ false
+not-true true e = sym e
+not-true false e = refl
+
+pub not-false : (b : Bool) → not b ≡ false → b ≡ true
+not-false true e = refl
+not-false false e = sym e

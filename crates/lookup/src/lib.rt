@@ -127,7 +127,7 @@ fn mark_bit(pool: &[u64], n: u64, m: u64, o: u64) -> u64
 }
 
 // The marks of the entry whose first slot is slot o of node n.
-fn marks_of(pool: &[u64], n: u64, o: u64) -> u64
+pub fn marks_of(pool: &[u64], n: u64, o: u64) -> u64
     requires { do ⌜ place n lastField < (← ⟦pool.len()⟧) ⌝ }
     requires { ⌜ o < slots ⌝ }
     ensures { λ r. ⌜ ((s : WellFormed (now (pool .entry))) (v c : ℕ) (e : Entry) →

@@ -1,0 +1,13 @@
+pub mod Right
+pub mod Target
+pub mod Freeing
+pub mod RunLaws
+pub mod Final
+pub mod MarkWordLaws
+pub mod StoredWords
+pub mod Clearing
+pub mod Whole
+pub mod HeadEntry
+pub mod SparedLaws
+pub mod Replaced
+pub mod Results
