@@ -12,7 +12,9 @@ use Rattle.lookup.specs.declared.Loaded.the-variants.{Absent, Present}
 use Rattle.batch.specs.declared.Command.{Command}
 use Rattle.batch.specs.declared.Reply.{Reply}
 use Rattle.batch.specs.Reply.{answered, answeredBy}
-use Rattle.execute.specs.Execute.{Executed, absent, execute}
+use Rattle.store.specs.declared.Stored.{Stored}
+use Rattle.store.specs.declared.Stored.the-variants.{Done, Short}
+use Rattle.execute.specs.Execute.{Executed, absent, tooFewNodes, execute}
 use Rattle.execute.specs.State.{State, next}
 
 -- the reply by what covers the index
@@ -24,6 +26,11 @@ coveredReply t (By e) = answeredBy t e 0
 abbrev pub loadedReply : ℕ → Loaded → Reply
 loadedReply t (Absent d) = answered t absent 0 d
 loadedReply t (Present e d) = answeredBy t e d
+
+-- the reply by what a store comes to
+abbrev pub storedReply : ℕ → Stored → Reply
+storedReply t (Done e) = answeredBy t e 0
+storedReply t Short = answered t tooFewNodes 0 0
 
 -- a well-formed pool as a state
 abbrev pub stateOf : {ws : List ℕ} → WellFormed ws → State

@@ -7,12 +7,14 @@ use lookup::Loaded;
 use lookup::Outcome;
 use model::Covered;
 use model::Entry;
+use store::Stored;
 ghost use mathlib.Core.Path.{_≡_};
 ghost use Prim.Native.Nat.{ℕ};
+ghost use Rattle.model.specs.Model.{storable};
 ghost use Rattle.layout.specs.WellFormed.{WellFormed, InUse};
 ghost use Rattle.batch.specs.Reply.{answered, answeredBy};
 ghost use Rattle.execute.specs.Execute.{finding};
-ghost use Rattle.execute.specs.Contracts.{coveredReply, loadedReply, replyTo, Executes};
+ghost use Rattle.execute.specs.Contracts.{coveredReply, loadedReply, storedReply, replyTo, Executes};
 
 // The answers that stand in a reply, and the reply's tags.
 const ORDER_ABOVE: u64 = 5;
@@ -116,6 +118,25 @@ fn found_reply(x: Outcome) -> Reply
     }
 }
 
+fn stored_reply(x: Stored) -> Reply
+    ensures { λ r. ⌜ r ≡ storedReply 129 x ⌝ }
+{
+    match x {
+        Stored::Done(e) => answered_by(STORED, e, 0),
+        Stored::Short => answered(STORED, TOO_FEW_NODES, 0, 0),
+    }
+}
+
+// An entry's word: odd, or a multiple of 4 above 0.
+fn is_storable(word: u64) -> bool
+    ensures { λ r. ⌜ r ≡ storable word ⌝ }
+{
+    if word == 0 {
+        return false;
+    }
+    word % 4 != 2
+}
+
 fn run_load(pool: &[u64], index: u64) -> Reply
     requires { ⌜ WellFormed (now pool) ⌝ }
     ensures { λ r. ⌜ ((s : WellFormed (now (pool .entry))) → r ≡ replyTo s (Command.Load index)) ⌝ }
@@ -182,7 +203,16 @@ fn run_store(pool: &mut [u64], index: u64, order: u64, word: u64, low: u64) -> E
         Executes s (Command.Store index order word) (r .reply) (now (pool .exit))) ⌝ }
     ensures { λ r. ⌜ InUse (r .low) (now (pool .exit)) ⌝ }
 {
-    Execution { reply: answered(STORED, TOO_FEW_NODES, 0, 0), low: low }
+    if order > MAX_ORDER {
+        return Execution { reply: answered(STORED, ORDER_ABOVE, 0, 0), low: low };
+    }
+    if !is_storable(word) {
+        return Execution { reply: answered(STORED, NOT_STORABLE, 0, 0), low: low };
+    }
+    let r = store::store(pool, index, order, word, low);
+    let outcome = r.outcome;
+    let next = r.low;
+    Execution { reply: stored_reply(outcome), low: next }
 }
 
 // One command: its reply, and the number below which every node is in use.
