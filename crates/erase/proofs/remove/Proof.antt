@@ -101,7 +101,8 @@ climb-requires-3 c κs = let l = c .before .before .before .before .before .befo
       record {
         formed = second c (l .formed) (l .holds);
         holds = holds-remark (c .before .before .before .before .before .before .before .before .before .before .args
-            .i) 1 false (holds-remark (c .before .before .before .before .before .before .before .before .before .before
+            .i) 1 false (holds-remark (c .before .before .before .before .before .before .before .before .before
+            .before
             .args .i) 0 false (l .holds));
       },
     )
@@ -145,7 +146,8 @@ returns c = let l = c .before .before .before .before .before .before .before .b
           e .1 .1 (third (c .before .before .before) s h) (held (c .before .before .before) s h)
           (all-off (s .list) (s .valid) (c .before .before .before .before .before .before .before .before .before
           .before .before .before .before .before .before .before .before .args .i))
-          (bare-height (s .list) (c .before .before .before .before .before .before .before .before .before .before .before
+          (bare-height (s .list) (c .before .before .before .before .before .before .before .before .before .before
+          .before
           .before .before .before .before .before .before .args .i) ∙ z) ∙
           ap (λ (l : List Entry). render l (prune l (s .places)) (s .n))
           (bare-erase (s .list) (c .before .before .before .before .before .before .before .before .before .before
