@@ -19,7 +19,7 @@ use Rattle.model.proofs.ValidLaws.{sorted-ok, erase-none, erase-clear}
 use Rattle.tree.specs.Tree.{height, Node, newNodes}
 use Rattle.tree.proofs.RelabelLaws.{mapO, covering-map, height-map, new-nodes-map}
 use Rattle.tree.proofs.ChangeLaws.{clear-new}
-use Rattle.layout.specs.Words.{fieldAt, place, shiftField}
+use Rattle.layout.specs.Words.{fieldAt, place, shiftField, marksWord, headWord}
 use Rattle.layout.specs.Places.{Places, Placed, render, prune, newPlaces, allocate}
 use Rattle.layout.specs.WellFormed.{WellFormed, num, InUse}
 use Rattle.layout.proofs.NumberLaws.{prune-same, allocate-none}
@@ -92,11 +92,11 @@ erase-flat s i e q z = without-all (covers i) (each (s .list) (λ x m. same x m)
 
 pub words-head : {ws : List ℕ} (s : WellFormed ws) (i : ℕ) (e : Entry) → covering (s .list) i ≡ some e →
     height (s .list) ≡ 0 →
-    set (set ws 1 0) 2 0 ≡ render (erase (s .list) i) (prune (erase (s .list) i) (s .places)) (s .n)
+    set (set ws headWord 0) marksWord 0 ≡ render (erase (s .list) i) (prune (erase (s .list) i) (s .places)) (s .n)
 words-head {ws} s i e q z = rw (erase-flat s i e q z) (tall-none flat)
   where
-    rest : (j : ℕ) → (j ≡ 1 → ⊥) → (j ≡ 2 → ⊥) → getD (set (set ws 1 0) 2 0) j 0 ≡ getD ws j 0
-    rest j a b = getD-set-other (set ws 1 0) 2 j 0 0 b ∙ getD-set-other ws 1 j 0 0 a
+    rest : (j : ℕ) → (j ≡ 1 → ⊥) → (j ≡ 2 → ⊥) → getD (set (set ws headWord 0) marksWord 0) j 0 ≡ getD ws j 0
+    rest j a b = getD-set-other (set ws headWord 0) 2 j 0 0 b ∙ getD-set-other ws 1 j 0 0 a
 
     no-node : (m f : ℕ) (o : Option Node) → getD (s .places) m none ≡ o →
         fieldAt (s .list) (num s) o f ≡ tallAt 0 [] (num s) o f
@@ -104,7 +104,7 @@ words-head {ws} s i e q z = rw (erase-flat s i e q z) (tall-none flat)
     no-node m f (some p) r =
         let (pos, le) = has-tier (s .list) (p .tier) (p .number) (place-of s m p r .1) in absurd (omega arith)
 
-    flat : Tall (s .n) 0 [] (s .places) (set (set ws 1 0) 2 0)
+    flat : Tall (s .n) 0 [] (s .places) (set (set ws headWord 0) marksWord 0)
     flat = record {
       valid = done;
       small = s .most;
@@ -113,21 +113,21 @@ words-head {ws} s i e q z = rw (erase-flat s i e q z) (tall-none flat)
       count = s .placed .size;
       once = s .placed .once;
       full = λ p t. absurd (clash (both-r (leb (p .tier) 0) false t) refl);
-      size = length-set (set ws 1 0) 2 0 ∙ (length-set ws 1 0 ∙ pool-length s);
+      size = length-set (set ws headWord 0) marksWord 0 ∙ (length-set ws headWord 0 ∙ pool-length s);
       first = rest 0 (omega arith) (omega arith) ∙ pool-anchor s 0 (omega arith);
-      head = getD-set-other (set ws 1 0) 2 1 0 0 (omega arith) ∙
+      head = getD-set-other (set ws headWord 0) 2 1 0 0 (omega arith) ∙
           (getD-set-same ws 1 0 0 (omega (arith, pool-length s)) ∙ sym (slot-nil (num s) 0 0));
-      marks = getD-set-same (set ws 1 0) 2 0 0 (omega (arith, length-set ws 1 0, pool-length s));
+      marks = getD-set-same (set ws headWord 0) 2 0 0 (omega (arith, length-set ws headWord 0, pool-length s));
       last = rest 3 (omega arith) (omega arith) ∙ pool-anchor s 3 (omega arith);
       node = λ m f p lt. rest (place m f) (omega arith) (omega arith) ∙
           (pool-node s m f p lt ∙ no-node m f (getD (s .places) m none) refl);
     }
 
-pub in-use-head : {ws : List ℕ} {low : ℕ} → InUse low ws → InUse low (set (set ws 1 0) 2 0)
+pub in-use-head : {ws : List ℕ} {low : ℕ} → InUse low ws → InUse low (set (set ws headWord 0) marksWord 0)
 in-use-head {ws} u = in-use-spares u (le-refl _) (record {
-  count-is = getD-set-other (set ws 1 0) 2 0 0 0 (omega arith) ∙ getD-set-other ws 1 0 0 0 (omega arith);
+  count-is = getD-set-other (set ws headWord 0) 2 0 0 0 (omega arith) ∙ getD-set-other ws 1 0 0 0 (omega arith);
   shifts-are = λ m lt.
-      getD-set-other (set ws 1 0) 2 (place m shiftField) 0 0 (omega arith) ∙
+      getD-set-other (set ws headWord 0) 2 (place m shiftField) 0 0 (omega arith) ∙
       getD-set-other ws 1 (place m shiftField) 0 0 (omega arith);
 })
 

@@ -11,7 +11,7 @@ use lib.ListN.{length, getD, set, length-set}
 use lib.Seq.{getD-set-same, getD-set-other}
 use borrow.Author.Tests.{ltb-true, ltb-false}
 use Rattle.blocks.proofs.BoolLaws.{byT}
-use Rattle.model.specs.Model.{remark}
+use Rattle.model.specs.Model.{remark, markCount}
 use Rattle.tree.specs.Tree.{slots, Node}
 use Rattle.layout.specs.Words.{
   place,
@@ -126,7 +126,7 @@ in-use-spares u le s = record {
   used = λ m lt z. u .used m (omega arith) (sym (s .shifts-are m lt) ∙ z);
 }
 
-pub in-use-remark : {ws ws′ : List ℕ} (s : WellFormed ws) (i m : ℕ) (b : Bool) → m < 3 →
+pub in-use-remark : {ws ws′ : List ℕ} (s : WellFormed ws) (i m : ℕ) (b : Bool) → m < markCount →
     ws′ ≡ render (remark (s .list) i m b) (s .places) (s .n) → {low : ℕ} → InUse low ws → InUse low ws′
 in-use-remark {ws} {ws′} s i m b lt e {low} u = record {
   at-most = omega (

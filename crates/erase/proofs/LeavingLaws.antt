@@ -48,7 +48,20 @@ use Rattle.tree.proofs.StoreLaws.{within-only}
 use Rattle.tree.proofs.HeightLaws.{height-fits, fits-base, fits-order}
 use Rattle.tree.proofs.SlotLaws.{tier-up, node-empty, empty-node}
 use Rattle.tree.proofs.EraseLaws.{clear-slot-apart, clear-slot-inside, clear-slot-path, height-clear}
-use Rattle.layout.specs.Words.{fieldAt, ownerField, slotField, lastField, place, nodeWords, poolWords, maxNodes}
+use Rattle.layout.specs.Words.{
+  fieldAt,
+  ownerField,
+  slotField,
+  lastField,
+  place,
+  nodeWords,
+  poolWords,
+  maxNodes,
+  marksWord,
+  headWord,
+  countWord,
+  spareWord,
+}
 use Rattle.layout.proofs.OwnerLaws.{within-up, parent}
 use Rattle.layout.specs.WellFormed.{WellFormed, num}
 use Rattle.layout.proofs.NumberLaws.{nd}
@@ -211,7 +224,8 @@ module _ {ws₀ : List ℕ} (s : WellFormed ws₀) {i v n : ℕ} {ws : List ℕ}
   pub cut-fits : (place n lastField < length ws) × (n < maxNodes) × (v < topTier) × (length ws ≡ length ws₀)
   cut-fits =
       let h : n < s .n = node-at s (c .at-node) .0 in
-      let t : suc v ≤ 11 = has-low (s .list) (suc v) (block (tierOrder (suc v)) i) (s .valid) (c .at-node .there) in
+      let t : suc v ≤ topTier = has-low (s .list) (suc v) (block (tierOrder (suc v)) i) (s .valid) (c .at-node .there)
+      in
       (omega (arith, c .size), omega (arith, s .most), omega arith, c .size ∙ sym (pool-length s))
 
   cut-field : (f : ℕ) → f < nodeWords → getD ws (place n f) 0 ≡ fieldH (height (s .list)) (erase (s .list) i) (num s)
@@ -264,9 +278,10 @@ module _ {ws₀ : List ℕ} (s : WellFormed ws₀) {i v n : ℕ} {ws : List ℕ}
           (All-without (covers i) (each (s .list) (λ x m. m)))
 
   -- the words of the new list under the old head
-  make : {ws′ : List ℕ} → length ws′ ≡ length ws → getD ws′ 0 0 ≡ getD ws 0 0 →
-      getD ws′ 1 0 ≡ slot (erase (s .list) i) (num s) (height (s .list)) 0 → getD ws′ 2 0 ≡ getD ws 2 0 →
-      getD ws′ 3 0 ≡ getD ws 3 0 →
+  make : {ws′ : List ℕ} → length ws′ ≡ length ws → getD ws′ countWord 0 ≡ getD ws countWord 0 →
+      getD ws′ headWord 0 ≡ slot (erase (s .list) i) (num s) (height (s .list)) 0 →
+      getD ws′ marksWord 0 ≡ getD ws marksWord 0 →
+      getD ws′ spareWord 0 ≡ getD ws spareWord 0 →
       ((m f : ℕ) → m < s .n → f < nodeWords → getD ws′ (place m f) 0 ≡ tallAt (height (s .list)) (erase (s .list) i)
       (num s) (getD (s .places) m none) f) → Tall (s .n) (height (s .list)) (erase (s .list) i) (s .places) ws′
   unfolding has
@@ -305,7 +320,7 @@ module _ {ws₀ : List ℕ} (s : WellFormed ws₀) {i v n : ℕ} {ws : List ℕ}
       top : suc v ≤ height (s .list)
       top = has-tier (s .list) (suc v) (block (tierOrder (suc v)) i) (c .at-node .there) .1
 
-      head : getD ws 1 0 ≡ slot (erase (s .list) i) (num s) (height (s .list)) 0
+      head : getD ws headWord 0 ≡ slot (erase (s .list) i) (num s) (height (s .list)) 0
       head =
           let z : block (tierOrder (height (s .list))) i ≡ 0 = head-zero (s .list) (s .valid) i (c .entry)
           (c .covering-is) (c .unmarked) in
@@ -373,7 +388,7 @@ module _ {ws₀ : List ℕ} (s : WellFormed ws₀) {i v n : ℕ} {ws : List ℕ}
 
     -- (2) the head itself is empty
     pub cut-top : {ws′ : List ℕ} → getD ws (place n ownerField) 0 ≡ 0 → length ws′ ≡ length ws →
-        ((j : ℕ) → poolWords n ≤ j → j < place n nodeWords → getD ws′ j 0 ≡ 0) → getD ws′ 1 0 ≡ 0 →
+        ((j : ℕ) → poolWords n ≤ j → j < place n nodeWords → getD ws′ j 0 ≡ 0) → getD ws′ headWord 0 ≡ 0 →
         ((j : ℕ) → (poolWords n ≤ j → j < place n nodeWords → ⊥) → j ≢ 1 → getD ws′ j 0 ≡ getD ws j 0) →
         Tall (s .n) (height (s .list)) (erase (s .list) i) (s .places) ws′
     cut-top {ws′} own len zeros head rest =
@@ -558,7 +573,7 @@ module _ {ws₀ : List ℕ} (s : WellFormed ws₀) {i v n o : ℕ} (h : Holds (s
   pub run-fits : (place n lastField < length ws₀) × (n < maxNodes) × (o < slots) × (v < topTier)
   run-fits =
       let a : n < s .n = node-at s (h .at-node) .0 in
-      let t : suc v ≤ 11 = has-low (s .list) (suc v) (block (tierOrder (suc v)) (h .entry .base)) (s .valid)
+      let t : suc v ≤ topTier = has-low (s .list) (suc v) (block (tierOrder (suc v)) (h .entry .base)) (s .valid)
       (h .at-node .there) in
       (omega (arith, pool-length s), omega (arith, s .most), omega (arith, h .slot-is), omega arith)
 

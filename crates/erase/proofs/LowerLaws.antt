@@ -35,6 +35,11 @@ use Rattle.layout.specs.Words.{
   nodeWords,
   poolWords,
   maxNodes,
+  marksWord,
+  headWord,
+  countWord,
+  spareWord,
+  anchorWords,
 }
 use Rattle.layout.proofs.OwnerLaws.{within-up}
 use Rattle.layout.specs.Places.{Places, numberIn, numberOf, render, prune, keepIf}
@@ -97,7 +102,7 @@ module _ {n h : ℕ} {l : List Entry} {os : Places} {ws : List ℕ} (w : Tall n 
       same : (u b : ℕ) → u ≤ h → any (within (tierOrder u) b) l ≡ true → numberIn (prune l os) u b ≡ numberIn os u b
       same u b le t = spot-prune (nd u b) l os (rw (le-leb u (height l) (omega arith), t))
 
-      anchor : (k : ℕ) → k < 4 → getD ws k 0 ≡ anchorWord l (numberIn (prune l os)) n k
+      anchor : (k : ℕ) → k < anchorWords → getD ws k 0 ≡ anchorWord l (numberIn (prune l os)) n k
       anchor zero lt = w .first
       anchor (suc zero) lt = w .head ∙ (sym (slot-num l (numberIn os) (numberIn (prune l os)) h 0
           (same h 0 (le-refl h))) ∙ ap (λ (x : ℕ). slot l (numberIn (prune l os)) x 0) (sym e))
@@ -175,7 +180,7 @@ tall-none {n} {h} {os} {ws} w = tall-words flat refl
 
 -- by the head's word
 module _ {n h : ℕ} {l : List Entry} {os : Places} {ws : List ℕ} (w : Tall n (suc h) l os ws) {x : ℕ} {k : Slot}
-    (r : x ≡ getD ws 1 0) (q : k ≡ slotOf x) where
+    (r : x ≡ getD ws headWord 0) (q : k ≡ slotOf x) where
   seen-head : View l (numberIn os) (suc h) 0 k
   seen-head = rw (q ∙ ap slotOf (r ∙ w .head)) (view l (numberIn os) (suc h) 0 (sorted-ok (w .valid)))
 
@@ -212,8 +217,9 @@ module _ {n h : ℕ} {l : List Entry} {os : Places} {ws : List ℕ} (w : Tall n 
       (any (within (tierOrder h) 0) l ≡ true) ⊎ (h ≡ 0) → height l ≤ h
   drop-fit z c = shrink l (w .valid) (low w) (numberIn os) h (w .fit) z c
 
-  pub drop : {ws′ : List ℕ} → height l ≤ h → length ws′ ≡ length ws → getD ws′ 0 0 ≡ getD ws 0 0 →
-      getD ws′ 1 0 ≡ slot l (numberIn os) h 0 → getD ws′ 2 0 ≡ getD ws 2 0 → getD ws′ 3 0 ≡ getD ws 3 0 →
+  pub drop : {ws′ : List ℕ} → height l ≤ h → length ws′ ≡ length ws → getD ws′ countWord 0 ≡ getD ws countWord 0 →
+      getD ws′ headWord 0 ≡ slot l (numberIn os) h 0 → getD ws′ marksWord 0 ≡ getD ws marksWord 0 →
+      getD ws′ spareWord 0 ≡ getD ws spareWord 0 →
       ((f : ℕ) → f < nodeWords → getD ws′ (place (numberIn os (suc h) 0) f) 0 ≡ 0) →
       (any (within (tierOrder h) 0) l ≡ true → getD ws′ (place (numberIn os h 0) ownerField) 0 ≡ 0) →
       ((m f : ℕ) → m < n → f < nodeWords → (m ≡ numberIn os (suc h) 0 → ⊥) →
@@ -399,7 +405,7 @@ module _ {k h : ℕ} {l : List Entry} {os : Places} {ws : List ℕ} (w₀ : Tall
 
       pub drop-child : (m : ℕ) → s ≡ Child m → {ws′ : List ℕ} → length ws′ ≡ length ws →
           ((j : ℕ) → poolWords n ≤ j → j < place n nodeWords → getD ws′ j 0 ≡ 0) →
-          (m ≢ n → getD ws′ (place m ownerField) 0 ≡ 0) → getD ws′ 1 0 ≡ x →
+          (m ≢ n → getD ws′ (place m ownerField) 0 ≡ 0) → getD ws′ headWord 0 ≡ x →
           ((j : ℕ) → (poolWords n ≤ j → j < place n nodeWords → ⊥) → j ≢ place m ownerField → j ≢ 1 →
           getD ws′ j 0 ≡ getD ws j 0) → Tall k (h - 1) l os ws′
       drop-child m e {ws′} len gone own head rest =
@@ -413,7 +419,7 @@ module _ {k h : ℕ} {l : List Entry} {os : Places} {ws : List ℕ} (w₀ : Tall
           (omega arith))
 
       pub drop-held : s ≡ Held → h ≡ 1 → {ws′ : List ℕ} → length ws′ ≡ length ws →
-          ((j : ℕ) → poolWords n ≤ j → j < place n nodeWords → getD ws′ j 0 ≡ 0) → getD ws′ 1 0 ≡ x →
+          ((j : ℕ) → poolWords n ≤ j → j < place n nodeWords → getD ws′ j 0 ≡ 0) → getD ws′ headWord 0 ≡ x →
           ((j : ℕ) → (poolWords n ≤ j → j < place n nodeWords → ⊥) → j ≢ 1 → getD ws′ j 0 ≡ getD ws j 0) →
           Tall k (h - 1) l os ws′
       drop-held e one {ws′} len gone head rest =
@@ -424,7 +430,7 @@ module _ {k h : ℕ} {l : List Entry} {os : Places} {ws : List ℕ} (w₀ : Tall
           (λ i f p lt a b. rest (place i f) (λ c d. a (omega (arith, num₁))) (omega arith))
 
 module _ {k h : ℕ} {l : List Entry} {os : Places} {ws : List ℕ} (w₀ : Tall k h l os ws) (pos : 1 ≤ h) {x : ℕ}
-    {s : Slot} (r : x ≡ getD ws 1 0) (q : s ≡ slotOf x) where
+    {s : Slot} (r : x ≡ getD ws headWord 0) (q : s ≡ slotOf x) where
   up₁ : suc (h - 1) ≡ h
   up₁ = omega arith
 

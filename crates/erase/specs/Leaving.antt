@@ -11,12 +11,13 @@ use Rattle.model.specs.declared.Entry.{Entry}
 use Rattle.model.specs.Model.{covering, erase}
 use Rattle.tree.specs.Tree.{height, Node, tierOrder}
 use Rattle.tree.specs.Slots.{Numbering}
-use Rattle.layout.specs.Words.{anchorWord, nodeWords, place, poolWords}
+use Rattle.layout.specs.Words.{anchorWord, nodeWords, place, poolWords, anchorWords}
 use Rattle.layout.specs.WellFormed.{WellFormed, num}
 use Rattle.lookup.specs.Views.{AtNode, Holds}
 use Rattle.erase.specs.Tall.{fieldH, tallAt}
 
--- nodes of the tiers up to v have the words of l′, or are free; those of the next have the words of l′; the others those of l
+-- nodes of the tiers up to v have the words of l′, or are free; those of the next have the words of l′; the others
+-- those of l
 module _ (l l′ : List Entry) (ν : Numbering) (v : ℕ) where
   abbrev pub cutAt : Option Node → ℕ → ℕ
   cutAt none f = 0
@@ -36,7 +37,7 @@ pub record Cut {ws₀ : List ℕ} (s : WellFormed ws₀) (i v n : ℕ) (ws : Lis
   pub low : entry .order < tierOrder (suc v)
   pub at-node : AtNode (s .list) (num s) v (block (tierOrder (suc v)) i) n
   pub size : length ws ≡ poolWords (s .n)
-  pub anchor : (k : ℕ) → k < 4 → getD ws k 0 ≡ anchorWord (s .list) (num s) (s .n) k
+  pub anchor : (k : ℕ) → k < anchorWords → getD ws k 0 ≡ anchorWord (s .list) (num s) (s .n) k
   pub node : (m f : ℕ) → m < s .n → f < nodeWords → getD ws (place m f) 0 ≡ cutAt (s .list) (erase (s .list) i)
       (num s) v (getD (s .places) m none) f
 

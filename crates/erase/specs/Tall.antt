@@ -14,7 +14,18 @@ use Rattle.model.specs.Model.{Valid, within, marksOf}
 use Rattle.tree.specs.Slots.{slot, Numbering}
 use Rattle.tree.specs.Tree.{slotMark, height, Node, tierOrder, slots, topTier}
 use Rattle.layout.specs.Places.{Places, numberIn, standing, render, prune}
-use Rattle.layout.specs.Words.{place, nodeWords, shiftWord, poolWords, maxNodes, ownerWord}
+use Rattle.layout.specs.Words.{
+  place,
+  nodeWords,
+  shiftWord,
+  poolWords,
+  maxNodes,
+  ownerWord,
+  marksWord,
+  headWord,
+  countWord,
+  spareWord,
+}
 
 module _ (h : ℕ) (l : List Entry) (ν : Numbering) where
   abbrev pub ownerH : ℕ → ℕ → ℕ
@@ -44,10 +55,10 @@ pub record Tall (n h : ℕ) (l : List Entry) (os : Places) (ws : List ℕ) : Typ
   pub once : Distinct (standing os)
   pub full : (p : Node) → stays h l (numberIn os) p ≡ true → In p (standing os)
   pub size : length ws ≡ poolWords n
-  pub first : getD ws 0 0 ≡ n
-  pub head : getD ws 1 0 ≡ slot l (numberIn os) h 0
-  pub marks : getD ws 2 0 ≡ marksOf l
-  pub last : getD ws 3 0 ≡ 0
+  pub first : getD ws countWord 0 ≡ n
+  pub head : getD ws headWord 0 ≡ slot l (numberIn os) h 0
+  pub marks : getD ws marksWord 0 ≡ marksOf l
+  pub last : getD ws spareWord 0 ≡ 0
   pub node : (m f : ℕ) → m < n → f < nodeWords → getD ws (place m f) 0 ≡ tallAt h l (numberIn os) (getD os m none) f
 
 -- some list stands so

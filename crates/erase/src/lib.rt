@@ -46,6 +46,7 @@ pub struct Erased {
     pub low: u64,
 }
 
+// The lesser of two numbers.
 fn least(a: u64, b: u64) -> u64
     ensures { λ r. ⌜ r ≡ min a b ⌝ }
 {
@@ -75,6 +76,7 @@ fn vacant(pool: &[u64], n: u64, o: u64) -> bool
 
 // FREEING A NODE
 
+// All words of node n become 0.
 fn free_node(pool: &mut [u64], n: u64)
     requires { do ⌜ place n lastField < (← ⟦pool.len()⟧) ⌝ }
     ensures { λ _. ⌜ now (pool .exit) ≡ filled (now (pool .entry)) (poolWords n) 0 nodeWords ⌝ }

@@ -18,7 +18,7 @@ use Rattle.blocks.proofs.BoolLaws.{byT, both-r}
 use Rattle.blocks.proofs.ListLaws.{All-map, look}
 use Rattle.blocks.proofs.BitLaws.{bits-read}
 use Rattle.model.specs.declared.Entry.{Entry}
-use Rattle.model.specs.Model.{Valid, covering, within, hasMark, remark}
+use Rattle.model.specs.Model.{Valid, covering, within, hasMark, remark, markCount}
 use Rattle.model.proofs.ValidLaws.{sorted-ok, covers-self}
 use Rattle.tree.specs.Tree.{slotMark, has, height, Node, slots, tierOrder, topTier}
 use Rattle.tree.specs.Slots.{Numbering}
@@ -37,6 +37,8 @@ use Rattle.layout.specs.Words.{
   place,
   ownerField,
   maxNodes,
+  marksWord,
+  anchorWords,
 }
 use Rattle.layout.proofs.OwnerLaws.{parent}
 use Rattle.layout.specs.Places.{render}
@@ -69,11 +71,11 @@ module _ (l l′ : List Entry) (ν : Numbering) (v : ℕ) where
 
 pub record Hybrid {ws₀ : List ℕ} (s : WellFormed ws₀) (l′ : List Entry) (v : ℕ) (ws : List ℕ) : Type 0 where
   pub size : length ws ≡ poolWords (s .n)
-  pub anchor : (k : ℕ) → k < 4 → getD ws k 0 ≡ anchorWord (s .list) (num s) (s .n) k
+  pub anchor : (k : ℕ) → k < anchorWords → getD ws k 0 ≡ anchorWord (s .list) (num s) (s .n) k
   pub node : (m k : ℕ) → m < s .n → k < nodeWords → getD ws (place m k) 0 ≡ mixed (s .list) l′ (num s) v
       (getD (s .places) m none) k
 
-module _ {ws₀ : List ℕ} (s : WellFormed ws₀) (i m : ℕ) (m< : m < 3) (b : Bool) (e : Entry)
+module _ {ws₀ : List ℕ} (s : WellFormed ws₀) (i m : ℕ) (m< : m < markCount) (b : Bool) (e : Entry)
     (q : covering (s .list) i ≡ some e) where
   abbrev l : List Entry
   l = s .list
@@ -146,7 +148,8 @@ module _ {ws₀ : List ℕ} (s : WellFormed ws₀) (i m : ℕ) (m< : m < 3) (b :
 
           here : (n′ k : ℕ) → n′ ≡ n → k ≡ 2 + m → getD (set ws (place n (markField + m))
               (setBit (block (tierOrder v) (e .base) % slots) (slotMark l′ m v (block (tierOrder v) (e .base)))
-              (getD ws (place n (markField + m)) 0))) (place n′ k) 0 ≡ mixed l l′ ν (suc v) (getD (s .places) n′ none) k
+              (getD ws (place n (markField + m)) 0))) (place n′ k) 0 ≡ mixed l l′ ν (suc v) (getD (s .places) n′ none)
+              k
           here n′ k z₁ z₂ =
               rw (z₁, z₂, n< .1, le-leb (suc v) (suc v) (le-refl (suc v)))
               (getD-set-same ws (place n (markField + m))
@@ -234,12 +237,12 @@ module _ {ws₀ : List ℕ} (s : WellFormed ws₀) (i m : ℕ) (m< : m < 3) (b :
 
   pub hybrid-end : {u : ℕ} {ws : List ℕ} → Hybrid s l′ u ws → u ≡ height l → (t : Bool) →
       t ≡ slotMark l′ m u (block (tierOrder u) (e .base)) →
-      set ws 2 (setBit m t (getD ws 2 0)) ≡ render l′ (s .places) (s .n)
+      set ws marksWord (setBit m t (getD ws marksWord 0)) ≡ render l′ (s .places) (s .n)
   hybrid-end {u} {ws} hy top t tq =
-      render-is l′ (s .places) (s .n) (set ws 2 x) (length-set ws 2 x ∙ hy .size) anchor node
+      render-is l′ (s .places) (s .n) (set ws marksWord x) (length-set ws marksWord x ∙ hy .size) anchor node
     where
       x : ℕ
-      x = setBit m t (getD ws 2 0)
+      x = setBit m t (getD ws marksWord 0)
 
       low : All Low l
       low = All-map (λ x o. (o .order-le, o .in-range)) (sorted-ok (s .valid))
@@ -250,19 +253,21 @@ module _ {ws₀ : List ℕ} (s : WellFormed ws₀) (i m : ℕ) (m< : m < 3) (b :
       marked : t ≡ any (hasMark m) l′
       marked = tq ∙ (ap₂ (slotMark l′ m) top flat ∙ mark-top l (s .valid) i e q m m< b)
 
-      anchor : (k : ℕ) → k < 4 → getD (set ws 2 (setBit m t (getD ws 2 0))) k 0 ≡ anchorWord l′ ν (s .n) k
+      anchor : (k : ℕ) → k < anchorWords → getD (set ws marksWord (setBit m t (getD ws marksWord 0))) k 0 ≡ anchorWord
+          l′ ν (s .n) k
       anchor k h =
           byT (eqb k 2)
           (λ f. let z : k ≡ 2 = eqb-true _ _ f in
-          rw z (getD-set-same ws 2 (setBit m t (getD ws 2 0)) 0 (omega (arith, hy .size)) ∙
+          rw z (getD-set-same ws 2 (setBit m t (getD ws marksWord 0)) 0 (omega (arith, hy .size)) ∙
           (ap₂ (setBit m) marked (hy .anchor 2 (omega arith)) ∙ marks-on l (s .valid) i e q m m< b)))
           (λ f. let z : k ≡ 2 → ⊥ = eqb-false _ _ f in
-          getD-set-other ws 2 k (setBit m t (getD ws 2 0)) 0 z ∙
+          getD-set-other ws 2 k (setBit m t (getD ws marksWord 0)) 0 z ∙
           (hy .anchor k h ∙ sym (anchor-off l (s .valid) i e q m m< b ν (s .n) k z)))
 
-      node : (n k : ℕ) → n < s .n → k < nodeWords → getD (set ws 2 (setBit m t (getD ws 2 0))) (place n k) 0 ≡ fieldAt
+      node : (n k : ℕ) → n < s .n → k < nodeWords → getD (set ws marksWord (setBit m t (getD ws marksWord 0)))
+          (place n k) 0 ≡ fieldAt
           l′ ν (getD (s .places) n none) k
-      node n k p h = getD-set-other ws 2 (place n k) (setBit m t (getD ws 2 0)) 0 (omega arith) ∙
+      node n k p h = getD-set-other ws 2 (place n k) (setBit m t (getD ws marksWord 0)) 0 (omega arith) ∙
           (hy .node n k p h ∙ go (getD (s .places) n none) refl)
         where
           go : (o : Option Node) → getD (s .places) n none ≡ o → mixed l l′ ν u o k ≡ fieldAt l′ ν o k
@@ -271,7 +276,7 @@ module _ {ws₀ : List ℕ} (s : WellFormed ws₀) (i m : ℕ) (m< : m < 3) (b :
               (arith, has-tier l (p .tier) (p .number) (place-of s n p r .1) .1))) refl
 
 -- where the mark of the path's slot does not change, the rest is as it is to be
-module _ {ws₀ : List ℕ} (s : WellFormed ws₀) (i m : ℕ) (m< : m < 3) (b : Bool) (e : Entry)
+module _ {ws₀ : List ℕ} (s : WellFormed ws₀) (i m : ℕ) (m< : m < markCount) (b : Bool) (e : Entry)
     (q : covering (s .list) i ≡ some e) where
   pub hybrid-same : {v : ℕ} {ws : List ℕ} → Hybrid s (remark (s .list) i m b) v ws →
       slotMark (remark (s .list) i m b) m v (block (tierOrder v) (e .base)) ≡ slotMark (s .list) m v
@@ -279,7 +284,7 @@ module _ {ws₀ : List ℕ} (s : WellFormed ws₀) (i m : ℕ) (m< : m < 3) (b :
   hybrid-same {v} {ws} hy same = render-is (remark (s .list) i m b) (s .places) (s .n) ws (hy .size) anchor
       (λ n k p h. hy .node n k p h ∙ go n k h (getD (s .places) n none) refl)
     where
-      anchor : (k : ℕ) → k < 4 → getD ws k 0 ≡ anchorWord (remark (s .list) i m b) (num s) (s .n) k
+      anchor : (k : ℕ) → k < anchorWords → getD ws k 0 ≡ anchorWord (remark (s .list) i m b) (num s) (s .n) k
       anchor k h =
           byT (eqb k 2)
           (λ f. let z : k ≡ 2 = eqb-true _ _ f in
@@ -328,7 +333,7 @@ has-low l u b val t =
           (All-map (λ x o. fits-most x (o .order-le, o .in-range)) (sorted-ok val)),
     )
 
-module _ {ws₀ : List ℕ} (s : WellFormed ws₀) {i m : ℕ} (m< : m < 3) {on : Bool} where
+module _ {ws₀ : List ℕ} (s : WellFormed ws₀) {i m : ℕ} (m< : m < markCount) {on : Bool} where
   pub climb-start : {v n o : ℕ} → Holds (s .list) (num s) i n v o → Climbing s i m on v n o on ws₀
   climb-start {v} h = record {
     entry = h .entry;
@@ -343,7 +348,7 @@ module _ {ws₀ : List ℕ} (s : WellFormed ws₀) {i m : ℕ} (m< : m < 3) {on 
     pub climb-bounds : Bounds ws₀ ws n v o
     climb-bounds =
         let h : n < s .n = node-at s (a .at-node) .0 in
-        let t : suc v ≤ 11 = has-low (s .list) (suc v) (block (tierOrder (suc v)) (a .entry .base)) (s .valid)
+        let t : suc v ≤ topTier = has-low (s .list) (suc v) (block (tierOrder (suc v)) (a .entry .base)) (s .valid)
         (a .at-node .there) in
         record {
           node-lt = omega (arith, s .most);
@@ -373,7 +378,8 @@ module _ {ws₀ : List ℕ} (s : WellFormed ws₀) {i m : ℕ} (m< : m < 3) {on 
               words-are = climb-put;
             }
 
-        pub climb-end : p ≡ 0 → set ws′ 2 (setBit m b′ (getD ws′ 2 0)) ≡ render (remark (s .list) i m on) (s .places)
+        pub climb-end : p ≡ 0 → set ws′ marksWord (setBit m b′ (getD ws′ marksWord 0)) ≡ render
+            (remark (s .list) i m on) (s .places)
             (s .n)
         climb-end z =
             hybrid-end s i m m< on (a .entry) (a .covering-is) climb-put

@@ -29,7 +29,19 @@ use Rattle.blocks.proofs.ListLaws.{
 use Rattle.blocks.proofs.BlockLaws.{block-up}
 use Rattle.blocks.proofs.BitLaws.{bits-read, bits-same}
 use Rattle.model.specs.declared.Entry.{Entry}
-use Rattle.model.specs.Model.{Valid, covers, covering, starts, within, hasMark, marksOf, withMark, remark, erase}
+use Rattle.model.specs.Model.{
+  Valid,
+  covers,
+  covering,
+  starts,
+  within,
+  hasMark,
+  marksOf,
+  withMark,
+  remark,
+  erase,
+  markCount,
+}
 use Rattle.model.proofs.ValidLaws.{covers-self, sorted-ok, unique}
 use Rattle.tree.specs.Slots.{slot, entryWord, Numbering, nodeWord}
 use Rattle.tree.specs.Tree.{slotMark, has, height, slots, tierOrder}
@@ -94,7 +106,7 @@ module _ (l : List Entry) (val : Valid l) (i : ℕ) (e : Entry) (q : covering l 
   unfolding slotMark
   mark-old m u c = one-apart (λ x. both (starts (tierOrder u) c x) (hasMark m x))
 
-  module _ (m : ℕ) (m< : m < 3) (b : Bool) where
+  module _ (m : ℕ) (m< : m < markCount) (b : Bool) where
     abbrev f : Entry → Entry
     f = withMark i m b
 
@@ -131,14 +143,14 @@ module _ (l : List Entry) (val : Valid l) (i : ℕ) (e : Entry) (q : covering l 
         rw entry-covers (ap₂ (λ (t : Bool) (x : ℕ). setBit m t x) t
         (sym (marks-bits e (look (sorted-ok val) entry-in .marks-fit))) ∙ w)
 
-    pub has-new : (k : ℕ) → k < 3 → hasMark k (f e) ≡ pick (eqb k m) b (hasMark k e)
+    pub has-new : (k : ℕ) → k < markCount → hasMark k (f e) ≡ pick (eqb k m) b (hasMark k e)
     has-new k h =
         let r : bit k (f e .marks) ≡ pick (pick (eqb k m) b (hasMark k e)) 1 0 = ap (bit k) new-marks ∙ bits-read
         (λ j. pick (eqb j m) b (hasMark j e)) 3 k h in
         byT (pick (eqb k m) b (hasMark k e)) (λ t. rw t (eq-eqb _ _ (r ∙ rw t)))
         (λ t. rw t (ne-eqb _ _ (λ z. let y : 1 ≡ 0 = sym z ∙ (r ∙ rw t) in omega arith)))
 
-    pub mark-off : (k u c : ℕ) → k < 3 → (k ≡ m → c ≡ block (tierOrder u) (e .base) → ⊥) →
+    pub mark-off : (k u c : ℕ) → k < markCount → (k ≡ m → c ≡ block (tierOrder u) (e .base) → ⊥) →
         slotMark l′ k u c ≡ slotMark l k u c
     mark-off k u c h ne =
         mark-new k u c ∙ (ap (λ (t : Bool). either t (slotMark (erase l i) k u c)) own ∙ sym (mark-old k u c))

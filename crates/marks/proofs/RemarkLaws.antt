@@ -15,7 +15,19 @@ use Rattle.blocks.specs.Lists.{All, there, end, also}
 use Rattle.blocks.proofs.ListLaws.{first-yes, each, first-no}
 use Rattle.blocks.proofs.BitLaws.{bits-lt}
 use Rattle.model.specs.declared.Entry.{Entry}
-use Rattle.model.specs.Model.{Sorted, done, more, covers, covering, hasMark, withMark, remark, erase, covered}
+use Rattle.model.specs.Model.{
+  Sorted,
+  done,
+  more,
+  covers,
+  covering,
+  hasMark,
+  withMark,
+  remark,
+  erase,
+  covered,
+  markCount,
+}
 use Rattle.model.specs.declared.Covered.the-variants.{Nothing, By}
 use Rattle.tree.specs.Tree.{height, Node, tierOrder}
 use Rattle.tree.proofs.RelabelLaws.{mapO, covering-map, has-map, new-nodes-map}
@@ -27,9 +39,10 @@ use Rattle.lookup.specs.Views.{Holds}
 use Rattle.marks.proofs.BitSetLaws.{set-bits, marks-bits}
 use Rattle.marks.proofs.HybridLaws.{hybrid-start, hybrid-end}
 use Rattle.marks.proofs.MarkLaws.{mark-entry}
+use Rattle.layout.specs.Words.{marksWord}
 
 -- A MARK CHANGED: still a list, at the same places
-set-small : (w m : ℕ) (b : Bool) → w < 8 → m < 3 → setBit m b w < 8
+set-small : (w m : ℕ) (b : Bool) → w < 8 → m < markCount → setBit m b w < 8
 set-small w m b h lt =
     let e : Entry = record { base = 0; order = 0; word = 0; marks = w } in
     let g : ℕ → Bool = λ j. pick (eqb j m) b (hasMark j e) in
@@ -39,7 +52,8 @@ set-small w m b h lt =
     let q : setBit m b w ≡ bitsTo g 3 = ap₂ (λ (t : Bool) (x : ℕ). setBit m t x) t (sym (marks-bits e h)) ∙ p in
     subst (λ (x : ℕ). x < 8) (sym q) (bits-lt g 3)
 
-pub sorted-remark : (i m : ℕ) (b : Bool) → m < 3 → {n : ℕ} {l : List Entry} → Sorted n l → Sorted n (remark l i m b)
+pub sorted-remark : (i m : ℕ) (b : Bool) → m < markCount → {n : ℕ} {l : List Entry} → Sorted n l →
+    Sorted n (remark l i m b)
 sorted-remark i m b lt done = done
 sorted-remark i m b lt (more {e} h ok s) = more {e = withMark i m b e} h (record {
   order-le = ok .order-le;
@@ -57,7 +71,7 @@ module _ (i m : ℕ) (b : Bool) where
   pub fo : (x : Entry) → withMark i m b x .order ≡ x .order
   fo x = refl
 
-  abbrev pub formed-remark : m < 3 → {ws ws′ : List ℕ} (s : WellFormed ws) →
+  abbrev pub formed-remark : m < markCount → {ws ws′ : List ℕ} (s : WellFormed ws) →
       ws′ ≡ render (remark (s .list) i m b) (s .places) (s .n) → WellFormed ws′
   formed-remark lt s e = record {
     n = s .n;
@@ -97,9 +111,9 @@ words-none s i m b q = s .words-are ∙ ap (λ (l : List Entry). render l (s .pl
     (sym (remark-none (s .list) i m b q))
 
 -- an entry as head
-pub bare-mark : {ws : List ℕ} (s : WellFormed ws) (i m : ℕ) (b : Bool) → m < 3 → (e : Entry) →
+pub bare-mark : {ws : List ℕ} (s : WellFormed ws) (i m : ℕ) (b : Bool) → m < markCount → (e : Entry) →
     covering (s .list) i ≡ some e → height (s .list) ≡ 0 →
-    set ws 2 (setBit m b (getD ws 2 0)) ≡ render (remark (s .list) i m b) (s .places) (s .n)
+    set ws marksWord (setBit m b (getD ws marksWord 0)) ≡ render (remark (s .list) i m b) (s .places) (s .n)
 bare-mark s i m b m< e q z =
     hybrid-end s i m m< b e q (hybrid-start s i m m< b e q 0 (omega arith)) (sym z) b
     (sym (mark-entry (s .list) (s .valid) i e q m m< b 0 (omega arith)))

@@ -28,6 +28,7 @@ ghost use Rattle.layout.specs.WellFormed.{WellFormed, num};
 ghost use Rattle.lookup.specs.Views.{Holds};
 ghost use Rattle.marks.specs.Climb.{StandsAt};
 
+// Whether any slot of a node has the mark, by its mark word.
 fn nonzero(w: u64) -> bool
     ensures { λ r. ⌜ r ≡ not (eqb w 0) ⌝ }
 {

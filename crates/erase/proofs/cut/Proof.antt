@@ -69,7 +69,8 @@ returns c = let a = c .before .before .before .before .before .before .prune-up 
             (c .before .before .before .before .before .before .before .before .before .before .cut-run .ensures .1 _)
             (a .1 .0)) (b .1 .0),
         λ s h un z. b .1 .1 (s .n) (erase (s .list) (c .before .before .before .before .before .before .before .before
-            .before .before .before .before .before .args .i)) (s .places) (tall (c .before .before .before) s h un z),
+            .before .before .before .before .before .args .i)) (s .places)
+            (tall (c .before .before .before) s h un z),
       ),
     )
 

@@ -13,60 +13,47 @@ use borrow.Author.Needs.{needs}
 use Rattle.erase.proofs.remove.Statement.{statement}
 use Rattle.erase.proofs.remove.Tie as tie
 
--- the pool after each climb
-abbrev first : (c : tie.After-climb-arg2) (s : WellFormed
-    (c .before .before .before .before .before .before .args .pool .now)) → Holds (s .list) (num s)
-    (c .before .before .before .before .before .before .args .i)
+-- the entry stands at its spot, in the words that a list prescribes
+abbrev At : (c : tie.After-climb-arg2) → WellFormed (c .before .before .before .before .before .before .args .pool
+    .now) → Type 0
+At c s =
+    Holds (s .list) (num s) (c .before .before .before .before .before .before .args .i)
     (c .before .before .before .before .before .before .args .at .node)
     (c .before .before .before .before .before .before .args .at .tier)
-    (c .before .before .before .before .before .before .args .at .slot) →
+    (c .before .before .before .before .before .before .args .at .slot)
+
+-- the pool after each climb
+abbrev first : (c : tie.After-climb-arg2) (s : WellFormed
+    (c .before .before .before .before .before .before .args .pool .now)) → At c s →
     WellFormed (c .before .before .before .climb .last .0)
 first c s h = formed-remark (c .before .before .before .before .before .before .args .i) 0 false (lit< tt) s
     (c .before .before .before .climb .ensures s h)
 
 abbrev second : (c : tie.After-climb-arg3) (s : WellFormed
     (c .before .before .before .before .before .before .before .before .before .before .args .pool .now)) →
-    Holds (s .list) (num s)
-    (c .before .before .before .before .before .before .before .before .before .before .args .i)
-    (c .before .before .before .before .before .before .before .before .before .before .args .at .node)
-    (c .before .before .before .before .before .before .before .before .before .before .args .at .tier)
-    (c .before .before .before .before .before .before .before .before .before .before .args .at .slot) →
+    At (c .before .before .before .before) s →
     WellFormed (c .before .before .before .climb2 .last .0)
 second c s h =
-    formed-remark (c .before .before .before .before .before .before .before .before .before .before .args .i) 1 false
-    (lit< tt) (first (c .before .before .before .before) s h)
+    let i = c .before .before .before .before .before .before .before .before .before .before .args .i in
+    formed-remark i 1 false (lit< tt) (first (c .before .before .before .before) s h)
     (c .before .before .before .climb2 .ensures (first (c .before .before .before .before) s h)
-    (holds-remark (c .before .before .before .before .before .before .before .before .before .before .args .i) 0
-    false h))
+    (holds-remark i 0 false h))
 
 abbrev third : (c : tie.After-cut-arg) (s : WellFormed
     (c .before .before .before .before .before .before .before .before .before .before .before .before .before .before
-    .args .pool .now)) → Holds (s .list) (num s)
-    (c .before .before .before .before .before .before .before .before .before .before .before .before .before .before
-    .args .i) (c .before .before .before .before .before .before .before .before .before .before .before .before
-    .before .before .args .at .node) (c .before .before .before .before .before .before .before .before .before
-    .before .before .before .before .before .args .at .tier)
-    (c .before .before .before .before .before .before .before .before .before .before .before .before .before
-    .before .args .at .slot) →
+    .args .pool .now)) → At (c .before .before .before .before .before .before .before .before) s →
     WellFormed (c .before .before .before .climb3 .last .0)
 third c s h =
-    formed-remark (c .before .before .before .before .before .before .before .before .before .before .before .before
-    .before .before .args .i) 2 false (lit< tt) (second (c .before .before .before .before) s h)
+    let i = c .before .before .before .before .before .before .before .before .before .before .before .before .before
+    .before .args .i in
+    formed-remark i 2 false (lit< tt) (second (c .before .before .before .before) s h)
     (c .before .before .before .climb3 .ensures (second (c .before .before .before .before) s h)
-    (holds-remark (c .before .before .before .before .before .before .before .before .before .before .before
-    .before .before .before .args .i) 1 false (holds-remark
-    (c .before .before .before .before .before .before .before .before .before .before .before .before .before
-    .before .args .i) 0 false h)))
+    (holds-remark i 1 false (holds-remark i 0 false h)))
 
 -- the entry is still at its spot
 held : (c : tie.After-cut-arg) (s : WellFormed (c .before .before .before .before .before .before .before .before
-    .before .before .before .before .before .before .args .pool .now)) (h : Holds (s .list) (num s)
-    (c .before .before .before .before .before .before .before .before .before .before .before .before .before .before
-    .args .i) (c .before .before .before .before .before .before .before .before .before .before .before .before
-    .before .before .args .at .node) (c .before .before .before .before .before .before .before .before .before
-    .before .before .before .before .before .args .at .tier)
-    (c .before .before .before .before .before .before .before .before .before .before .before .before .before
-    .before .args .at .slot)) →
+    .before .before .before .before .before .before .args .pool .now))
+    (h : At (c .before .before .before .before .before .before .before .before) s) →
     Holds (third c s h .list) (num (third c s h)) (c .before .before .before .before .before .before .before .before
     .before .before .before .before .before .before .args .i)
     (c .before .before .before .before .before .before .before .before .before .before .before .before .before
@@ -75,12 +62,8 @@ held : (c : tie.After-cut-arg) (s : WellFormed (c .before .before .before .befor
     (c .before .before .before .before .before .before .before .before .before .before .before .before .before .before
     .args .at .slot)
 held c s h =
-    holds-remark (c .before .before .before .before .before .before .before .before .before .before .before .before
-    .before .before .args .i) 2 false
-    (holds-remark (c .before .before .before .before .before .before .before .before .before .before .before .before
-    .before .before .args .i) 1 false (holds-remark
-    (c .before .before .before .before .before .before .before .before .before .before .before .before .before
-    .before .args .i) 0 false h))
+    let i = c .before .before .before .before .before .before .before .before .before .before .before .before .before
+    .before .args .i in holds-remark i 2 false (holds-remark i 1 false (holds-remark i 0 false h))
 
 climb-requires : tie.Need-climb-requires
 climb-requires c κs = search needs
@@ -101,7 +84,8 @@ climb-requires-3 c κs = let l = c .before .before .before .before .before .befo
       record {
         formed = second c (l .formed) (l .holds);
         holds = holds-remark (c .before .before .before .before .before .before .before .before .before .before .args
-            .i) 1 false (holds-remark (c .before .before .before .before .before .before .before .before .before .before
+            .i) 1 false (holds-remark (c .before .before .before .before .before .before .before .before .before
+            .before
             .args .i) 0 false (l .holds));
       },
     )
@@ -123,33 +107,28 @@ same-length : tie.Need-same-length
 same-length c = search needs
 
 returns : tie.Need-returns
-returns c = let l = c .before .before .before .before .before .before .before .before .before .before .before .before
-    .before .before .before .before .before .pre .1 in
+returns c =
+    let l = c .before .before .before .before .before .before .before .before .before .before .before .before .before
+    .before .before .before .before .pre .1 in
     let s₀ = l .formed in
     let h₀ = l .holds in
     let i = c .before .before .before .before .before .before .before .before .before .before .before .before .before
     .before .before .before .before .args .i in
-    let u₁ = in-use-remark s₀ i 0 false (lit< tt) (c .before .before .before .before .before .before .before .before
-    .before .before .before .before .before .before .climb .ensures s₀ h₀)
-    (c .before .before .before .before .before .before .before .before .before .before .before .before .before
-    .before .before .before .before .pre .0) in
     let s₁ = first (c .before .before .before .before .before .before .before .before .before .before .before) s₀ h₀
     in
-    let u₂ = in-use-remark s₁ i 1 false (lit< tt) (second (c .before .before .before .before .before .before .before)
-    s₀ h₀ .words-are) u₁ in
     let s₂ = second (c .before .before .before .before .before .before .before) s₀ h₀ in
-    let u₃ = in-use-remark s₂ i 2 false (lit< tt) (third (c .before .before .before) s₀ h₀ .words-are) u₂ in
+    let s₃ = third (c .before .before .before) s₀ h₀ in
+    let u₁ = in-use-remark s₀ i 0 false (lit< tt) (s₁ .words-are)
+    (c .before .before .before .before .before .before .before .before .before .before .before .before .before
+    .before .before .before .before .pre .0) in
+    let u₂ = in-use-remark s₁ i 1 false (lit< tt) (s₂ .words-are) u₁ in
+    let u₃ = in-use-remark s₂ i 2 false (lit< tt) (s₃ .words-are) u₂ in
     let e = c .before .before .cut .ensures in (
       in-use-spares u₃ (e .0) (e .1 .0),
       λ s h z.
           e .1 .1 (third (c .before .before .before) s h) (held (c .before .before .before) s h)
-          (all-off (s .list) (s .valid) (c .before .before .before .before .before .before .before .before .before
-          .before .before .before .before .before .before .before .before .args .i))
-          (bare-height (s .list) (c .before .before .before .before .before .before .before .before .before .before .before
-          .before .before .before .before .before .before .args .i) ∙ z) ∙
-          ap (λ (l : List Entry). render l (prune l (s .places)) (s .n))
-          (bare-erase (s .list) (c .before .before .before .before .before .before .before .before .before .before
-          .before .before .before .before .before .before .before .args .i)),
+          (all-off (s .list) (s .valid) i) (bare-height (s .list) i ∙ z) ∙
+          ap (λ (l : List Entry). render l (prune l (s .places)) (s .n)) (bare-erase (s .list) i),
     )
 
 pub remove-spec : {M : Type 1} → statement M

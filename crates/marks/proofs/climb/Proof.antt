@@ -80,46 +80,36 @@ sub-o c = omega arith
 add-v : tie.Need-add-v Inv-loop μ-loop
 add-v c = omega arith
 
+-- where the mark word stands
+abbrev word-at : tie.After-field-arg2 Inv-loop μ-loop → ℕ
+word-at c = place (c .before .before .before .before .before .before .before .before .before .before .loop .n)
+    (markField + c .before .before .before .before .before .before .before .before .before .before .before .before
+    .args .m)
+
 -- the mark word after the store, and the bit that goes up
 stored : (c : tie.After-field-arg2 Inv-loop μ-loop) → c .before .before .before .before .put .last .0 ≡
-    set (c .before .before .before .before .before .before .before .before .before .before .loop .pool)
-    (place (c .before .before .before .before .before .before .before .before .before .before .loop .n)
-    (markField + c .before .before .before .before .before .before .before .before .before .before .before .before
-    .args .m))
+    set (c .before .before .before .before .before .before .before .before .before .before .loop .pool) (word-at c)
     (setBit (c .before .before .before .before .before .before .before .before .before .before .loop .o)
     (c .before .before .before .before .before .before .before .before .before .before .loop .b)
     (getD (c .before .before .before .before .before .before .before .before .before .before .loop .pool)
-    (place (c .before .before .before .before .before .before .before .before .before .before .loop .n)
-    (markField + c .before .before .before .before .before .before .before .before .before .before .before .before
-    .args .m)) 0))
+    (word-at c) 0))
 stored c =
     c .before .before .before .before .put .ensures ∙
     ap (set (c .before .before .before .before .before .before .before .before .before .before .loop .pool)
-    (place (c .before .before .before .before .before .before .before .before .before .before .loop .n)
-    (markField + c .before .before .before .before .before .before .before .before .before .before .before .before
-    .args .m)))
+    (word-at c))
     (c .before .before .before .before .before .before .before .with-bit .ensures ∙ ap
     (setBit (c .before .before .before .before .before .before .before .before .before .before .loop .o)
     (c .before .before .before .before .before .before .before .before .before .before .loop .b))
     (c .before .before .before .before .before .before .before .before .field .ensures))
 
-bit-of : (c : tie.After-field-arg2 Inv-loop μ-loop) → c .before .nonzero .result ≡
-    not (eqb (getD (c .before .before .before .before .put .last .0)
-    (place (c .before .before .before .before .before .before .before .before .before .before .loop .n)
-    (markField + c .before .before .before .before .before .before .before .before .before .before .before .before
-    .args .m)) 0) 0)
+bit-of : (c : tie.After-field-arg2 Inv-loop μ-loop) →
+    c .before .nonzero .result ≡ not (eqb (getD (c .before .before .before .before .put .last .0) (word-at c) 0) 0)
 bit-of c =
-    let e : getD (c .before .before .before .before .put .last .0)
-    (place (c .before .before .before .before .before .before .before .before .before .before .loop .n)
-    (markField + c .before .before .before .before .before .before .before .before .before .before .before .before
-    .args .m)) 0 ≡ c .before .before .before .before .before .before .before .with-bit .result =
-    ap (λ (w : List ℕ). getD w (place (c .before .before .before .before .before .before .before .before .before
-    .before .loop .n) (markField + c .before .before .before .before .before .before .before .before .before
-    .before .before .before .args .m)) 0) (c .before .before .before .before .put .ensures) ∙
+    let e : getD (c .before .before .before .before .put .last .0) (word-at c) 0 ≡ c .before .before .before .before
+    .before .before .before .with-bit .result =
+    ap (λ (w : List ℕ). getD w (word-at c) 0) (c .before .before .before .before .put .ensures) ∙
     getD-set-same (c .before .before .before .before .before .before .before .before .before .before .loop .pool)
-    (place (c .before .before .before .before .before .before .before .before .before .before .loop .n)
-    (markField + c .before .before .before .before .before .before .before .before .before .before .before .before
-    .args .m)) (c .before .before .before .before .before .before .before .with-bit .result) 0
+    (word-at c) (c .before .before .before .before .before .before .before .with-bit .result) 0
     (omega (
       arith,
       c .before .before .before .before .before .before .before .before .before .before .loop .inv .0
