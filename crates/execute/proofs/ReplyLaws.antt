@@ -1,20 +1,27 @@
 -- What each command comes to, test by test as the code has them.
-use Prim.Native.Nat.{ℕ, _≤_, _<_}
+use Prim.Native.Nat.{ℕ, _-_, _≤_, _<_}
 use mathlib.Core.Path.{_≡_, refl, sym, ap, subst, _∙_}
-use mathlib.Core.Bool.{Bool, true, false}
+use mathlib.Core.Bool.{Bool, true, false, not}
 use mathlib.Core.Logic.{_≢_}
 use mathlib.Core.List.{List}
 use mathlib.Core.Option.{Option, none, some}
+use native.Mathlib.Omega.{arith}
+use lib.ListN.{length}
 use lib.Dec.{leb, ltb, eqb}
-use borrow.Author.Tests.{lt-ltb, le-ltb, le-leb, lt-leb, eq-eqb, ne-eqb}
+use borrow.Author.Tests.{leb-true, leb-false, lt-ltb, le-ltb, le-leb, lt-leb, eq-eqb, ne-eqb}
+use Rattle.blocks.proofs.BoolLaws.{byT, clash}
 use Rattle.model.specs.declared.Entry.{Entry}
-use Rattle.model.specs.Model.{covering, covered, erase, remark, markCount}
+use Rattle.model.specs.Model.{covering, covered, storable, maxOrder, store, erase, remark, markCount}
+use Rattle.tree.specs.Tree.{nodes, needed}
 use Rattle.marks.proofs.RemarkLaws.{places-remark}
-use Rattle.layout.specs.Places.{Places, newPlaces, prune, render}
+use Rattle.layout.specs.Places.{Places, newPlaces, prune, freeCount, render}
 use Rattle.layout.specs.WellFormed.{WellFormed}
+use Rattle.layout.proofs.PlacesLaws.{blank-places}
 use Rattle.layout.proofs.StayLaws.{same-places, places-prune}
 use Rattle.lookup.specs.Load.{load, loaded, depth}
 use Rattle.lookup.specs.Find.{anyMark, find}
+use Rattle.store.specs.declared.Stored.{Stored}
+use Rattle.store.specs.Stored.{Holding, Stores}
 use Rattle.batch.specs.declared.Command.{Command}
 use Rattle.batch.specs.declared.Command.the-variants.{Store, Load, Erase, Mark, Unmark, Find}
 use Rattle.batch.specs.declared.Reply.{Reply}
@@ -32,8 +39,15 @@ use Rattle.execute.specs.Execute.{
   firstAbove,
   noBudget,
 }
-use Rattle.execute.proofs.ExecuteLaws.{erase-new}
-use Rattle.execute.specs.Contracts.{coveredReply, loadedReply, replyTo, wordsTo, stateOf, Executes}
+use Rattle.execute.proofs.ExecuteLaws.{erase-new, short-11, enough-0}
+use Rattle.execute.specs.Contracts.{
+  coveredReply,
+  loadedReply,
+  storedReply,
+  replyTo,
+  wordsTo,
+  Executes,
+}
 
 -- REPLIES
 pub loaded-is : (t d : ℕ) (o : Option Entry) → loadedReply t (loaded d o) ≡ replyOf t d o
@@ -126,6 +140,49 @@ erases s i r w = record {
       (sym (places-prune (s .list) (erase (s .list) i) (s .places) (erase-new i (s .valid))));
 }
 
+-- A STORE
+module _ (n : ℕ) (l : List Entry) (i k w : ℕ) where
+  pub store-order : maxOrder < k → execute n l (Store i k w) ≡ refuse l 129 orderAbove
+  unfolding execute
+  store-order h = rw (lt-ltb maxOrder k h)
+
+  pub store-word : k ≤ maxOrder → storable w ≡ false → execute n l (Store i k w) ≡ refuse l 129 notStorable
+  unfolding execute
+  store-word h e = rw (le-ltb maxOrder k h, e)
+
+-- done, or short of nodes: exactly as the free nodes are enough
+pub stores : {ws ws′ : List ℕ} (s : WellFormed ws) (i k w : ℕ) {x : Stored} {q : Reply} → k ≤ maxOrder →
+    storable w ≡ true → Stores (s .n) (s .list) (s .places) (store (s .list) i k w) i ws ws′ x → q ≡ storedReply 129 x →
+    Executes s (Store i k w) q ws′
+stores {ws} {ws′} s i k w {x} {q} h t r e =
+    byT (leb (needed (s .list) l′) (freeCount (s .places))) (λ d. full (leb-true _ _ d)) (λ d. less (leb-false _ _ d))
+  where
+    l′ : List Entry
+    l′ = store (s .list) i k w
+
+    free : freeCount (s .places) ≡ s .n - length (nodes (s .list))
+    free = omega (arith, blank-places (s .n) (s .list) (s .places) (s .placed))
+
+    full : needed (s .list) l′ ≤ freeCount (s .places) → Executes s (Store i k w) q ws′
+    full d =
+        let o : Holding (s .n) (s .list) (s .places) l′ i ws′ x = r .done d in
+        let a : execute (s .n) (s .list) (Store i k w)
+        ≡ record { reply = replyOf 129 0 (covering l′ i); list = l′ } =
+        enough-0 (s .n) (s .list) i k w h t (omega (arith, free)) in
+        record {
+          reply-is =
+              e ∙ ap (storedReply 129) (o .outcome-is) ∙ sym (ap (replyOf 129 0) (o .covering-is))
+              ∙ sym (ap (λ (y : Executed). y .reply) a);
+          words-are = o .words-are ∙ sym (words-after s (Store i k w) (ap (λ (y : Executed). y .list) a));
+        }
+
+    less : freeCount (s .places) < needed (s .list) l′ → Executes s (Store i k w) q ws′
+    less d =
+        let (o, f) = r .short d in
+        subst (λ (v : List ℕ). Executes s (Store i k w) q v) (sym f)
+        (leaves s (Store i k w) (short-11 (s .n) (s .list) i k w h t (omega (arith, free)))
+        (e ∙ ap (storedReply 129) o))
+
 -- COMMANDS THAT ONLY READ
 pub leaves-words : {ws : List ℕ} (s : WellFormed ws) (c : Command) {q : Reply} →
     execute (s .n) (s .list) c .list ≡ s .list → q ≡ replyTo s c → Executes s c q ws
@@ -135,3 +192,12 @@ leaves-words s c {q} e r = leaves s c {r = replyTo s c} (λ i. record { reply = 
 pub by-command : {ws ws′ : List ℕ} (s : WellFormed ws) {c d : Command} {q : Reply} → c ≡ d → Executes s d q ws′ →
     Executes s c q ws′
 by-command {ws′ = ws′} s {q = q} e x = subst (λ (y : Command). Executes s y q ws′) (sym e) x
+
+-- A TEST THAT FAILED OR PASSED, as the code has it
+pub failed : (b : Bool) {a : Bool} → b ≡ a → not b ≡ true → a ≡ false
+failed true e t = absurd (clash t refl)
+failed false e t = sym e
+
+pub passed : (b : Bool) {a : Bool} → b ≡ a → not b ≡ false → a ≡ true
+passed true e t = sym e
+passed false e t = absurd (clash refl t)

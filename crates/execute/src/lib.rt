@@ -193,7 +193,10 @@ fn run_erase(pool: &mut [u64], index: u64, low: u64) -> Execution
     let e = erase::erase(pool, index, low);
     let c = e.entry;
     let next = e.low;
-    Execution { reply: covered_reply(ERASED, c), low: next }
+    Execution {
+        reply: covered_reply(ERASED, c),
+        low: next,
+    }
 }
 
 fn run_store(pool: &mut [u64], index: u64, order: u64, word: u64, low: u64) -> Execution
@@ -204,15 +207,24 @@ fn run_store(pool: &mut [u64], index: u64, order: u64, word: u64, low: u64) -> E
     ensures { λ r. ⌜ InUse (r .low) (now (pool .exit)) ⌝ }
 {
     if order > MAX_ORDER {
-        return Execution { reply: answered(STORED, ORDER_ABOVE, 0, 0), low: low };
+        return Execution {
+            reply: answered(STORED, ORDER_ABOVE, 0, 0),
+            low: low,
+        };
     }
     if !is_storable(word) {
-        return Execution { reply: answered(STORED, NOT_STORABLE, 0, 0), low: low };
+        return Execution {
+            reply: answered(STORED, NOT_STORABLE, 0, 0),
+            low: low,
+        };
     }
     let r = store::store(pool, index, order, word, low);
     let outcome = r.outcome;
     let next = r.low;
-    Execution { reply: stored_reply(outcome), low: next }
+    Execution {
+        reply: stored_reply(outcome),
+        low: next,
+    }
 }
 
 // One command: its reply, and the number below which every node is in use.
@@ -224,11 +236,25 @@ pub fn execute(pool: &mut [u64], c: Command, low: u64) -> Execution
 {
     match c {
         Command::Store { index, order, word } => run_store(pool, index, order, word, low),
-        Command::Load { index } => Execution { reply: run_load(pool, index), low: low },
+        Command::Load { index } => Execution {
+            reply: run_load(pool, index),
+            low: low,
+        },
         Command::Erase { index } => run_erase(pool, index, low),
-        Command::Mark { index, mark } => Execution { reply: run_mark(pool, index, mark), low: low },
-        Command::Unmark { index, mark } => Execution { reply: run_unmark(pool, index, mark), low: low },
-        Command::Find { first, last, filter, budget } => Execution {
+        Command::Mark { index, mark } => Execution {
+            reply: run_mark(pool, index, mark),
+            low: low,
+        },
+        Command::Unmark { index, mark } => Execution {
+            reply: run_unmark(pool, index, mark),
+            low: low,
+        },
+        Command::Find {
+            first,
+            last,
+            filter,
+            budget,
+        } => Execution {
             reply: run_find(pool, first, last, filter, budget),
             low: low,
         },

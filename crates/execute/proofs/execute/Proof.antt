@@ -76,15 +76,19 @@ same-length-4 : tie.Need-same-length-4
 same-length-4 c = search needs
 
 returns-4 : tie.Need-returns-4
-returns-4 c = ((λ s. by-command s (c .before .before .before .before .before .c4 .given .1) (c .before .before .run-mark .ensures .0 s)),
-    c .before .before .run-mark .ensures .1 _ (c .before .before .before .before .before .before .before .before .pre .1))
+returns-4 c = (
+  (λ s. by-command s (c .before .before .before .before .before .c4 .given .1) (c .before .before .run-mark .ensures .0 s)),
+  c .before .before .run-mark .ensures .1 _ (c .before .before .before .before .before .before .before .before .pre .1),
+)
 
 same-length-5 : tie.Need-same-length-5
 same-length-5 c = search needs
 
 returns-5 : tie.Need-returns-5
-returns-5 c = ((λ s. by-command s (c .before .before .before .before .before .c5 .given .1) (c .before .before .run-unmark .ensures .0 s)),
-    c .before .before .run-unmark .ensures .1 _ (c .before .before .before .before .before .before .before .before .pre .1))
+returns-5 c = (
+  (λ s. by-command s (c .before .before .before .before .before .c5 .given .1) (c .before .before .run-unmark .ensures .0 s)),
+  c .before .before .run-unmark .ensures .1 _ (c .before .before .before .before .before .before .before .before .pre .1),
+)
 
 same-length-6 : tie.Need-same-length-6
 same-length-6 c = search needs

@@ -19,8 +19,10 @@ same-length : tie.Need-same-length
 same-length c = search needs
 
 returns : tie.Need-returns
-returns c = ((λ s. erases s _ (c .covered-reply .ensures ∙ ap (coveredReply 131) (c .before .before .before .erase .ensures .0 s)) (c .before .before .before .erase .ensures .1 .0 s)),
-    c .before .before .before .erase .ensures .1 .1)
+returns c = (
+  (λ s. erases s _ (c .covered-reply .ensures ∙ ap (coveredReply 131) (c .before .before .before .erase .ensures .0 s)) (c .before .before .before .erase .ensures .1 .0 s)),
+  c .before .before .before .erase .ensures .1 .1,
+)
 
 pub run-erase-spec : {M : Type 1} → statement M
 run-erase-spec = tie.close (tie.spec erase-requires covered-reply-requires same-length returns)

@@ -32,11 +32,12 @@ same-length c = search needs
 returns-2 : tie.Need-returns-2
 returns-2 c =
     let made = c .before .before .before .set-mark .ensures in
-    let small = c .before .before .before .before .before .if1 .left in
-    ((λ s. remarks s (Mark _ _) 132 _ _ true (mark-runs (s .n) (s .list) _ _ small)
-    (c .covered-reply .ensures ∙ ap (coveredReply 132) (made .0 s)) (made .1 s)),
-    λ low u. let s = c .before .before .before .before .before .before .before .pre in
-    in-use-remark s _ _ true small (made .1 s) u)
+    let small = c .before .before .before .before .before .if1 .left in (
+      (λ s. remarks s (Mark _ _) 132 _ _ true (mark-runs (s .n) (s .list) _ _ small)
+          (c .covered-reply .ensures ∙ ap (coveredReply 132) (made .0 s)) (made .1 s)),
+      λ low u. let s = c .before .before .before .before .before .before .before .pre in
+          in-use-remark s _ _ true small (made .1 s) u,
+    )
 
 pub run-mark-spec : {M : Type 1} → statement M
 run-mark-spec =

@@ -1,3 +1,5 @@
+use mathlib.Core.Path.{sym, ap, _∙_}
+use Rattle.execute.specs.Contracts.{storedReply}
 use borrow.Author.Needs.{needs}
 use Rattle.execute.proofs.stored_reply.Statement.{statement}
 use Rattle.execute.proofs.stored_reply.Tie as tie
@@ -6,29 +8,23 @@ use Rattle.execute.proofs.stored_reply.Lts as lts
 use Rattle.execute.proofs.answered.Reads as answered-reads
 use Rattle.execute.proofs.answered_by.Reads as answered-by-reads
 
--- src/lib.rt:125:22
 enum-known-x : tie.Need-enum-known-x
 enum-known-x c = search needs
 
--- src/lib.rt:125:28
 answered-by-requires : tie.Need-answered-by-requires
 answered-by-requires c κs = search needs
 
--- src/lib.rt:126:26
 enum-told : tie.Need-enum-told
 enum-told c = search needs
 
--- src/lib.rt:126:26
 answered-requires : tie.Need-answered-requires
 answered-requires c κs = search needs
 
--- src/lib.rt:121:1
 returns : tie.Need-returns
-returns c = ?
+returns c = c .answered-by .ensures ∙ sym (ap (storedReply 129) (c .before .before .x .given .1))
 
--- src/lib.rt:121:1
 returns-2 : tie.Need-returns-2
-returns-2 c = ?
+returns-2 c = c .answered .ensures ∙ sym (ap (storedReply 129) (c .before .enum-told .given .1))
 
 pub stored-reply-spec : {M : Type 1} → statement M
 stored-reply-spec =
