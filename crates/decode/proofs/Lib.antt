@@ -14,3 +14,4 @@ pub mod PrescribedWords
 pub mod PlacesFor
 pub mod DecodeLaws
 pub mod DecideLaws
+pub mod Example
