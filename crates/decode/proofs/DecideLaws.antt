@@ -23,8 +23,8 @@ use Rattle.layout.specs.Decode.{listOf, placesOf}
 use Rattle.layout.specs.WellFormed.{Sized, Prescribed}
 use Rattle.layout.specs.Decide.{nodeCount, isSized, isEntry, isSorted, allStand, isPlaced, equal, isWellFormed}
 use Rattle.layout.proofs.PlacesLaws.{same-is, pigeon, all-places, blank-places}
-use Rattle.decode.proofs.Bridge.{same-self}
-use Rattle.decode.proofs.Decoded.{decode-list, decode-places}
+use Rattle.decode.proofs.PrescribedWords.{same-self}
+use Rattle.decode.proofs.DecodeLaws.{decode-list, decode-places}
 
 both-i : {a b : Bool} → a ≡ true → b ≡ true → both a b ≡ true
 both-i e d = rw (e, d)
@@ -60,7 +60,8 @@ entry-is {e} o =
     both-i (le-leb _ _ (o .order-le))
     (both-i (eq-eqb _ _ (o .aligned))
     (both-i (lt-ltb _ _ (o .in-range))
-    (both-i (T-true (storable (e .word)) (o .word-ok)) (both-i (lt-ltb _ _ (o .word-fits)) (lt-ltb _ _ (o .marks-fit))))))
+    (both-i (T-true (storable (e .word)) (o .word-ok))
+    (both-i (lt-ltb _ _ (o .word-fits)) (lt-ltb _ _ (o .marks-fit))))))
 
 is-entry : (e : Entry) → isEntry e ≡ true → EntryOk e
 is-entry e t =

@@ -1,6 +1,6 @@
 -- A device of these proofs: the tree of a list by restriction of the list to a block, level by level, and the words it
 -- prescribes. A list in a node's block is, slot by slot, what the words say, so that decoding and prescribing go by the
--- same recursion. That it is the tree of `Tree` on valid lists is shown in Agree.
+-- same recursion. That it is the tree of `Tree` on valid lists is shown in SameTree.
 use Prim.Native.Nat.{ℕ, zero, suc, _+_, _*_, _-_, _/_, _%_, _^_, _≤_, _<_}
 use mathlib.Core.Path.{_≡_}
 use mathlib.Core.Bool.{Bool, true, not}

@@ -245,12 +245,12 @@ fn used_from(pool: &[u64], n: u64, from: u64) -> bool
     requires { ⌜ HasNode n (now pool) ⌝ }
     ensures { λ r. ⌜ Decides r (UsedFrom (poolOf (now (pool .entry))) n from) ⌝ }
 {
-    let mut j = from;
-    while j < SLOTS {
-        if field(pool, n, SLOT_FIELD + j) != 0 {
+    let mut o = from;
+    while o < SLOTS {
+        if field(pool, n, SLOT_FIELD + o) != 0 {
             return true;
         }
-        j = j + 1;
+        o = o + 1;
     }
     false
 }

@@ -11,6 +11,7 @@ use Rattle.layout.specs.Decode.{listOf, placesOf}
 use Rattle.layout.specs.WellFormed.{Sized, Prescribed, WellFormed}
 use Rattle.layout.specs.Decide.{nodeCount, isSized, isWellFormed}
 use Rattle.decode.proofs.DecideLaws.{count-of, sized-is, is-sized, well-formed-is, is-well-formed}
+use Rattle.decode.proofs.DecodeLaws.{well-formed-sized, prescribed}
 use Rattle.verify.specs.Answers.{checkAnswer, Verdict, well-formed, wrong-size, malformed}
 
 pub not-sized : {ws : List ℕ} → ((n : ℕ) → Sized n ws → ⊥) → isSized ws ≡ false
@@ -41,6 +42,9 @@ pub prescribed-0 : {n : ℕ} {l : List Entry} {os : Places} {ws : List ℕ} → 
     checkAnswer ws ≡ 0
 prescribed-0 {ws = ws} s S =
     rw (sized-is s, subst (λ (k : ℕ). isWellFormed k ws ≡ true) (sym (count-of s)) (well-formed-is S))
+
+pub well-formed-0 : {ws : List ℕ} → WellFormed ws → checkAnswer ws ≡ 0
+well-formed-0 s = prescribed-0 (well-formed-sized s) (prescribed s)
 
 -- and then the decoded ones do
 pub passed : (ws : List ℕ) → checkAnswer ws ≡ 0 → (isSized ws ≡ true) × (isWellFormed (nodeCount ws) ws ≡ true)

@@ -14,14 +14,17 @@ use Rattle.blocks.proofs.BoolLaws.{byT, clash, both-no}
 use Rattle.model.specs.Model.{done}
 use Rattle.tree.specs.Tree.{Node, has}
 use Rattle.tree.specs.Slots.{slot}
-use Rattle.layout.specs.Words.{anchorWords, anchorWord, fieldAt, poolWords, place}
+use Rattle.layout.specs.Words.{anchorWords, anchorWord, fieldAt, poolWords, place, maxNodes}
 use Rattle.layout.specs.Places.{Places, standing, numberIn, render}
 use Rattle.layout.specs.Fill.{filled}
-use Rattle.layout.specs.WellFormed.{Sized, Prescribed}
+use Rattle.layout.specs.WellFormed.{Sized, Prescribed, WellFormed}
 use Rattle.layout.proofs.RenderLaws.{render-is}
+use Rattle.layout.specs.Decode.{listOf}
+use Rattle.layout.specs.Decide.{isSized, nodeCount}
 use Rattle.decode.proofs.DecideLaws.{count-of, sized-is}
+use Rattle.decode.proofs.DecodeLaws.{decode-list}
 use Rattle.verify.specs.Answers.{emptyPool, initAnswer, initWords, checkAnswer}
-use Rattle.verify.proofs.AnswerLaws.{not-sized, prescribed-0}
+use Rattle.verify.proofs.AnswerLaws.{not-sized, well-formed-0}
 
 -- WHAT THE CODE LEAVES
 module _ (ws : List ℕ) where
@@ -111,8 +114,27 @@ empty-prescribed n = record {
 pub empty-render : (n : ℕ) → emptyPool n ≡ render [] (replicate n none) n
 empty-render n = empty-prescribed n .words-are
 
-pub empty-sized : (n : ℕ) → 1 ≤ n → n ≤ 1000 → Sized n (emptyPool n)
-empty-sized n lo hi = record { size = empty-length n; least = lo; most = hi }
+module _ (n : ℕ) (lo : 1 ≤ n) (hi : n ≤ maxNodes) where
+  pub empty-well-formed : WellFormed (emptyPool n)
+  empty-well-formed =
+      let S : Prescribed n [] (replicate n none) (emptyPool n) = empty-prescribed n in
+      record {
+        n = n;
+        list = [];
+        places = replicate n none;
+        least = lo;
+        most = hi;
+        valid = S .valid;
+        placed = S .placed;
+        words-are = S .words-are;
+      }
 
-pub empty-checks : (n : ℕ) → 1 ≤ n → n ≤ 1000 → checkAnswer (emptyPool n) ≡ 0
-empty-checks n lo hi = prescribed-0 (empty-sized n lo hi) (empty-prescribed n)
+  pub empty-list : listOf (emptyPool n) ≡ []
+  empty-list = decode-list (empty-prescribed n)
+
+  pub empty-checks : checkAnswer (emptyPool n) ≡ 0
+  empty-checks = well-formed-0 empty-well-formed
+
+pub init-render : (ws : List ℕ) → isSized ws ≡ true →
+    initWords ws ≡ render [] (replicate (nodeCount ws) none) (nodeCount ws)
+init-render ws t = rw t (empty-render (nodeCount ws))

@@ -9,10 +9,10 @@ use Rattle.layout.specs.Pool.{slotOf, poolOf}
 use Rattle.layout.specs.Decode.{listOf, placesOf}
 use Rattle.layout.specs.WellFormed.{Sized, Prescribed}
 use Rattle.decode.proofs.Restrict.{numOf, Prescribes}
-use Rattle.decode.proofs.Agree.{lower}
-use Rattle.decode.proofs.Bridge.{count-is, spare-is, from-places}
-use Rattle.decode.proofs.Whole.{to-places, places}
-use Rattle.decode.proofs.Decoded.{decode-places}
+use Rattle.decode.proofs.SameTree.{lower}
+use Rattle.decode.proofs.PrescribedWords.{count-is, spare-is, from-places}
+use Rattle.decode.proofs.PlacesFor.{to-places, places}
+use Rattle.decode.proofs.DecodeLaws.{decode-places}
 use Rattle.scan.specs.Local.{NodeOk, NodesOk, HeadOk}
 use Rattle.scan.proofs.TestLaws.{none-fails}
 use Rattle.scan.proofs.LocalSound.{local-sound}

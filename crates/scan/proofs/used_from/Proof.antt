@@ -10,10 +10,10 @@ use Rattle.scan.proofs.used_from.Statement.{statement}
 use Rattle.scan.proofs.used_from.Tie as tie
 
 abbrev Inv-loop : tie.InvT-loop
-Inv-loop pool n from j₀ j = (from ≤ j) × ((k : ℕ) → k < j → from ≤ k → slotAt (poolOf pool) n k ≡ Empty)
+Inv-loop pool n from o₀ o = (from ≤ o) × ((k : ℕ) → k < o → from ≤ k → slotAt (poolOf pool) n k ≡ Empty)
 
 abbrev μ-loop : tie.MeasureT-loop
-μ-loop pool n from j₀ j = slots - j
+μ-loop pool n from o₀ o = slots - o
 
 loop-holds : tie.Need-loop-holds Inv-loop μ-loop
 loop-holds c = (omega arith, λ k a b. absurd (omega arith))
@@ -28,14 +28,14 @@ returns : tie.Need-returns Inv-loop μ-loop
 returns c =
     let c3 = c .before .before .before in
     yes! (
-      c3 .loop .j,
+      c3 .loop .o,
       omega arith,
       omega arith,
       λ q. c .if1 .taken (c .before .field .ensures ∙ word-of _ Empty q),
     )
 
-add-j : tie.Need-add-j Inv-loop μ-loop
-add-j c = omega arith
+add-o : tie.Need-add-o Inv-loop μ-loop
+add-o c = omega arith
 
 loop-less : tie.Need-loop-less Inv-loop μ-loop
 loop-less c = omega arith
@@ -61,7 +61,7 @@ used-from-spec =
     add-field
     field-requires
     returns
-    add-j
+    add-o
     loop-less
     loop-again
     returns-2)

@@ -18,7 +18,8 @@ returns : tie.Need-returns
 returns c = init-refused (c .before .nodes-in .ensures .no-pool (c .if1 .taken))
 
 fill-requires : tie.Need-fill-requires
-fill-requires c κs = search needs
+fill-requires c κs = let s = c .before .before .nodes-in .ensures .sized (c .before .if1 .left) in
+    omega (arith, s .size)
 
 slice-write-pool : tie.Need-slice-write-pool
 slice-write-pool c =

@@ -6,7 +6,7 @@ use mathlib.Core.List.{List}
 use mathlib.Core.Option.{Option, none, some}
 use native.Mathlib.Omega.{arith}
 use native.Mathlib.Nat.{zero-add}
-use lib.ListN.{getD}
+use lib.ListN.{getD, length}
 use lib.Seq.{ext-getD}
 use borrow.Author.Tests.{ne-eqb}
 use Rattle.blocks.proofs.UpToLaws.{length-upTo, getD-upTo-or}
@@ -14,16 +14,16 @@ use Rattle.model.specs.declared.Entry.{Entry}
 use Rattle.model.specs.Model.{Valid}
 use Rattle.tree.specs.Tree.{Node, height, tierOrder, slots}
 use Rattle.tree.specs.Slots.{Numbering}
-use Rattle.layout.specs.Words.{fieldAt, place, shiftField}
-use Rattle.layout.specs.Places.{render, Places, Placed, numberIn}
+use Rattle.layout.specs.Words.{fieldAt, place, shiftField, poolWords}
+use Rattle.layout.specs.Places.{render, Places, Placed, numberIn, wordAt}
 use Rattle.layout.specs.Pool.{Pool, poolOf}
 use Rattle.layout.specs.Decode.{levelOf, blockOf, placeIn, topOf, listOf, placesOf}
-use Rattle.layout.specs.WellFormed.{Prescribed}
+use Rattle.layout.specs.WellFormed.{Prescribed, WellFormed, Sized}
 use Rattle.decode.proofs.Restrict.{hasLevel, Prescribes}
-use Rattle.decode.proofs.Back.{has-parts}
-use Rattle.decode.proofs.Round.{no-node, a-node, head, head-slot, head-level, head-zero, has-up, list-back}
-use Rattle.decode.proofs.Agree.{lower}
-use Rattle.decode.proofs.Bridge.{node, count-is, node-word, there-is, from-places}
+use Rattle.decode.proofs.SlotsShown.{has-parts}
+use Rattle.decode.proofs.ListBack.{no-node, a-node, head, head-slot, head-level, head-zero, has-up, list-back}
+use Rattle.decode.proofs.SameTree.{lower}
+use Rattle.decode.proofs.PrescribedWords.{node, count-is, node-word, there-is, from-places}
 
 module _ (P : Pool) (l : List Entry) (ν : Numbering) (R : Prescribes P l ν) (t : ℕ) (ht : height l ≡ suc t) where
   block-back : (d v b : ℕ) → v + d ≡ t → hasLevel l v b ≡ true → blockOf P d (ν v b) ≡ b
@@ -92,3 +92,21 @@ pub round-trip : (n : ℕ) (l : List Entry) (os : Places) → Valid l → Placed
 round-trip n l os v p =
     let S : Prescribed n l os (render l os n) = record { valid = v; placed = p; words-are = refl } in
     (decode-list S, decode-places S)
+
+-- A WELL-FORMED POOL
+module _ {ws : List ℕ} (s : WellFormed ws) where
+  pub prescribed : Prescribed (s .n) (s .list) (s .places) ws
+  prescribed = record { valid = s .valid; placed = s .placed; words-are = s .words-are }
+
+  pub well-formed-list : listOf ws ≡ s .list
+  well-formed-list = decode-list prescribed
+
+  pub well-formed-places : placesOf ws ≡ s .places
+  well-formed-places = decode-places prescribed
+
+  pub well-formed-sized : Sized (s .n) ws
+  well-formed-sized = record {
+    size = ap length (s .words-are) ∙ length-upTo (wordAt (s .list) (s .places) (s .n)) 0 (poolWords (s .n));
+    least = s .least;
+    most = s .most;
+  }

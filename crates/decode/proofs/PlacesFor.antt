@@ -28,8 +28,16 @@ use Rattle.layout.specs.Pool.{poolOf}
 use Rattle.layout.specs.WellFormed.{Prescribed}
 use Rattle.decode.proofs.FreeLaws.{by-field, free-words}
 use Rattle.decode.proofs.Restrict.{hasLevel, Prescribes, NodeIs}
-use Rattle.decode.proofs.Agree.{to-sorted, has-same, none-at-0, slot-same, marks-same, level-owner, head-same}
-use Rattle.decode.proofs.Bridge.{
+use Rattle.decode.proofs.SameTree.{
+  to-sorted,
+  has-same,
+  none-at-0,
+  slot-same,
+  marks-same,
+  level-owner,
+  head-same,
+}
+use Rattle.decode.proofs.PrescribedWords.{
   node,
   none-some,
   get-in,
@@ -37,7 +45,7 @@ use Rattle.decode.proofs.Bridge.{
   field-shift,
   field-mark,
   field-slot,
-  node-lies,
+  node-within,
 }
 
 -- a list of places made number by number
@@ -76,13 +84,13 @@ slot-num : (l : List Entry) (ν ν′ : Numbering) (u c : ℕ) → (any (within 
 unfolding slot
 slot-num l ν ν′ u c e = byT (any (within (tierOrder u) c) l) (λ t. rw (t, e t)) (λ t. rw t)
 
-stands-i : (l : List Entry) (u b : ℕ) → u ≤ height l → any (within (tierOrder u) b) l ≡ true → has l u b ≡ true
+has-i : (l : List Entry) (u b : ℕ) → u ≤ height l → any (within (tierOrder u) b) l ≡ true → has l u b ≡ true
 unfolding has
-stands-i l u b h t = rw (le-leb u (height l) h, t)
+has-i l u b h t = rw (le-leb u (height l) h, t)
 
-stands-le : (l : List Entry) (u b : ℕ) → has l u b ≡ true → u ≤ height l
+has-le : (l : List Entry) (u b : ℕ) → has l u b ≡ true → u ≤ height l
 unfolding has
-stands-le l u b t = leb-true u (height l) (both-l (leb u (height l)) _ t)
+has-le l u b t = leb-true u (height l) (both-l (leb u (height l)) _ t)
 
 -- the anchor's words one by one
 four : (Q : ℕ → Type 0) → Q 0 → Q 1 → Q 2 → Q 3 → (i : ℕ) → i < 4 → Q i
@@ -145,13 +153,13 @@ module _ (n : ℕ) (l : List Entry) (ν : Numbering) (num : Numbered n l ν) whe
   -- the words by the places are those by the numbering
   head-num : slot l (numberIn placesBy) (height l) 0 ≡ slot l ν (height l) 0
   head-num = slot-num l ν (numberIn placesBy) (height l) 0
-      (λ k. number-is (height l) 0 (stands-i l (height l) 0 (le-refl _) k))
+      (λ k. number-is (height l) 0 (has-i l (height l) 0 (le-refl _) k))
 
   owner-num : (v b : ℕ) → has l (suc v) b ≡ true → owner l (numberIn placesBy) (suc v) b ≡ owner l ν (suc v) b
   owner-num v b t =
       byT (eqb (suc v) (height l)) (λ e. rw e)
       (λ e. let ne : suc v ≡ height l → ⊥ = eqb-false _ _ e in
-      rw (e, number-is (suc (suc v)) (b / slots) (parent l (suc v) b t (omega (arith, stands-le l (suc v) b t)))))
+      rw (e, number-is (suc (suc v)) (b / slots) (parent l (suc v) b t (omega (arith, has-le l (suc v) b t)))))
 
   field-num : (u b : ℕ) → has l u b ≡ true → (f : ℕ) → f < nodeWords →
       field l (numberIn placesBy) u b f ≡ field l ν u b f
@@ -159,7 +167,7 @@ module _ (n : ℕ) (l : List Entry) (ν : Numbering) (num : Numbered n l ν) whe
   field-num (suc v) b t f h =
       field-same l l ν (numberIn placesBy) v b (owner-num v b t) (λ m d _ q. refl)
       (λ d q. slot-num l ν (numberIn placesBy) v d (λ k. number-is v d
-      (stands-i l v d (omega (arith, stands-le l (suc v) b t)) k))) f h
+      (has-i l v d (omega (arith, has-le l (suc v) b t)) k))) f h
 
   pub place-words : (m f : ℕ) → m < n → f < nodeWords → fieldAt l (numberIn placesBy) (getD placesBy m none) f ≡
       fieldAt l ν (placeOf l ν m) f
@@ -203,13 +211,13 @@ module _ (ws : List ℕ) (l : List Entry) (ν : Numbering) (R : Prescribes (pool
   field-is v b t =
       let m : ℕ = ν v b in
       let I : NodeIs (poolOf ws) l ν m v b = R .nodes v b (has-of v b t) in
-      let lies-in : any (within (tierOrder (suc v)) b) l ≡ true = node-lies l (suc v) b t in
+      let inside : any (within (tierOrder (suc v)) b) l ≡ true = node-within l (suc v) b t in
       by-field (λ f. getD ws (place m f) 0 ≡ field l (raise ν) (suc v) b f)
       (I .shift-is ∙ sym (field-shift l (raise ν) v b))
       (I .owner-is ∙ level-owner valid (raise ν) v b)
       (λ μ h. I .marks-are μ h ∙ marks-same l ν μ v b ∙ sym (field-mark l (raise ν) v b μ h))
       (λ j h. let q : (slots * b + j) / slots ≡ b = omega arith in
-      I .slots-are j h ∙ slot-same valid (raise ν) v (slots * b + j) (rw q lies-in)
+      I .slots-are j h ∙ slot-same valid (raise ν) v (slots * b + j) (rw q inside)
       ∙ sym (field-slot l (raise ν) v b j))
 
   node-words : (m f : ℕ) → m < getD ws 0 0 → f < nodeWords → (o : Option Node) → placeOf l (raise ν) m ≡ o →

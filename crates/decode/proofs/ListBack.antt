@@ -35,7 +35,7 @@ use Rattle.decode.proofs.SaysLaws.{said}
 use Rattle.decode.proofs.FitLaws.{chain-low, height-upper, base-low}
 use Rattle.decode.proofs.ChainLaws.{wide-pow}
 use Rattle.decode.proofs.CoverLaws.{marks-sum}
-use Rattle.decode.proofs.Back.{
+use Rattle.decode.proofs.SlotsShown.{
   word-says,
   entry-eq,
   has-parts,
@@ -174,11 +174,11 @@ module _ (P : Pool) (l : List Entry) (ν : Numbering) (R : Prescribes P l ν) wh
       (λ (s : List Entry). Every (λ e. (e .base ≡ 0) × (e .order ≡ 0)) s) e (at-zero z) in
       absurd (omega (arith, vv .2 .0, zz .1 .0 .0, pow-pos (x .order)))
 
-  list-bare : (xs : List Entry) → l ≡ xs → height l ≡ 0 → listIn P ≡ l
-  list-bare [] e z =
+  list-lone : (xs : List Entry) → l ≡ xs → height l ≡ 0 → listIn P ≡ l
+  list-lone [] e z =
       let k : slotOf (P .head) ≡ Empty = rw (R .head-is, z, e) (said 0 Empty refl) in
       rw (k, e)
-  list-bare (x ∷ []) e z =
+  list-lone (x ∷ []) e z =
       let hd : P .head ≡ x .word = R .head-is ∙ (rw (z, e)) in
       let vv : Chain 0 (x ∷ []) (2 ^ 64) = subst (λ (y : List Entry). Chain 0 y (2 ^ 64)) e (R .valid) in
       let k : slotOf (P .head) ≡ Held = rw hd (said (x .word) Held (word-says (x .word) (vv .1 .word-ok))) in
@@ -187,7 +187,7 @@ module _ (P : Pool) (l : List Entry) (ν : Numbering) (R : Prescribes P l ν) wh
       rw (k, e) (ap (λ (y : Entry). y ∷ []) (entry-eq (record
       { base = 0; order = 0; word = P .head; marks = P .marks }) x (sym (zz .0 .0)) (sym (zz .0 .1)) hd
       (R .marks-are ∙ ap marksOf e ∙ marks-sum x (vv .1 .marks-fit))))
-  list-bare (x ∷ y ∷ xs) e z = two-apart x y xs e z
+  list-lone (x ∷ y ∷ xs) e z = two-apart x y xs e z
 
   pub list-back : listIn P ≡ l
-  list-back = elim head [ no-node z ↦ list-bare l refl z | a-node t z ↦ list-tree t z ]
+  list-back = elim head [ no-node z ↦ list-lone l refl z | a-node t z ↦ list-tree t z ]

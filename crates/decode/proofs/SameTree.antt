@@ -46,7 +46,7 @@ use Rattle.decode.proofs.Restrict.{
 use Rattle.decode.proofs.ChainLaws.{wide-pow}
 use Rattle.decode.proofs.FitLaws.{chain-le}
 use Rattle.decode.proofs.CoverLaws.{bits-are}
-use Rattle.decode.proofs.Shape.{Shape, empty, one, low, shape, wide-entry, Mem, mem-keep, keep-mem}
+use Rattle.decode.proofs.BlockShape.{Shape, empty, one, low, shape, wide-entry, Mem, mem-keep, keep-mem}
 
 -- VALID LISTS
 ok-to : {e : Entry} → EntryOk e → EntryGood e
@@ -101,15 +101,15 @@ both-comm true false = refl
 both-comm false true = refl
 both-comm false false = refl
 
-pub any-lies : (u b : ℕ) (l : List Entry) → any (lowOrder u) (part (wide u) b l) ≡ any (within (tierOrder u) b) l
-any-lies u b l =
+pub any-within : (u b : ℕ) (l : List Entry) → any (lowOrder u) (part (wide u) b l) ≡ any (within (tierOrder u) b) l
+any-within u b l =
     any-keep-both (lowOrder u) (inBlock (wide u) b) l
     ∙ any-same (λ x. both (inBlock (wide u) b x) (lowOrder u x)) (within (tierOrder u) b)
     (All-of (λ x. rw (wide-pow u) (both-comm (eqb (x .base / wide u) b) (ltb (x .order) (tierOrder u)))) l)
 
 pub has-same : {l : List Entry} → Valid l → (v b : ℕ) → hasLevel l v b ≡ has l (suc v) b
 unfolding has
-has-same {l} v u b = rw (any-lies (suc u) b l, up (height l))
+has-same {l} v u b = rw (any-within (suc u) b l, up (height l))
   where
     up : (h : ℕ) → ltb u h ≡ leb (suc u) h
     up h = iff (ltb u h) (leb (suc u) h) (λ t. le-leb (suc u) h (ltb-true u h t))
@@ -186,12 +186,12 @@ module _ {l : List Entry} (valid : Valid l) (ν : Numbering) (v c : ℕ) where
           partWord l (lower ν) v c xs ≡ pick (any (within (tierOrder v) c) l) (nodeWord (ν v c))
           (entryWord v c (covering l (c * 2 ^ (tierOrder v))))
       go _ e empty =
-          let n : any (within (tierOrder v) c) l ≡ false = sym (any-lies v c l) ∙ (rw e) in
+          let n : any (within (tierOrder v) c) l ≡ false = sym (any-within v c l) ∙ (rw e) in
           rw (n, ← top t) (sib (covering l (c * 2 ^ (tierOrder v))) refl e)
       go _ e (one x h) =
           let m = keep-mem (inBlock (wide v) c) x l (rw e (inl refl)) in
           let i : In x l = mem-in x l (m .0) in
-          let n : any (within (tierOrder v) c) l ≡ false = sym (any-lies v c l) ∙
+          let n : any (within (tierOrder v) c) l ≡ false = sym (any-within v c l) ∙
           (rw (e, le-ltb (x .order) (tierOrder v) h)) in
           let b : x .base ≡ c * 2 ^ (tierOrder v) =
           wide-entry v x (ok-to (look (sorted-ok valid) i)) h .0 ∙ ap (λ (d : ℕ). d * wide v)
@@ -202,7 +202,7 @@ module _ {l : List Entry} (valid : Valid l) (ν : Numbering) (v c : ℕ) where
           in
           rw (n, le-leb (tierOrder v) (x .order) h, k, s)
       go _ e (low x xs p q) =
-          let n : any (within (tierOrder v) c) l ≡ true = sym (any-lies v c l) ∙
+          let n : any (within (tierOrder v) c) l ≡ true = sym (any-within v c l) ∙
           (rw (e, lt-ltb (x .order) (tierOrder v) p)) in
           let z : suc (v - 1) ≡ v = omega arith in
           rw (n, lt-leb (tierOrder v) (x .order) p, z)

@@ -48,7 +48,7 @@ use Rattle.decode.proofs.SaysLaws.{said}
 use Rattle.decode.proofs.ChainLaws.{order-pow, bit-lt}
 use Rattle.decode.proofs.FitLaws.{chain-oks}
 use Rattle.decode.proofs.CoverLaws.{covers-in, in-covers, bit-suc, unscale, unscale≤}
-use Rattle.decode.proofs.Shape.{
+use Rattle.decode.proofs.BlockShape.{
   Shape,
   empty,
   one,
@@ -167,15 +167,15 @@ module _ (P : Pool) (l : List Entry) (ν : Numbering) (R : Prescribes P l ν) wh
       c : ℕ
       c = slots * b + j
 
-      gapped : part (wide v) c l ≡ [] → (o : Option Entry) → first (covers (c * wide v)) (part (wide (suc v)) b l) ≡ o
+      emptied : part (wide v) c l ≡ [] → (o : Option Entry) → first (covers (c * wide v)) (part (wide (suc v)) b l) ≡ o
           → Shown v b j (slotOf (siblingOf v o))
-      gapped e none f = rw (said 0 Empty refl) (an-empty e f)
-      gapped e (some y) f = rw (said (siblingWord (y .base / wide v % slots)) (Sibling (y .base / wide v % slots))
+      emptied e none f = rw (said 0 Empty refl) (an-empty e f)
+      emptied e (some y) f = rw (said (siblingWord (y .base / wide v % slots)) (Sibling (y .base / wide v % slots))
           (refl, omega arith)) (a-sibling y e f)
 
       go : (xs : List Entry) → part (wide v) c l ≡ xs → Shape v xs → Shown v b j (slotOf (partWord l ν v c xs))
       go _ e empty = let q : c / slots ≡ b = omega arith in
-          rw q (gapped e (first (covers (c * wide v)) (part (wide (suc v)) b l)) refl)
+          rw q (emptied e (first (covers (c * wide v)) (part (wide (suc v)) b l)) refl)
       go _ e (one x h) = rw (
         le-leb (tierOrder v) (x .order) h,
         said (x .word) Held (word-says (x .word) ((mem-ok x (from-within (wide v) c x (rw e (inl refl))))

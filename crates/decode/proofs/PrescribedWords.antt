@@ -36,7 +36,7 @@ use Rattle.layout.specs.Pool.{poolOf}
 use Rattle.layout.specs.WellFormed.{Prescribed}
 use Rattle.decode.proofs.FreeLaws.{words-free}
 use Rattle.decode.proofs.Restrict.{hasLevel, Prescribes, NodeIs}
-use Rattle.decode.proofs.Agree.{
+use Rattle.decode.proofs.SameTree.{
   to-chain,
   has-same,
   none-at-0,
@@ -121,9 +121,9 @@ module _ (l : List Entry) (ν : Numbering) (v b : ℕ) where
       )
 
 -- a node's slots lie in its block
-pub node-lies : (l : List Entry) (u b : ℕ) → has l u b ≡ true → any (within (tierOrder u) b) l ≡ true
+pub node-within : (l : List Entry) (u b : ℕ) → has l u b ≡ true → any (within (tierOrder u) b) l ≡ true
 unfolding has
-node-lies l u b t = both-r (leb u (height l)) _ t
+node-within l u b t = both-r (leb u (height l)) _ t
 
 -- FROM THE WHOLE TO THE WORDS
 module _ (n : ℕ) (l : List Entry) (os : Places) (ws : List ℕ) (S : Prescribed n l os ws) where
@@ -174,7 +174,7 @@ module _ (n : ℕ) (l : List Entry) (os : Places) (ws : List ℕ) (S : Prescribe
   node-is v b t =
       let m : ℕ = numberIn os (suc v) b in
       let (lt, k) = found v b t in
-      let lies-in : any (within (tierOrder (suc v)) b) l ≡ true = node-lies l (suc v) b
+      let inside : any (within (tierOrder (suc v)) b) l ≡ true = node-within l (suc v) b
       (sym (has-same (S .valid) v b) ∙ t) in
       let w : (f : ℕ) → f < nodeWords → getD ws (place m f) 0 ≡ field l (numberIn os) (suc v) b f = λ f h. node-word m
       f lt h ∙ ap (λ (o : Option Node). fieldAt l (numberIn os) o f) k in
@@ -185,7 +185,7 @@ module _ (n : ℕ) (l : List Entry) (os : Places) (ws : List ℕ) (S : Prescribe
             ∙ sym (marks-same l (lower (numberIn os)) μ v b);
         slots-are = λ j h. let q : (slots * b + j) / slots ≡ b = omega arith in
             w (slotField + j) (omega arith) ∙ field-slot l (numberIn os) v b j
-            ∙ sym (slot-same (S .valid) (numberIn os) v (slots * b + j) (rw q lies-in));
+            ∙ sym (slot-same (S .valid) (numberIn os) v (slots * b + j) (rw q inside));
       }
 
   pub from-places : Prescribes (poolOf ws) l (lower (numberIn os))
