@@ -211,6 +211,11 @@ impl<'a> Records<'a> {
     pub fn of(bytes: &'a [u8]) -> Records<'a> {
         Records { bytes, place: 0 }
     }
+
+    /// The bytes not yet read.
+    pub fn rest(&self) -> &'a [u8] {
+        self.bytes.get(self.place..).unwrap_or_default()
+    }
 }
 
 fn read_record(bytes: &[u8]) -> Option<(Record, usize)> {
