@@ -82,15 +82,16 @@ fn compare(seconds: u64, seed: u64) -> Result<bool, String> {
     let program = with_program()?;
     println!("compare: {seconds} seconds, seed {seed}");
     let figures = Figures::new();
-    let mut same = compare_cases(program) && compare_changes(figures);
+    // Where a case fails, the random input still runs: it gives a small case to look at.
+    let mut same = compare_cases(program) & compare_changes(figures);
     // At least half of the time is for random input.
     let all = Duration::from_secs(seconds);
     let left = all.saturating_sub(started.elapsed()).max(all / 2);
     let calls = if program { left * 3 / 4 } else { left };
-    same = same && random_trials(Kind::Calls, seed, calls, figures);
+    same &= random_trials(Kind::Calls, seed, calls, figures);
     figures.print_calls();
     if program {
-        same = same && random_trials(Kind::Program, seed, left - calls, figures);
+        same &= random_trials(Kind::Program, seed, left - calls, figures);
         figures.print_program();
     } else {
         println!("program: not compared (TAMBURISH_BIN=none)");
