@@ -5,6 +5,8 @@ mod measure;
 mod plain;
 mod plot;
 mod table;
+#[cfg(test)]
+mod tests;
 
 use loads::Load;
 use std::path::Path;

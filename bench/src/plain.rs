@@ -1,11 +1,11 @@
 //! The same loads in ordinary Rust, over a BTreeMap from index to word and marks. It knows order 0
 //! alone, reads its commands from memory as they are and writes its replies as plain values.
 
-use crate::loads::Load;
+use crate::loads::{batches, Load, Work};
 use std::collections::BTreeMap;
 use std::hint::black_box;
 use std::time::Instant;
-use xapool_host::{Command, Word};
+use xapool_host::{BatchBuilder, Command, Word};
 
 #[derive(Clone, Copy)]
 struct Entry {
@@ -53,25 +53,36 @@ impl Map {
     }
 }
 
-/// Nanoseconds a command, the shortest of all repeats.
+/// Nanoseconds a command; of each batch the shortest time of all repeats, as for the library.
 pub fn cost(load: &Load, repeats: u32) -> f64 {
-    let commands: usize = load.pools.iter().map(|work| work.timed.len()).sum();
-    let best = (0..repeats).map(|_| time(load)).fold(f64::INFINITY, f64::min);
-    best / commands as f64
+    let mut total = 0.0;
+    let mut commands = 0;
+    for work in &load.pools {
+        let mut best = times(work);
+        for _ in 1..repeats {
+            best.iter_mut().zip(times(work)).for_each(|(best, now)| *best = best.min(now));
+        }
+        total += best.iter().sum::<f64>();
+        commands += work.timed.len();
+    }
+    total / commands as f64
 }
 
-fn time(load: &Load) -> f64 {
-    let mut total = 0.0;
-    for work in &load.pools {
-        let mut map = Map::default();
-        for command in &work.setup {
-            map.execute(*command);
-        }
-        let mut replies: Vec<Reply> = Vec::with_capacity(work.timed.len());
-        let start = Instant::now();
-        replies.extend(work.timed.iter().map(|command| map.execute(*command)));
-        total += start.elapsed().as_nanos() as f64;
-        black_box(&replies);
+fn times(work: &Work) -> Vec<f64> {
+    let mut map = Map::default();
+    for command in &work.setup {
+        map.execute(*command);
     }
-    total
+    let batches = batches(&work.timed);
+    batches.iter().map(|batch| timed_run(&mut map, batch)).collect()
+}
+
+fn timed_run(map: &mut Map, batch: &BatchBuilder) -> f64 {
+    let commands: Vec<Command> = batch.commands().flatten().collect();
+    let mut replies: Vec<Reply> = Vec::with_capacity(commands.len());
+    let start = Instant::now();
+    replies.extend(commands.iter().map(|command| map.execute(*command)));
+    let time = start.elapsed().as_nanos() as f64;
+    black_box(&replies);
+    time
 }

@@ -72,8 +72,10 @@ fn lines(rows: &[ByNodes]) -> String {
         let y = |at: usize| BASE - (TALL - 40.0) * (value(at) / most).max(0.0);
         out += &line((x(0), y(0)), (x(1), y(1)), COLOURS[number % 3]);
         out += &line((x(1), y(1)), (x(2), y(2)), COLOURS[number % 3]);
+        // Beside each other, so that figures that are nearly the same can be read.
+        let aside = 36.0 * (number as f64 - 1.0);
         for at in 0..3 {
-            out += &text(x(at), y(at) - 5.0, "middle", &format!("{:.0}", value(at)));
+            out += &text(x(at) + aside, y(at) - 5.0, "middle", &format!("{:.0}", value(at)));
         }
     }
     for (at, nodes) in NODES.iter().enumerate() {

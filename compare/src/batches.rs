@@ -56,7 +56,7 @@ fn full(random: &mut Random, source: &mut Source) -> Vec<u8> {
         typed(command).write(&mut batch);
     }
     // Records of 12 bytes until records of 11 fill the rest.
-    while (MOST_BATCH_BYTES - batch.len()) % 11 != 0 {
+    while !(MOST_BATCH_BYTES - batch.len()).is_multiple_of(11) {
         Command::Mark { index: random.below(100), mark: 1 }.write(&mut batch);
     }
     while batch.len() < MOST_BATCH_BYTES {

@@ -101,7 +101,7 @@ impl CallList {
             return Vec::new();
         };
         let parts = parts(batch);
-        let mut all = Vec::new();
+        let mut all = self.exact_reply(number);
         let mut size = parts.len();
         while size > 0 {
             for from in (0..parts.len()).step_by(size) {
@@ -115,6 +115,19 @@ impl CallList {
             size /= 2;
         }
         all
+    }
+
+    /// One call with as much reply space as it needs, if it has more.
+    fn exact_reply(&self, number: usize) -> Vec<CallList> {
+        let mut list = self.clone();
+        if let Call::Run { batch, reply } = &mut list.calls[number] {
+            *reply = (*reply).min(24 * parts(batch).len());
+        }
+        if list == *self {
+            Vec::new()
+        } else {
+            vec![list]
+        }
     }
 
     /// One word 0 that was not, but for small pools only.

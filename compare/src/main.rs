@@ -12,6 +12,8 @@ mod list;
 mod os;
 mod pools;
 mod program;
+#[cfg(test)]
+mod tests;
 mod trial;
 
 use figures::{Figures, Of};
@@ -80,6 +82,9 @@ fn with_program() -> Result<bool, String> {
 fn compare(seconds: u64, seed: u64) -> Result<bool, String> {
     let started = Instant::now();
     let program = with_program()?;
+    if !os::guards_hold() {
+        return Err("the unreadable pages do not hold".into());
+    }
     println!("compare: {seconds} seconds, seed {seed}");
     let figures = Figures::new();
     // Where a case fails, the random input still runs: it gives a small case to look at.

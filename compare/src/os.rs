@@ -70,6 +70,23 @@ impl Guarded {
     }
 }
 
+/// Whether a read of one byte too far, and a write to what is read only, do end a process.
+pub fn guards_hold() -> bool {
+    let past = in_child(|| {
+        let buffer = Guarded::new(PAGE);
+        // SAFETY: the byte is unreadable, and that is what is tried.
+        i32::from(unsafe { buffer.start.add(buffer.size).read_volatile() })
+    });
+    let write = in_child(|| {
+        let mut buffer = Guarded::new(PAGE);
+        buffer.read_only(true);
+        // SAFETY: the byte cannot be written, and that is what is tried.
+        unsafe { buffer.start.write_volatile(1) };
+        0
+    });
+    (past, write) == (End::Signal(11), End::Signal(11))
+}
+
 /// Numbers that a child process shares with its parent, all 0 at first.
 pub fn shared_numbers() -> &'static [AtomicU64; 64] {
     let at = map(PAGE, MAP_SHARED);

@@ -101,7 +101,9 @@ impl Trial {
         match end {
             End::Status(0) => {}
             End::Signal(14) => println!("it does not end in {LONGEST_SECONDS} seconds"),
-            End::Signal(11 | 7) => println!("it reads or writes past a buffer it was lent"),
+            End::Signal(11 | 7) => {
+                println!("it reads past a buffer it was lent, or writes where it may not")
+            }
             other => println!("it crashes: {other:?}"),
         }
     }
