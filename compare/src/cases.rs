@@ -82,7 +82,9 @@ fn programs(with_program: bool) -> Vec<Case> {
     }
     let same = |batch| Input { batch, pieces: Vec::new() }.difference(None).is_none();
     let case_14 = records(&[store(0, 3), store(64, 5), Command::Load { index: 64 }]);
+    let pieces = Input { batch: case_14.clone(), pieces: vec![1, 2, 17, 1, 9] };
     vec![
+        ("program: case 14 in pieces", pieces.difference(None).is_none()),
         ("program: case 14", same(case_14)),
         ("program: the empty batch", same(Vec::new())),
         ("program: 8,192 bytes", same(full())),

@@ -2,6 +2,7 @@
 //!
 //! All `unsafe` code of this crate is here.
 
+use std::os::fd::AsRawFd;
 use std::sync::atomic::AtomicU64;
 
 const PAGE: usize = 4096;
@@ -11,6 +12,7 @@ const PROT_WRITE: i32 = 2;
 const MAP_SHARED: i32 = 1;
 const MAP_PRIVATE: i32 = 2;
 const MAP_ANONYMOUS: i32 = 32;
+const FIONREAD: u64 = 0x541B;
 
 extern "C" {
     fn mmap(at: *mut u8, size: usize, access: i32, kind: i32, file: i32, offset: i64) -> *mut u8;
@@ -18,6 +20,7 @@ extern "C" {
     fn fork() -> i32;
     fn waitpid(child: i32, status: *mut i32, options: i32) -> i32;
     fn alarm(seconds: u32) -> u32;
+    fn ioctl(file: i32, request: u64, number: *mut i32) -> i32;
     fn _exit(status: i32) -> !;
 }
 
@@ -121,6 +124,14 @@ pub fn in_child(work: impl FnOnce() -> i32) -> End {
         0 => End::Status(status >> 8 & 0xff),
         signal => End::Signal(signal),
     }
+}
+
+/// How many bytes in this pipe are not yet read.
+pub fn unread(pipe: &impl AsRawFd) -> i32 {
+    let mut count = 0;
+    // SAFETY: asks of an open file; count is a place for one number.
+    unsafe { ioctl(pipe.as_raw_fd(), FIONREAD, &mut count) };
+    count
 }
 
 /// Ends this process with signal 14 after so many seconds, unless it is called again before.

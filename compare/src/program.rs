@@ -2,13 +2,17 @@
 
 use crate::batches::{hex, parts, random_batch, show};
 use crate::figures::{Figures, Of};
+use crate::os::unread;
 use reference::awkward::Commands as Source;
 use reference::random::Random;
-use std::io::Write;
+use std::io::{Read, Write};
 use std::path::PathBuf;
-use std::process::{Command as Process, Stdio};
-use std::time::Duration;
+use std::process::{Child, ChildStdin, Command as Process, ExitStatus, Stdio};
+use std::time::{Duration, Instant};
 use std::{env, io, thread};
+
+/// A program takes milliseconds; one that takes so long does not end.
+const LONGEST: Duration = Duration::from_secs(20);
 
 /// A batch, and the sizes of the pieces in which it comes through the pipe (none: all at once).
 #[derive(Clone, Debug, PartialEq, Eq)]
@@ -28,6 +32,30 @@ pub fn reference_program() -> PathBuf {
 fn program(variable: &str, default: &str) -> PathBuf {
     let here = PathBuf::from(env!("CARGO_MANIFEST_DIR"));
     env::var_os(variable).map_or(here.join(default), PathBuf::from)
+}
+
+/// Until the program has taken what is in the pipe, so that the next piece is another read. One
+/// that does not read is not waited for long.
+fn wait_until_read(pipe: &ChildStdin) {
+    let started = Instant::now();
+    while unread(pipe) > 0 && started.elapsed() < Duration::from_secs(1) {
+        thread::sleep(Duration::from_micros(100));
+    }
+}
+
+/// All replies to a batch fit the pipe, so a program need not be read from before it ends; one
+/// that does not end is killed.
+fn wait_for_end(process: &mut Child) -> io::Result<ExitStatus> {
+    let started = Instant::now();
+    while started.elapsed() < LONGEST {
+        if let Some(status) = process.try_wait()? {
+            return Ok(status);
+        }
+        thread::sleep(Duration::from_micros(100));
+    }
+    process.kill()?;
+    process.wait()?;
+    Err(io::Error::other(format!("no end in {} seconds", LONGEST.as_secs())))
 }
 
 impl Input {
@@ -51,15 +79,16 @@ impl Input {
                 let (piece, after) = rest.split_at(rest.len().min(*size));
                 let _ = pipe.write_all(piece);
                 rest = after;
-                // Time to read what came, so that the next piece is another read.
-                thread::sleep(Duration::from_millis(1));
+                wait_until_read(&pipe);
             }
             let _ = pipe.write_all(rest);
         }
-        let output = process.wait_with_output()?;
-        match output.status.code() {
-            Some(_) => Ok(output.stdout),
-            None => Err(io::Error::other(format!("{}: {}", program.display(), output.status))),
+        let status = wait_for_end(&mut process)?;
+        let mut output = Vec::new();
+        process.stdout.take().map(|mut pipe| pipe.read_to_end(&mut output)).transpose()?;
+        match status.code() {
+            Some(_) => Ok(output),
+            None => Err(io::Error::other(format!("{}: {status}", program.display()))),
         }
     }
 
