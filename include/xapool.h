@@ -1,7 +1,7 @@
 /* xapool.h: entries kept by 64-bit index in a pool of words that the host lends.
  *
- * The library holds no memory of its own, calls nothing and keeps nothing between two calls. All
- * state is in the pool. A pool may be moved, saved and loaded: it has no addresses in it. Two calls
+ * The library has no memory of its own and keeps nothing between two calls: all state is in the
+ * pool. A pool may be moved, saved and loaded: it has no addresses in it. Two calls
  * at the same time must not share a pool, and no two buffers of one call may overlap.
  *
  * An entry is a 64-bit word: odd (value v is the word 2v + 1), or a multiple of 4 above 0 (a handle,
