@@ -61,7 +61,7 @@ cons-fit : (c : Command) (p : Parsed) → Fits c → AllFit p → AllFit (consTo
 cons-fit c (Parsed.commands cs) f a = also f a
 cons-fit c (Parsed.refused at) f a = tt
 
-read-fits : {s : List ℕ} → Bytes s → (at : ℕ) {c : Command} {k : Cursor} → readAt s at ≡ Next c k → Fits c
+pub read-fits : {s : List ℕ} → Bytes s → (at : ℕ) {c : Command} {k : Cursor} → readAt s at ≡ Next c k → Fits c
 read-fits {s} b at e =
     subst Fits (was-read s at e .command-is) (command-fits b (getD s at 0) (at + headBytes))
 

@@ -20,7 +20,7 @@ use Rattle.layout.specs.Places.{Places, wordAt, render}
 use Rattle.layout.specs.WellFormed.{WellFormed, Prescribed, Sized}
 use Rattle.layout.specs.Decide.{nodeCount, isSized}
 use Rattle.layout.specs.Decode.{listOf, placesOf}
-use Rattle.decode.proofs.Decoded.{decode-list, decode-places}
+use Rattle.decode.proofs.DecodeLaws.{decode-list, decode-places}
 use Rattle.decode.proofs.DecideLaws.{count-of, sized-is, is-sized}
 use Rattle.verify.specs.Answers.{checkAnswer, initAnswer, initWords}
 use Rattle.verify.proofs.AnswerLaws.{prescribed-0, accepted}

@@ -1,3 +1,4 @@
 pub mod Cases
 pub mod RunningLaws
 pub mod DemandLaws
+pub mod CallLaws

@@ -7,8 +7,8 @@ use lib.ListN.{length, getD, length-append}
 use Rattle.model.specs.declared.Entry.{Entry}
 use Rattle.layout.specs.Places.{Places, Placed, newPlaces, render}
 use Rattle.layout.specs.WellFormed.{WellFormed, InUse, Prescribed}
-use Rattle.decode.proofs.Bridge.{count-is}
-use Rattle.decode.proofs.Decoded.{unique}
+use Rattle.decode.proofs.PrescribedWords.{count-is}
+use Rattle.decode.proofs.DecodeLaws.{unique}
 use Rattle.batch.specs.Bytes.{writeFrom, overwrite}
 use Rattle.batch.specs.Fits.{Fits}
 use Rattle.batch.specs.declared.Command.{Command}
@@ -22,7 +22,7 @@ use Rattle.batch.proofs.ParseLaws.{rest-end, rest-bad, rest-next, not-refused}
 use Rattle.batch.proofs.WriteLaws.{overwrite-append}
 use Rattle.execute.specs.Execute.{execute}
 use Rattle.execute.specs.State.{State, next, states}
-use Rattle.execute.specs.Contracts.{stateOf, wordsTo}
+use Rattle.execute.specs.Contracts.{stateOf, wordsTo, Executes}
 use Rattle.execute.proofs.ExecuteLaws.{Kept, next-kept}
 use Rattle.xapool.specs.Calls.{replies}
 use Rattle.xapool.specs.Running.{wordsOf, Ahead, Ends, Turned, Running}
@@ -152,3 +152,11 @@ module _ {pool₀ reply₀ batch pool reply : List ℕ} {at out low : ℕ} (r : 
     -- a batch that was read whole has no bad record
     pub never-bad : Bad ≡ readAt batch at → ⊥
     never-bad e = not-refused (sym (rest-bad batch at e) ∙ r .ahead .rest-is)
+
+-- a command that was executed, and its reply written
+pub turned : {ws ws′ : List ℕ} (s : WellFormed ws) {c : Command} {out : ℕ} {reply reply′ : List ℕ} {x y : Reply} →
+    Executes s c x ws′ → y ≡ x → reply′ ≡ overwrite reply out (encode y) → Turned s c out reply ws′ reply′
+turned s {out = out} {reply = reply} e q w = record {
+  words-are = e .words-are;
+  reply-is = w ∙ ap (λ (r : Reply). overwrite reply out (encode r)) (q ∙ e .reply-is);
+}

@@ -1,8 +1,153 @@
-// The three calls offered to a host: init, check and run.
+// The three calls offered to a host: init, check and run. None has a `requires`: each refuses what it cannot use, states its
+// result and every word and byte that it was lent.
+//
+// pool: the borrowed words; batch: the borrowed bytes of the commands; reply: the borrowed bytes for their replies;
+// at: a place in the batch; out: a place in the reply; low: every node below it is in use.
+use batch::Command;
+use batch::Counted;
+use batch::REPLY_BYTES;
+use batch::Read;
+ghost use mathlib.Core.Path.{_≡_};
+ghost use mathlib.Core.List.{List};
+ghost use Prim.Native.Nat.{_+_, _*_, _≤_};
+ghost use lib.ListN.{length};
+ghost use Rattle.layout.specs.WellFormed.{WellFormed, InUse};
+ghost use Rattle.batch.specs.Batch.{restAt, counted, parse};
+ghost use Rattle.batch.specs.Batch;
+ghost use Rattle.batch.specs.Reply.{replyBytes};
+ghost use Rattle.batch.specs.declared.Counted.the-variants.{Commands};
+ghost use Rattle.verify.specs.Answers.{checkAnswer, initWords};
+ghost use Rattle.xapool.specs.Calls;
+ghost use Rattle.xapool.specs.Calls.{initResult, checkResult};
+ghost use Rattle.xapool.specs.Running.{Turned, Ahead, Ends};
+
+// The answers of a call; 1 and 2 are the check's.
+const DONE: u64 = 0;
+
+const BAD_RECORD: u64 = 3;
+
+const REPLY_SHORT: u64 = 4;
+
+const REPLY_SIZE: u64 = 24;
 
 // What a call answers: document 01's number of the answer, and the number that goes with it.
 #[repr(C)]
 pub struct Result {
     pub answer: u64,
     pub number: u64,
+}
+
+// One command, with its reply written at `out`.
+fn run_one(pool: &mut [u64], c: Command, reply: &mut [u8], out: usize, low: u64) -> u64
+    requires { ⌜ WellFormed (now pool) ⌝ }
+    requires { ⌜ InUse low (now pool) ⌝ }
+    requires { ⌜ out + replyBytes ≤ length (now reply) ⌝ }
+    ensures { λ r. ⌜ ((s : WellFormed (now (pool .entry))) →
+        Turned s c out (now (reply .entry)) (now (pool .exit)) (now (reply .exit))) ⌝ }
+    ensures { λ r. ⌜ InUse r (now (pool .exit)) ⌝ }
+{
+    let x = execute::execute(pool, c, low);
+    let r = x.reply;
+    batch::write_reply(reply, out, r);
+    x.low
+}
+
+// The commands of a batch in order, each on the pool that the last one left.
+fn run_all(pool: &mut [u64], batch: &[u8], reply: &mut [u8])
+    requires { ⌜ WellFormed (now pool) ⌝ }
+    requires { ⌜ Ahead (now batch) 0 (length (now reply)) 0 ⌝ }
+    ensures { λ _. ⌜ ((s : WellFormed (now (pool .entry))) (cs : List Command) →
+        restAt (now (batch .entry)) 0 ≡ Batch.Parsed.commands cs →
+        Ends s cs 0 (now (reply .entry)) (now (pool .exit)) (now (reply .exit))) ⌝ }
+{
+    let mut at: usize = 0;
+    let mut out: usize = 0;
+    let mut low: u64 = 0;
+    loop {
+        let r = batch::read_at(batch, at);
+        match r {
+            Read::Next(c, next) => {
+                low = run_one(pool, c, reply, out, low);
+                at = next.at;
+                out = out + REPLY_BYTES;
+            }
+            Read::Bad => {
+                return;
+            }
+            Read::End => {
+                return;
+            }
+        }
+    }
+}
+
+// A batch of k commands, on a pool that the check passed.
+fn run_counted(pool: &mut [u64], batch: &[u8], reply: &mut [u8], k: u64) -> Result
+    requires { ⌜ checkAnswer (now pool) ≡ 0 ⌝ }
+    requires { ⌜ Commands k ≡ counted (parse (now batch)) ⌝ }
+    ensures { λ r. ⌜ r ≡ Calls.run (now (pool .entry)) (now (batch .entry)) (now (reply .entry)) .result ⌝ }
+    ensures { λ _. ⌜ now (pool .exit) ≡ Calls.run (now (pool .entry)) (now (batch .entry)) (now (reply .entry)) .words ⌝ }
+    ensures { λ _. ⌜ now (reply .exit) ≡ Calls.run (now (pool .entry)) (now (batch .entry)) (now (reply .entry)) .reply ⌝ }
+{
+    let room = reply.len() as u64;
+    if room / REPLY_SIZE < k {
+        return Result {
+            answer: REPLY_SHORT,
+            number: k,
+        };
+    }
+    run_all(pool, batch, reply);
+    Result {
+        answer: DONE,
+        number: k,
+    }
+}
+
+/// Makes every node of a pool free and its list empty (document 01: blanking). Answers 0, or 1 with nothing written.
+#[no_mangle]
+pub extern "C" fn xapool_init(pool: &mut [u64]) -> Result
+    ensures { λ r. ⌜ r ≡ initResult (now (pool .entry)) ⌝ }
+    ensures { λ _. ⌜ now (pool .exit) ≡ initWords (now (pool .entry)) ⌝ }
+{
+    let answer = verify::init(pool);
+    Result {
+        answer: answer,
+        number: 0,
+    }
+}
+
+/// Whether a pool's words are those that some list of entries prescribes. Answers 0, 1 or 2; writes nothing.
+#[no_mangle]
+pub extern "C" fn xapool_check(pool: &[u64]) -> Result
+    ensures { λ r. ⌜ r ≡ checkResult (now (pool .entry)) ⌝ }
+{
+    let answer = verify::check(pool);
+    Result {
+        answer: answer,
+        number: 0,
+    }
+}
+
+/// Runs a batch of commands on a pool, and writes 24 bytes of reply for each. Answers 0 to 4; 1 to 4 alter nothing.
+#[no_mangle]
+pub extern "C" fn xapool_run(pool: &mut [u64], batch: &[u8], reply: &mut [u8]) -> Result
+    ensures { λ r. ⌜ r ≡ Calls.run (now (pool .entry)) (now (batch .entry)) (now (reply .entry)) .result ⌝ }
+    ensures { λ _. ⌜ now (pool .exit) ≡ Calls.run (now (pool .entry)) (now (batch .entry)) (now (reply .entry)) .words ⌝ }
+    ensures { λ _. ⌜ now (reply .exit) ≡ Calls.run (now (pool .entry)) (now (batch .entry)) (now (reply .entry)) .reply ⌝ }
+{
+    let answer = verify::check(pool);
+    if answer != DONE {
+        return Result {
+            answer: answer,
+            number: 0,
+        };
+    }
+    let counted = batch::count(batch);
+    match counted {
+        Counted::Refused(place) => Result {
+            answer: BAD_RECORD,
+            number: place,
+        },
+        Counted::Commands(k) => run_counted(pool, batch, reply, k),
+    }
 }

@@ -1,0 +1,101 @@
+use Prim.Native.Nat.{_-_}
+use mathlib.Core.Path.{_≡_, refl, sym, _∙_}
+use native.Mathlib.Omega.{arith}
+use borrow.Author.Needs.{needs}
+use lib.ListN.{length}
+use Rattle.batch.specs.declared.Read.the-variants.{Next}
+use Rattle.batch.specs.Batch.{readAt}
+use Rattle.batch.proofs.ParseLaws.{next-after}
+use Rattle.batch.proofs.BoundLaws.{read-fits}
+use Rattle.xapool.specs.Running.{Running}
+use Rattle.xapool.proofs.RunningLaws.{running-start, room-for, running-on, running-end, never-bad}
+use Rattle.xapool.proofs.run_all.Statement.{statement}
+use Rattle.xapool.proofs.run_all.Tie as tie
+use Rattle.xapool.proofs.run_all.Reads as reads
+use Rattle.xapool.proofs.run_all.Lts as lts
+use Rattle.batch.proofs.read_at.Reads as read-at-reads
+use Rattle.xapool.proofs.run_one.Reads as run-one-reads
+
+abbrev Inv-loop : tie.InvT-loop
+Inv-loop pool₀ batch reply₀ at₀ out₀ low₀ pool reply at out low =
+    (length pool ≡ length pool₀) × Running pool₀ reply₀ batch pool reply at out low
+
+abbrev μ-loop : tie.MeasureT-loop
+μ-loop pool₀ batch reply₀ at₀ out₀ low₀ pool reply at out low = length batch - at
+
+-- the record that was read
+was : (c : tie.After-r Inv-loop μ-loop) →
+    Next (c .r .given .0 .0) (c .r .given .0 .1 .0) ≡ readAt (c .before .before .before .before .before .before .before .args .batch .now) (c .before .before .before .loop .at)
+was c = sym (c .r .given .1) ∙ c .before .before .read-at .ensures
+
+loop-holds : tie.Need-loop-holds Inv-loop μ-loop
+loop-holds c = (refl, running-start (c .before .before .before .pre .0) (c .before .before .before .pre .1))
+
+read-at-requires : tie.Need-read-at-requires Inv-loop μ-loop
+read-at-requires c κs = search needs
+
+enum-known-r : tie.Need-enum-known-r Inv-loop μ-loop
+enum-known-r c = search needs
+
+run-one-requires : tie.Need-run-one-requires Inv-loop μ-loop
+run-one-requires c κs = let r = c .before .before .before .before .before .before .loop .inv .1 in
+    (r .formed, (r .used, room-for r (sym (c .before .before .before .r .given .1) ∙ c .before .before .before .before .before .read-at .ensures)))
+
+add-out : tie.Need-add-out Inv-loop μ-loop
+add-out c = omega (arith, room-for (c .before .before .before .before .before .before .before .before .before .before .before .loop .inv .1) (was (c .before .before .before .before .before .before .before .before)))
+
+loop-less : tie.Need-loop-less Inv-loop μ-loop
+loop-less c = omega (arith, next-after _ _ (sym (was (c .before .before .before .before .before .before .before .before))))
+
+loop-again : tie.Need-loop-again Inv-loop μ-loop
+loop-again c = let r = c .before .before .before .before .before .before .before .before .before .before .before .loop .inv .1 in (
+  c .before .before .before .pool .given ∙ c .before .before .before .before .before .before .before .before .before .before .before .loop .inv .0,
+  running-on r (was (c .before .before .before .before .before .before .before .before)) (read-fits (record { small = λ i. omega (arith, c .before .before .before .before .before .before .before .before .before .before .before .before .before .shared-slice-known .given i) }) _ (sym (was (c .before .before .before .before .before .before .before .before))))
+      (c .before .before .before .before .run-one .ensures .0 (r .formed)) (c .before .before .before .before .run-one .ensures .1) (c .before .reply .given),
+)
+
+enum-told : tie.Need-enum-told Inv-loop μ-loop
+enum-told c = search needs
+
+same-length : tie.Need-same-length Inv-loop μ-loop
+same-length c = c .before .before .before .loop .inv .0
+
+same-length-2 : tie.Need-same-length-2 Inv-loop μ-loop
+same-length-2 c = c .before .before .before .loop .inv .1 .same-length
+
+returns : tie.Need-returns Inv-loop μ-loop
+returns c = λ s cs e. absurd (never-bad (c .before .before .before .loop .inv .1) (sym (c .enum-told .given .1) ∙ c .before .before .read-at .ensures))
+
+enum-told-2 : tie.Need-enum-told-2 Inv-loop μ-loop
+enum-told-2 c = search needs
+
+same-length-3 : tie.Need-same-length-3 Inv-loop μ-loop
+same-length-3 c = c .before .before .before .loop .inv .0
+
+same-length-4 : tie.Need-same-length-4 Inv-loop μ-loop
+same-length-4 c = c .before .before .before .loop .inv .1 .same-length
+
+returns-2 : tie.Need-returns-2 Inv-loop μ-loop
+returns-2 c = λ s cs e. running-end (c .before .before .before .loop .inv .1) (sym (c .enum-told2 .given .1) ∙ c .before .before .read-at .ensures) s cs e
+
+pub run-all-spec : {M : Type 1} → statement M
+run-all-spec =
+    tie.close
+    (tie.spec
+    Inv-loop
+    μ-loop
+    loop-holds
+    read-at-requires
+    enum-known-r
+    run-one-requires
+    add-out
+    loop-less
+    loop-again
+    enum-told
+    same-length
+    same-length-2
+    returns
+    enum-told-2
+    same-length-3
+    same-length-4
+    returns-2)

@@ -1,0 +1,21 @@
+use mathlib.Core.Path.{ap}
+use Prim.Native.Nat.{ℕ}
+use Rattle.xapool.specs.Calls.{result}
+use borrow.Author.Needs.{needs}
+use Rattle.xapool.proofs.xapool_init.Statement.{statement}
+use Rattle.xapool.proofs.xapool_init.Tie as tie
+use Rattle.xapool.proofs.xapool_init.Reads as reads
+use Rattle.xapool.proofs.xapool_init.Lts as lts
+use Rattle.verify.proofs.init.Reads as init-reads
+
+init-requires : tie.Need-init-requires
+init-requires c κs = search needs
+
+same-length : tie.Need-same-length
+same-length c = search needs
+
+returns : tie.Need-returns
+returns c = (ap (λ (a : ℕ). result a 0) (c .before .before .init .ensures .0), c .before .before .init .ensures .1)
+
+pub xapool-init-spec : {M : Type 1} → statement M
+xapool-init-spec = tie.close (tie.spec init-requires same-length returns)
