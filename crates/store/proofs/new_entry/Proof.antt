@@ -47,14 +47,21 @@ pow2-requires c κs = search needs
 
 mul-t10 : tie.Need-mul-t10
 mul-t10 c = let a = c .before .before .before .before .args in
-    record { fits = rw (c .pow2 .ensures) (omega (arith, block-lo (a .order) (a .index), c .before .before .before .before .fits .index .fits)) }
+    record {
+      fits = rw (c .pow2 .ensures) (omega (
+        arith,
+        block-lo (a .order) (a .index),
+        c .before .before .before .before .fits .index .fits,
+      ));
+    }
 
 returns : tie.Need-returns
 returns c = λ s l m at. let a = c .before .before .before .before .args in
     entry-is _ _ l (a .index) (a .order) (a .word) (ap (λ (y : ℕ). a .index / 2 ^ a .order * y) (c .pow2 .ensures))
     (c .before .marks-of .ensures s (a .order / 6) _ (newEntry l (a .index) (a .order) (a .word))
     (subst (λ (b : ℕ). AtNode (s .list) (num s) (a .order / 6) b (a .a)) (entry-block (a .index) (a .order)) at)
-    (c .before .before .offset-of .ensures .0 ∙ entry-slot (a .index) (a .order)) (stand _ l (a .index) (a .order) (a .word) m))
+    (c .before .before .offset-of .ensures .0 ∙ entry-slot (a .index) (a .order))
+    (stand _ l (a .index) (a .order) (a .word) m))
 
 pub new-entry-spec : {M : Type 1} → statement M
 new-entry-spec =

@@ -27,29 +27,34 @@ same-length : tie.Need-same-length
 same-length c = search needs
 
 returns : tie.Need-returns
-returns c = let a = c .before .before .before .before .before .before .before .args in let p = c .before .before .before .before .before .before .before .pre in (
-  λ s. stores-flat s (a .index) (a .order) (a .word) (c .before .before .before .before .before .before .before .fits .index .fits) (p .1 .0 .0) (p .1 .1 s)
-      (sym (c .before .before .top-of .ensures (s .list) (a .word) (s .valid) (p .1 .1 s) (c .before .before .before .height-of .ensures s)) ∙
-      c .before .if1 .taken),
-  in-use-set 1 (a .word) (λ z. omega arith) (λ m z. omega arith) (p .1 .0 .2),
-)
+returns c = let a = c .before .before .before .before .before .before .before .args in
+    let p = c .before .before .before .before .before .before .before .pre in (
+      λ s. stores-flat s (a .index) (a .order) (a .word) (c .before .before .before .before .before .before .before
+          .fits .index .fits) (p .1 .0 .0) (p .1 .1 s)
+          (sym (c .before .before .top-of .ensures (s .list) (a .word) (s .valid) (p .1 .1 s)
+          (c .before .before .before .height-of .ensures s)) ∙
+          c .before .if1 .taken),
+      in-use-set 1 (a .word) (λ z. omega arith) (λ m z. omega arith) (p .1 .0 .2),
+    )
 
 store-nodes-requires : tie.Need-store-nodes-requires
-store-nodes-requires c κs = let a = c .before .before .before .before .before .before .before .args in let p = c .before .before .before .before .before .before .before .pre in (
-  p .0,
-  (
-    p .1 .0,
-    λ s. record {
-      new = p .1 .1 s;
-      n-is = size-word s;
-      low-le = p .1 .0 .2 .at-most;
-      low-used = low-used s (p .1 .0 .2);
-      h-is = c .before .before .before .height-of .ensures s;
-      top-is = c .before .before .top-of .ensures (s .list) (a .word) (s .valid) (p .1 .1 s) (c .before .before .before .height-of .ensures s);
-      some-node = omega (arith, c .before .if1 .left);
-    },
-  ),
-)
+store-nodes-requires c κs = let a = c .before .before .before .before .before .before .before .args in
+    let p = c .before .before .before .before .before .before .before .pre in (
+      p .0,
+      (
+        p .1 .0,
+        λ s. record {
+          new = p .1 .1 s;
+          n-is = size-word s;
+          low-le = p .1 .0 .2 .at-most;
+          low-used = low-used s (p .1 .0 .2);
+          h-is = c .before .before .before .height-of .ensures s;
+          top-is = c .before .before .top-of .ensures (s .list) (a .word) (s .valid) (p .1 .1 s)
+              (c .before .before .before .height-of .ensures s);
+          some-node = omega (arith, c .before .if1 .left);
+        },
+      ),
+    )
 
 same-length-2 : tie.Need-same-length-2
 same-length-2 c = search needs
