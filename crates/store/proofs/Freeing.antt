@@ -31,15 +31,14 @@ use Rattle.blocks.proofs.BlockLaws.{block-block}
 use Rattle.model.specs.declared.Entry.{Entry}
 use Rattle.model.specs.Model.{EntryOk, within}
 use Rattle.tree.specs.Tree.{has, height, Node, tierOrder, slots}
-use Rattle.tree.specs.Slots.{nodeWord, siblingWord, slot, nodeOffset}
+use Rattle.tree.specs.Slots.{slot}
 use Rattle.tree.proofs.SlotLaws.{tier-up}
 use Rattle.tree.proofs.StoreLaws.{within-only}
-use Rattle.tree.proofs.ReadLaws.{Seen, see, nothing, lower, entry, sibling, word-kind}
 use Rattle.layout.specs.Words.{fieldAt, place, nodeWords, slotField, poolWords}
 use Rattle.layout.specs.Places.{Places, numberIn, Placed}
 use Rattle.layout.specs.Fill.{filled}
 use Rattle.layout.proofs.NewNumberLaws.{stands-at}
-use Rattle.layout.proofs.NumberLaws.{nd, number-at, number-of, in-standing}
+use Rattle.layout.proofs.NumberLaws.{nd, number-of, in-standing}
 use Rattle.layout.specs.declared.Slot.{Slot}
 use Rattle.layout.proofs.SlotWordLaws.{View, v-empty, v-held, v-sibling, v-child, view}
 use Rattle.store.specs.Writes.{freeBelow, freeSlot, freeSlots, freeTree}

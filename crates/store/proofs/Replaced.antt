@@ -6,19 +6,19 @@ use mathlib.Core.List.{List, [], _∷_, map}
 use mathlib.Core.Option.{Option, none, some}
 use mathlib.Core.Logic.{inl, inr}
 use native.Mathlib.Omega.{arith}
-use native.Mathlib.Nat.{le-refl, div-one}
-use lib.Dec.{ltb, eqb, T}
+use lib.Dec.{ltb, eqb}
 use lib.ListN.{length, getD, set, length-set}
 use lib.Seq.{getD-set-same, getD-set-other}
-use borrow.Author.Tests.{eqb-true, eqb-false, ltb-false, eq-eqb}
+use borrow.Author.Tests.{eqb-true, eqb-false, ltb-false}
 use Rattle.blocks.specs.Choice.{pick}
-use Rattle.blocks.specs.Lists.{All, any, In, here, there}
+use Rattle.blocks.specs.Lists.{any, In, here, there}
 use Rattle.blocks.specs.Blocks.{block}
 use Rattle.blocks.proofs.BoolLaws.{clash, byT}
 use Rattle.blocks.proofs.ListLaws.{All-map, first-yes, each, look}
 use Rattle.blocks.proofs.BitLaws.{bits-same}
 use Rattle.model.specs.declared.Entry.{Entry}
 use Rattle.model.specs.Model.{Valid, covers, covering, starts, within, hasMark, marksOf, withWord}
+use Rattle.model.proofs.RangeLaws.{Apart}
 use Rattle.model.proofs.ValidLaws.{unique, sorted-ok}
 use Rattle.tree.specs.Tree.{slots, tierOrder, fits, height, has, Node, needed, slotMark}
 use Rattle.tree.specs.Slots.{Numbering, nodeWord, entryWord, slot}
@@ -35,7 +35,7 @@ use Rattle.tree.proofs.RelabelLaws.{
   mark-map,
 }
 use Rattle.layout.specs.Words.{place, poolWords, nodeWords, slotField, field, fieldAt, anchorWord}
-use Rattle.layout.specs.Places.{Places, numberOf, standing, allocate, prune, numberIn, freeCount, newPlaces, render}
+use Rattle.layout.specs.Places.{Places, numberOf, standing, allocate, prune, newPlaces, render}
 use Rattle.layout.specs.WellFormed.{WellFormed, num}
 use Rattle.layout.proofs.RenderLaws.{render-is}
 use Rattle.layout.proofs.RenderWordLaws.{render-long, render-anchor, render-node, field-slot}
@@ -45,7 +45,7 @@ use Rattle.lookup.proofs.StandLaws.{stands, entry-word}
 use Rattle.lookup.proofs.WordLaws.{node-at}
 use Rattle.plan.proofs.AfterStore.{has-le, has-some, has-within}
 use Rattle.plan.proofs.Reading.{head-look}
-use Rattle.store.specs.Stored.{Stores, Stored, Done}
+use Rattle.store.specs.Stored.{Stores, Done}
 
 -- places stay
 allocate-none : (os : Places) → allocate os [] ≡ os
@@ -148,6 +148,19 @@ module _ {ws : List ℕ} (s : WellFormed ws) (i w : ℕ) (e : Entry) (cov : cove
             slots (λ j g. sym (mark-map f fb fo (x - 2) (u - 1) (slots * b + j) l (λ y. refl))),
       ))
       (λ t. rw (t, h (ltb-false _ _ t))))
+
+  -- a node apart from the entry's range has the same words
+  pub apart-field : (u b x : ℕ) → 1 ≤ u → x < nodeWords → Apart i (e .order) (tierOrder u) b →
+      field l ν u b x ≡ field l′ ν u b x
+  apart-field u b x pos lt a = field-as u b x (λ g. slot-other (u - 1) (slots * b + (x - 5)) (λ (n, y, q, st, cv).
+      let m = first-yes (covers ((slots * b + (x - 5)) * 2 ^ tierOrder (u - 1))) (each l (λ x m. m)) q .1 in
+      let z : y ≡ e = unique i (s .valid) m inside-l cv over-i in
+      let c-is : block (tierOrder (u - 1)) (e .base) ≡ slots * b + (x - 5) =
+      ap (λ (k : Entry). block (tierOrder (u - 1)) (k .base)) (sym z) ∙ eqb-true _ _ st in
+      let up : suc (u - 1) ≡ u = omega arith in
+      let b-is : block (tierOrder u) (e .base) ≡ b = ap (λ (v : ℕ). block (tierOrder v) (e .base)) (sym up) ∙
+      (tier-up (u - 1) (e .base) ∙ (ap (λ (y : ℕ). y / slots) c-is ∙ omega arith)) in
+      a (e .base) b-is (sym (eqb-true _ _ over-i))))
 
   marks-as : marksOf l ≡ marksOf l′
   marks-as = rw (any-as 0, any-as 1, any-as 2)
