@@ -12,3 +12,4 @@ pub mod SparedLaws
 pub mod Replaced
 pub mod Results
 pub mod StoreFootprint
+pub mod AfterLaws
