@@ -37,18 +37,18 @@ module _ (l l′ : List Entry) (ν ν′ : Numbering) (v b : ℕ)
             (λ j g. m (f - 2) (slots * b + j) (omega (arith, ltb-true)) (omega arith)),
       )) (λ t. rw t))
 
-module _ (i k w : ℕ) (l : List Entry) (room : All (Room i k) l) where
-  -- a block of a node's slot is apart where the node's is
-  pub apart-slot : (v b d : ℕ) → Apart i k (tierOrder (suc v)) b → d / slots ≡ b → Apart i k (tierOrder v) d
-  apart-slot v b d a q y e = a y (tier-up v y ∙ ap (λ (x : ℕ). x / slots) e ∙ q)
+-- a block of a node's slot is apart from a range where the node's is
+pub apart-slot : (i k v b d : ℕ) → Apart i k (tierOrder (suc v)) b → d / slots ≡ b → Apart i k (tierOrder v) d
+apart-slot i k v b d a q y e = a y (tier-up v y ∙ ap (λ (x : ℕ). x / slots) e ∙ q)
 
+module _ (i k w : ℕ) (l : List Entry) (room : All (Room i k) l) where
   pub field-apart : (ν ν′ : Numbering) (v b : ℕ) → Apart i k (tierOrder (suc v)) b →
       owner (storeNew l i k w) ν′ (suc v) b ≡ owner l ν (suc v) b →
       ((d : ℕ) → d / slots ≡ b → any (within (tierOrder v) d) l ≡ true → ν′ v d ≡ ν v d) → (f : ℕ) → f < nodeWords →
       field (storeNew l i k w) ν′ (suc v) b f ≡ field l ν (suc v) b f
   field-apart ν ν′ v b a o c =
-      field-same l (storeNew l i k w) ν ν′ v b o (λ m d _ q. mark-apart i k w l m v d (apart-slot v b d a q))
-      (λ d q. slot-apart i k w l ν ν′ v d room (apart-slot v b d a q) (c d q))
+      field-same l (storeNew l i k w) ν ν′ v b o (λ m d _ q. mark-apart i k w l m v d (apart-slot i k v b d a q))
+      (λ d q. slot-apart i k w l ν ν′ v d room (apart-slot i k v b d a q) (c d q))
 
   -- a node that is new on the path: all but the path's slot, or the run's, hold 0, and no mark is set
   module _ (v : ℕ) (above : k < tierOrder (suc v)) (new : any

@@ -1,8 +1,10 @@
-pub mod OwnerLaws
 pub mod FieldLaws
+pub mod FillLaws
+pub mod NewNumberLaws
+pub mod NumberLaws
+pub mod OwnerLaws
 pub mod PlacesLaws
 pub mod RenderLaws
-pub mod SlotWordLaws
-pub mod NumberLaws
-pub mod NewNumberLaws
 pub mod RenderWordLaws
+pub mod SlotWordLaws
+pub mod StayLaws

@@ -4,16 +4,16 @@ use mathlib.Core.Path.{_≡_, refl, sym, ap, subst}
 use mathlib.Core.Bool.{true, false}
 use mathlib.Core.List.{List, [], _∷_}
 use mathlib.Core.Option.{Option, none, some}
-use mathlib.Core.Logic.{_⊎_, inl, inr}
 use native.Mathlib.Omega.{arith}
 use lib.ListN.{length, getD}
 use borrow.Author.Tests.{eq-eqb}
+use mathlib.Core.Logic.{_⊎_, inl, inr}
 use Rattle.blocks.proofs.BoolLaws.{clash, byT, is-false}
 use Rattle.blocks.specs.Lists.{In, here, there, Distinct, d-more}
 use Rattle.blocks.proofs.ListLaws.{in-cons}
 use Rattle.model.specs.declared.Entry.{Entry}
 use Rattle.tree.specs.Tree.{has, Node}
-use Rattle.layout.specs.Places.{Places, same, numberOf, standing, allocate, keepIf, prune}
+use Rattle.layout.specs.Places.{Places, standing, prune, keepIf, same, numberOf, allocate}
 use Rattle.layout.proofs.PlacesLaws.{same-is}
 
 abbrev pub nd : ℕ → ℕ → Node
@@ -84,3 +84,15 @@ keep-some l none p e = let z : _≡_ {A = ℕ} 0 1 = cc in absurd (omega arith)
 keep-some l (some q) p e =
     byT (has l (q .tier) (q .number)) (λ t. let d : q ≡ p = cc t in (ap some d, rw (← d) t))
     (λ t. let z : _≡_ {A = ℕ} 0 1 = cc t in absurd (omega arith))
+
+pub allocate-none : (os : Places) → allocate os [] ≡ os
+allocate-none [] = refl
+allocate-none (none ∷ os) = ap (λ (r : Places). none ∷ r) (allocate-none os)
+allocate-none (some p ∷ os) = ap (λ (r : Places). some p ∷ r) (allocate-none os)
+
+pub prune-same : (l : List Entry) (os : Places) → ((p : Node) → In p (standing os) →
+    has l (p .tier) (p .number) ≡ true) → prune l os ≡ os
+prune-same l [] f = refl
+prune-same l (none ∷ os) f = ap (λ (r : Places). none ∷ r) (prune-same l os f)
+prune-same l (some p ∷ os) f = rw (f p here) (ap (λ (r : Places). some p ∷ r)
+    (prune-same l os (λ q m. f q (there m))))

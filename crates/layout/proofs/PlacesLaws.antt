@@ -149,7 +149,7 @@ module _ (n : ℕ) (l : List Entry) (os : Places) (pl : Placed n l os) (l′ : L
       (λ m. clash t (look fresh m .0))
 
 -- COUNT
-pigeon : {s : List Node} (t : List Node) → Distinct s → ((p : Node) → In p s → In p t) → length s ≤ length t
+pub pigeon : {s : List Node} (t : List Node) → Distinct s → ((p : Node) → In p s → In p t) → length s ≤ length t
 pigeon t d-end f = omega arith
 pigeon t (d-more {p} {ps} n d) f =
     let less : suc (length (without (same p) t)) ≤ length t = shorter p t (f p here) in
@@ -170,7 +170,7 @@ pigeon t (d-more {p} {ps} n d) f =
     shorter p (x ∷ t) (there m) = byT (same p x) (λ e. rw e (omega (arith, no-longer (same p) t)))
         (λ e. rw e (omega (arith, shorter p t m)))
 
-all-places : (os : Places) → freeCount os + length (standing os) ≡ length os
+pub all-places : (os : Places) → freeCount os + length (standing os) ≡ length os
 all-places [] = refl
 all-places (none ∷ os) = omega (arith, all-places os)
 all-places (some p ∷ os) = omega (arith, all-places os)

@@ -18,9 +18,13 @@ pub const NODE_WORDS: u64 = 69;
 
 pub const MAX_NODES: u64 = 1000;
 
+pub const COUNT_WORD: usize = 0;
+
 pub const HEAD_WORD: usize = 1;
 
 pub const MARKS_WORD: usize = 2;
+
+pub const SPARE_WORD: usize = 3;
 
 pub const SHIFT_FIELD: u64 = 0;
 

@@ -29,7 +29,7 @@ use Rattle.layout.specs.declared.Slot.{Slot}
 use Rattle.layout.specs.declared.Slot.the-variants.{Empty, Held, Sibling, Child}
 use Rattle.layout.proofs.SlotWordLaws.{View, view}
 use Rattle.lookup.specs.declared.Turn.the-variants.{Past}
-use Rattle.lookup.specs.Find.{headed, leads, stopTier, entryTurn, turnAt, step}
+use Rattle.lookup.specs.Find.{headed, leads, stopTier, entryTurn, turnAt, step, anyMark}
 use Rattle.lookup.specs.Load.{depthTo, depth}
 use Rattle.lookup.proofs.LoadLaws.{depth-flat, depth-past, depth-stop}
 use Rattle.lookup.proofs.StepLaws.{head-has, in-nonempty, stops}
@@ -54,6 +54,7 @@ use Rattle.lookup.proofs.WayLaws.{view-child, view-empty, view-held, vi
 use Rattle.lookup.specs.declared.Located.{Located}
 use Rattle.lookup.specs.declared.Located.the-variants.{Uncovered, AtHead, InNode}
 use Rattle.lookup.specs.declared.Spot.{Spot}
+use Rattle.layout.specs.Words.{marksWord, headWord}
 
 -- A NODE AS HEAD
 module _ {l : List Entry} {ν : Numbering} {n : ℕ} (hd : HeadNode l ν n) (p : ℕ) where
@@ -75,7 +76,7 @@ module _ {l : List Entry} {ν : Numbering} {n : ℕ} (hd : HeadNode l ν n) (p :
       (rw (nonempty-l, eq-eqb (block (tierOrder (height l)) p) 0 (omega (arith, top-block))) refl)
       (rw e (hd .at-node)))
 
-pub height-most : {l : List Entry} → All Low l → height l ≤ 11
+pub height-most : {l : List Entry} → All Low l → height l ≤ topTier
 height-most end = omega arith
 height-most (also {x} ok a) = omega (arith, fits-tall 11 x (fits-most x ok), height-most a)
 
@@ -90,7 +91,8 @@ module _ {ws : List ℕ} (s : WellFormed ws) where
   low : All Low (s .list)
   low = All-map (λ x o. (o .order-le, o .in-range)) (sorted-ok (s .valid))
 
-  pub head-view : {k : Slot} {w : ℕ} → w ≡ getD ws 1 0 → k ≡ slotOf w → View (s .list) (num s) (height (s .list)) 0 k
+  pub head-view : {k : Slot} {w : ℕ} → w ≡ getD ws headWord 0 → k ≡ slotOf w →
+      View (s .list) (num s) (height (s .list)) 0 k
   head-view q r = rw (r ∙ ap slotOf (q ∙ pool-head s))
       (view (s .list) (num s) (height (s .list)) 0 (sorted-ok (s .valid)))
 
@@ -103,7 +105,7 @@ module _ {ws : List ℕ} (s : WellFormed ws) where
       absurd (clash (both-r (leb (height (s .list)) (height (s .list))) _
       (head-has (s .list) low t (omega arith))) n))
 
-  flat-entry : height (s .list) ≡ 0 → {x : Entry} → In x (s .list) → (x .order ≡ 0) × (x .base ≡ 0)
+  pub flat-entry : height (s .list) ≡ 0 → {x : Entry} → In x (s .list) → (x .order ≡ 0) × (x .base ≡ 0)
   flat-entry z {x} m =
       let t : fits 0 x ≡ true = look (height-fits {h = 0} low (omega arith)) m in
       let o : x .order < max 1 (tierOrder 0) = fits-order 0 x t in
@@ -189,21 +191,22 @@ module _ {ws : List ℕ} (s : WellFormed ws) where
         (λ t. in-any (hasMark m) i t)
 
     pub lone-here : (p : ℕ) → p ≡ 0 → Enters (s .list) (num s) p
-        (Bare (record { base = 0; order = 0; word = getD ws 1 0; marks = getD ws 2 0 }))
+        (Bare (record { base = 0; order = 0; word = getD ws headWord 0; marks = getD ws marksWord 0 }))
     unfolding slot
     lone-here p h =
         let (x, m, z, n, q, b) = head in
         let (ox, bx) = flat-entry z m in
         let g : block (tierOrder (height (s .list))) p ≡ 0 = rw (h, z) refl in
-        let wd : x .word ≡ getD ws 1 0 = sym (pool-head s ∙ rw
+        let wd : x .word ≡ getD ws headWord 0 = sym (pool-head s ∙ rw
         (n, q, eq-eqb (block (tierOrder (height (s .list))) (x .base)) 0 b) refl) in
-        let mk : x .marks ≡ getD ws 2 0 = sym (pool-marks s ∙ rw
+        let mk : x .marks ≡ getD ws marksWord 0 = sym (pool-marks s ∙ rw
         (one-mark x m z 0, one-mark x m z 1, one-mark x m z 2)
         (marks-three (hasMark 0 x) (hasMark 1 x) (hasMark 2 x) ∙ marks-sum x
         (look (sorted-ok (s .valid)) m .marks-fit))) in
-        let same : x ≡ record { base = 0; order = 0; word = getD ws 1 0; marks = getD ws 2 0 } = λ i. record
+        let same : x ≡ record { base = 0; order = 0; word = getD ws headWord 0; marks = getD ws marksWord 0 } = λ i.
+        record
         { base = bx i; order = ox i; word = wd i; marks = mk i } in
-        is-bare (record { base = 0; order = 0; word = getD ws 1 0; marks = getD ws 2 0 }) z
+        is-bare (record { base = 0; order = 0; word = getD ws headWord 0; marks = getD ws marksWord 0 }) z
         (rw (in-nonempty m, eq-eqb (block (tierOrder (height (s .list))) p) 0 g) refl)
         (ap (covering (s .list)) (h ∙ sym (zero-at (height (s .list)))) ∙ q ∙ ap some same) refl refl
 
@@ -277,15 +280,16 @@ module _ (l : List Entry) (val : Valid l) (i : ℕ) where
       empty (x ∷ l) t = absurd (clash refl t)
 
   pub depth-under : (n v u : ℕ) {ν : Numbering} → height l ≡ suc v → AtNode l ν v (block (tierOrder (suc v)) i) n →
-      u ≡ stopTier l 3 i v → (u ≤ v + 1) × (v + 1 - u ≡ depthTo l i (height l))
-  depth-under n v u z a q = let d : depthTo l i (suc v) + stopTier l 3 i v ≡ suc v = depth-stop l val i v (a .there)
+      u ≡ stopTier l anyMark i v → (u ≤ v + 1) × (v + 1 - u ≡ depthTo l i (height l))
+  depth-under n v u z a q = let d : depthTo l i (suc v) + stopTier l anyMark i v ≡ suc v = depth-stop l val i v
+      (a .there)
       in rw z (omega arith, omega arith)
 
 -- with filter 3 the way down does not stop at a node
-pub not-node : (l : List Entry) → Valid l → (p v u : ℕ) → u ≡ stopTier l 3 p v →
+pub not-node : (l : List Entry) → Valid l → (p v u : ℕ) → u ≡ stopTier l anyMark p v →
     any (within (tierOrder u) (block (tierOrder u) p)) l ≡ true → ⊥
-not-node l val p v u q t = clash {b = leads l 3 u (block (tierOrder u) p)} (rw t refl)
-    (subst (λ (w : ℕ). leads l 3 w (block (tierOrder w) p) ≡ false) (sym q) (stops l val 3 0 p v))
+not-node l val p v u q t = clash {b = leads l anyMark u (block (tierOrder u) p)} (rw t refl)
+    (subst (λ (w : ℕ). leads l anyMark w (block (tierOrder w) p) ≡ false) (sym q) (stops l val 3 0 p v))
 
 -- by what was located
 module _ {l : List Entry} {ν : Numbering} {i : ℕ} where

@@ -19,6 +19,7 @@ ghost use Prim.Native.Nat.{ℕ, suc, _+_, _*_, _/_, _%_, _^_, _<_, _≤_};
 ghost use mathlib.Core.Path.{_≡_};
 ghost use Rattle.blocks.specs.Choice.{pick};
 ghost use Rattle.blocks.specs.Blocks.{block};
+ghost use Rattle.model.specs.Model.{maxOrder, markCount};
 ghost use Rattle.tree.specs.Tree.{slots, tierOrder, topTier, height, slotMark};
 ghost use Rattle.layout.specs.Words.{place, lastField};
 ghost use Rattle.layout.specs.WellFormed.{WellFormed, num};
@@ -117,7 +118,7 @@ pub fn order_of(pool: &[u64], n: u64, o: u64) -> u64
 // Mark m of slot o of node n.
 fn mark_bit(pool: &[u64], n: u64, m: u64, o: u64) -> u64
     requires { do ⌜ place n lastField < (← ⟦pool.len()⟧) ⌝ }
-    requires { ⌜ m < 3 ⌝ }
+    requires { ⌜ m < markCount ⌝ }
     requires { ⌜ o < slots ⌝ }
     ensures { λ r. ⌜ r < 2 ⌝ }
     ensures { λ r. ⌜ ((s : WellFormed (now (pool .entry))) (v c : ℕ) → AtNode (s .list) (num s) v (c / slots) n →
@@ -280,7 +281,7 @@ fn onward(z: u64, last: u64) -> Turn
 // The step that comes to the entry e.
 fn consider(e: Entry, last: u64, filter: u64) -> Turn
     requires { ⌜ filter ≤ anyMark ⌝ }
-    requires { ⌜ e .order ≤ 63 ⌝ }
+    requires { ⌜ e .order ≤ maxOrder ⌝ }
     requires { ⌜ e .base + 2 ^ e .order ≤ 2 ^ 64 ⌝ }
     ensures { λ r. ⌜ r ≡ entryTurn filter last e ⌝ }
 {
@@ -369,7 +370,7 @@ pub fn find(pool: &[u64], first: u64, last: u64, filter: u64, budget: u64) -> Ou
 
 // LOAD
 
-// locate from the head node n on, whose slots are of tier v.
+// locate from the head node n on, whose slots are of tier v. The way to any entry does not stop at a node.
 fn locate_under(pool: &[u64], n: u64, v: u64, i: u64) -> Located
     requires { ⌜ WellFormed (now pool) ⌝ }
     requires { ⌜ v < topTier ⌝ }

@@ -15,7 +15,8 @@ use Rattle.lookup.proofs.locate.Tie as tie
 under : (c : tie.After-k2) (s : WellFormed (c .before .before .before .before .args .pool .now)) →
     (height (s .list) ≡ suc (c .k2 .given .0 .1 .0)) × (c .k2 .given .0 .1 .0 < topTier) ×
     (headed (s .list) (c .before .before .before .before .args .i) ≡ true) ×
-    AtNode (s .list) (num s) (c .k2 .given .0 .1 .0) (block (tierOrder (suc (c .k2 .given .0 .1 .0))) (c .before .before .before .before .args .i))
+    AtNode (s .list) (num s) (c .k2 .given .0 .1 .0) (block (tierOrder (suc (c .k2 .given .0 .1 .0)))
+    (c .before .before .before .before .args .i))
     (c .k2 .given .0 .0)
 under c s = entered-under (c .before .before .enter .ensures s) _ _ (c .k2 .given .1)
 
@@ -36,11 +37,13 @@ locate-under-requires c κs = let t = c .before .before .before .before .before 
     (t, (under (c .before) t .1, ((λ s. under (c .before) s .3), (λ s. under (c .before) s .0))))
 
 returns : tie.Need-returns
-returns c = λ s. locate-outside (s .list) (s .valid) _ (entered-outside (c .before .before .enter .ensures s) (c .enum-told .given .1))
+returns c = λ s. locate-outside (s .list) (s .valid) _
+    (entered-outside (c .before .before .enter .ensures s) (c .enum-told .given .1))
 
 returns-2 : tie.Need-returns-2
 returns-2 c = λ s.
-    let (z, h, q, o, e) = entered-bare (c .before .before .before .enter .ensures s) _ (c .before .k .given .1) in is-head _ z q
+    let (z, h, q, o, e) = entered-bare (c .before .before .before .enter .ensures s) _ (c .before .k .given .1) in
+    is-head _ z q
 
 returns-3 : tie.Need-returns-3
 returns-3 c = search needs

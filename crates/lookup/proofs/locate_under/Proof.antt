@@ -17,14 +17,16 @@ use Rattle.lookup.proofs.locate_under.Tie as tie
 -- the count
 depth : (c : tie.After-descend) (s : WellFormed (c .before .before .args .pool .now)) →
     (c .descend .result .tier ≤ c .before .before .args .v + 1) ×
-    (c .before .before .args .v + 1 - c .descend .result .tier ≡ depthTo (s .list) (c .before .before .args .i) (height (s .list)))
+    (c .before .before .args .v + 1 - c .descend .result .tier ≡ depthTo (s .list) (c .before .before .args .i)
+    (height (s .list)))
 depth c s =
     depth-under (s .list) (s .valid) _ _ _ _ (c .before .before .pre .1 .1 .1 s) (c .before .before .pre .1 .1 .0 s)
     (c .descend .ensures .1 s .tier-is)
 
 -- the entry that the slot shows
 shown : (c : tie.After-k) (s : WellFormed (c .before .before .before .before .before .args .pool .now)) →
-    Shown (s .list) (num s) 3 0 (c .before .before .before .before .before .args .i) (c .before .before .before .descend .result .tier) (c .before .before .before .descend .result .node)
+    Shown (s .list) (num s) 3 0 (c .before .before .before .before .before .args .i)
+    (c .before .before .before .descend .result .tier) (c .before .before .before .descend .result .node)
     (c .k .given .0 .0)
 shown c s = shown-entry s _ _ _ (c .before .before .look .ensures s) (c .k .given .1)
 
@@ -49,7 +51,8 @@ add-t13 : tie.Need-add-t13
 add-t13 c = search needs
 
 sub-t14 : tie.Need-sub-t14
-sub-t14 c = depth (c .before .before .before .before .before) (c .before .before .before .before .before .before .before .pre .0) .0
+sub-t14 c = depth (c .before .before .before .before .before)
+    (c .before .before .before .before .before .before .before .pre .0) .0
 
 enum-told : tie.Need-enum-told
 enum-told c = search needs
@@ -65,7 +68,8 @@ enum-told-2 c = search needs
 
 returns : tie.Need-returns
 returns c = λ s.
-    let (e, t, r, st, a) = is-entry _ (c .before .before .before .before .look .ensures s) (c .before .before .k .given .1) in
+    let (e, t, r, st, a) = is-entry _ (c .before .before .before .before .look .ensures s)
+    (c .before .before .k .given .1) in
     let m = c .before .before .before .before .before .descend .result .node in
     let u = c .before .before .before .before .before .descend .result .tier in
     let v = c .before .before .before .before .before .before .before .args .v in
@@ -73,11 +77,14 @@ returns c = λ s.
     (record { node = m; tier = u; slot = c .before .before .k .given .0 .0 % slots; top = v + 1 }) (v + 1 - u)
     (r ∙ ap some (sym (c .entry-at .ensures s e a st)))
     (holds _ (c .before .before .before .before .look .ensures s) (c .before .before .k .given .1))
-    (c .before .before .before .before .before .before .before .pre .1 .1 .1 s ∙ omega arith) (c .before .before .before .before .before .descend .ensures .0) (depth (c .before .before .before .before .before) s .1)
+    (c .before .before .before .before .before .before .before .pre .1 .1 .1 s ∙ omega arith)
+    (c .before .before .before .before .before .descend .ensures .0)
+    (depth (c .before .before .before .before .before) s .1)
 
 returns-2 : tie.Need-returns-2
 returns-2 c = λ s.
-    is-uncovered _ (is-gap (c .before .before .look .ensures s) (c .enum-told .given .1) .1) (depth (c .before .before .before) s .1)
+    is-uncovered _ (is-gap (c .before .before .look .ensures s) (c .enum-told .given .1) .1)
+    (depth (c .before .before .before) s .1)
 
 returns-3 : tie.Need-returns-3
 returns-3 c = λ s.

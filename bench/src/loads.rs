@@ -1,0 +1,105 @@
+//! The three loads: dense stores, sparse stores at random, marked finds.
+
+use xapool_host::{BatchBuilder, Command, Word};
+
+/// The work on one pool: what is run before the clock starts, and what is timed.
+pub struct Work {
+    pub setup: Vec<Command>,
+    pub timed: Vec<Command>,
+}
+
+pub struct Load {
+    pub name: &'static str,
+    pub about: String,
+    pub pools: Vec<Work>,
+}
+
+/// Every 97th entry is marked, so that a find passes some entries and some nodes.
+const MARKED_EVERY: u64 = 97;
+const MARK: u8 = 0;
+
+/// So many stores, or finds, fill a batch.
+const STORES_A_BATCH: usize = 409;
+
+/// A small generator (splitmix64), the same numbers in every run.
+pub struct Random(pub u64);
+
+impl Random {
+    pub fn below(&mut self, limit: u64) -> u64 {
+        self.0 = self.0.wrapping_add(0x9E37_79B9_7F4A_7C15);
+        let mixed = (self.0 ^ (self.0 >> 30)).wrapping_mul(0xBF58_476D_1CE4_E5B9);
+        let mixed = (mixed ^ (mixed >> 27)).wrapping_mul(0x94D0_49BB_1331_11EB);
+        (mixed ^ (mixed >> 31)) % limit.max(1)
+    }
+}
+
+fn store(index: u64) -> Command {
+    Command::Store { index, order: 0, word: Word(2 * (index % 1_000_000) + 1) }
+}
+
+fn dense_stores(indices: u64) -> Vec<Command> {
+    (0..indices).map(store).collect()
+}
+
+fn find(first: u64) -> Command {
+    Command::Find { first, last: u64::MAX, filter: MARK, budget: u16::MAX }
+}
+
+pub fn dense(indices: u64) -> Load {
+    let about = format!("order 0 at indices 0 to {}, in order, one pool", indices - 1);
+    let pools = vec![Work { setup: Vec::new(), timed: dense_stores(indices) }];
+    Load { name: "dense stores", about, pools }
+}
+
+/// One full batch to a pool: each takes about 860 nodes.
+pub fn sparse(stores: u64) -> Load {
+    let mut random = Random(1);
+    let indices: Vec<Command> = (0..stores).map(|_| store(random.below(1 << 24))).collect();
+    let work = |part: &[Command]| Work { setup: Vec::new(), timed: part.to_vec() };
+    let pools: Vec<Work> = indices.chunks(STORES_A_BATCH).map(work).collect();
+    let about = format!("order 0 at random below 2^24, {} pools of one full batch", pools.len());
+    Load { name: "sparse stores", about, pools }
+}
+
+pub fn marked_finds(indices: u64, finds: u64) -> Load {
+    let mut random = Random(2);
+    let mut setup = dense_stores(indices);
+    let marked = (0..indices).filter(|index| index % MARKED_EVERY == MARKED_EVERY - 1);
+    setup.extend(marked.map(|index| Command::Mark { index, mark: MARK }));
+    // From here on there is a marked entry.
+    let most = indices - indices % MARKED_EVERY;
+    let timed = (0..finds).map(|_| find(random.below(most))).collect();
+    let about =
+        format!("from random indices, {indices} dense entries, one in {MARKED_EVERY} marked");
+    Load { name: "marked finds", about, pools: vec![Work { setup, timed }] }
+}
+
+/// Stores at random in 12 blocks of 64 indices, which take at most 37 nodes.
+fn sparse_in_few_blocks() -> Load {
+    let mut random = Random(3);
+    let blocks: Vec<u64> = (0..12).map(|_| 64 * random.below(1 << 18)).collect();
+    let mut index = || blocks[random.below(12) as usize] + random.below(64);
+    let timed = (0..STORES_A_BATCH).map(|_| store(index())).collect();
+    let pools = vec![Work { setup: Vec::new(), timed }];
+    Load { name: "sparse stores", about: "at random in 12 blocks of 64".into(), pools }
+}
+
+/// The three loads, small enough for 40 nodes.
+pub fn small() -> Vec<Load> {
+    vec![dense(2000), sparse_in_few_blocks(), marked_finds(2000, 2000)]
+}
+
+/// The commands as full batches.
+pub fn batches(commands: &[Command]) -> Vec<BatchBuilder> {
+    let mut all = vec![BatchBuilder::new()];
+    for command in commands {
+        let full = all.last_mut().is_none_or(|batch| batch.push(*command).is_err());
+        if full {
+            let mut batch = BatchBuilder::new();
+            // An empty batch has room for any command.
+            let _ = batch.push(*command);
+            all.push(batch);
+        }
+    }
+    all
+}

@@ -1,0 +1,127 @@
+//! bench: three loads through xapool_run, the same over a BTreeMap, and the cost by nodes.
+
+mod loads;
+mod measure;
+mod plain;
+mod plot;
+mod table;
+#[cfg(test)]
+mod tests;
+
+use loads::Load;
+use std::path::Path;
+use std::process::ExitCode;
+use std::{env, fs};
+use table::{ByNodes, Row, NODES};
+
+const USAGE: &str = "\
+usage: bench [--indices N] [--repeats N] [--small-repeats N] [--write DIR]
+  --indices   of the dense load, and the commands of the others; 60,000 if not named
+  --repeats   of each load; of each batch the shortest time counts; 5 if not named
+  --small-repeats   of the small loads, which take microseconds; 200 if not named
+  --write     writes BENCHMARKS.md and benchmarks.svg to this folder
+Exit status: 0 fine, 1 a call was refused or a file could not be written, 2 bad usage.";
+
+const NODES_OF_A_LOAD: usize = 1000;
+
+struct Options {
+    indices: u64,
+    repeats: u32,
+    small_repeats: u32,
+    write: Option<String>,
+}
+
+fn options() -> Option<Options> {
+    let mut options = Options { indices: 60_000, repeats: 5, small_repeats: 200, write: None };
+    let mut words = env::args().skip(1);
+    while let Some(name) = words.next() {
+        let value = words.next()?;
+        match name.as_str() {
+            // The pool has room for 62,000 or so.
+            "--indices" => {
+                options.indices = value.parse().ok().filter(|n| (100..=60_000).contains(n))?
+            }
+            "--repeats" => options.repeats = value.parse().ok().filter(|n| *n > 0)?,
+            "--small-repeats" => options.small_repeats = value.parse().ok().filter(|n| *n > 0)?,
+            "--write" => options.write = Some(value),
+            _ => return None,
+        }
+    }
+    Some(options)
+}
+
+fn main() -> ExitCode {
+    let Some(options) = options() else {
+        eprintln!("{USAGE}");
+        return ExitCode::from(2);
+    };
+    match measure_all(&options) {
+        Ok(()) => ExitCode::SUCCESS,
+        Err(message) => {
+            eprintln!("bench: {message}");
+            ExitCode::from(1)
+        }
+    }
+}
+
+fn measure_all(options: &Options) -> Result<(), String> {
+    let count = options.indices;
+    let full = [loads::dense(count), loads::sparse(count), loads::marked_finds(count, count)];
+    let mut rows = Vec::new();
+    for load in full {
+        rows.push(row(load, options.repeats)?);
+    }
+    let mut by_nodes = Vec::new();
+    for load in loads::small() {
+        by_nodes.push(costs_by_nodes(&load, options.small_repeats)?);
+    }
+    let tables = format!("{}\n{}", table::loads(&rows), table::by_nodes(&by_nodes));
+    println!("{tables}");
+    match &options.write {
+        Some(folder) => write(folder, &tables, &plot::svg(&rows, &by_nodes)),
+        None => Ok(()),
+    }
+}
+
+fn row(load: Load, repeats: u32) -> Result<Row, String> {
+    let cost = measure::cost(&load, NODES_OF_A_LOAD, repeats)?;
+    let map = plain::cost(&load, repeats);
+    Ok(Row { name: load.name, about: load.about, cost, map })
+}
+
+fn costs_by_nodes(load: &Load, repeats: u32) -> Result<ByNodes, String> {
+    let mut costs = [measure::Cost::default(); 3];
+    for (cost, nodes) in costs.iter_mut().zip(NODES) {
+        *cost = measure::cost(load, nodes, repeats)?;
+    }
+    Ok(ByNodes { name: load.name, costs })
+}
+
+fn processor() -> String {
+    let all = fs::read_to_string("/proc/cpuinfo").unwrap_or_default();
+    let named = all.lines().find_map(|line| line.strip_prefix("model name")?.split(": ").nth(1));
+    named.unwrap_or("unknown processor").to_string()
+}
+
+fn write(folder: &str, tables: &str, svg: &str) -> Result<(), String> {
+    let command: Vec<String> = env::args().skip(1).collect();
+    let text = format!(
+        "# What a command costs\n\n\
+         Made by `cd bench && cargo run --release -- {}`, on {}. Do not edit.\n\n\
+         {tables}\n\
+         A run checks its pool first, whose time grows with N and not with the commands; it is timed by itself on \
+         the same pool just before each run, and taken off. Of each batch the shortest time of all repeats counts. \
+         The library reads records and writes replies as bytes; the BTreeMap takes its commands from memory, knows \
+         order 0 alone and writes plain values.\n\n\
+         ![ns a command](benchmarks.svg)\n",
+        command.join(" "),
+        processor()
+    );
+    let folder = Path::new(folder);
+    let put = |name: &str, text: &str| {
+        let path = folder.join(name);
+        fs::write(&path, text).map_err(|error| format!("{}: {error}", path.display()))
+    };
+    put("BENCHMARKS.md", &text)?;
+    put("benchmarks.svg", svg)
+}

@@ -1,0 +1,47 @@
+//! The loads fit the pools they run on.
+
+use crate::loads::{batches, dense, marked_finds, small, sparse, Load, Work};
+use std::collections::BTreeSet;
+use xapool_host::Command;
+
+/// The nodes that stores of order 0 below 2^24 take, at most: a node of each shift over each.
+fn most_nodes(work: &Work) -> usize {
+    let index = |command: &Command| match command {
+        Command::Store { index, .. } => Some(*index),
+        _ => None,
+    };
+    let indices: Vec<u64> = work.setup.iter().chain(&work.timed).filter_map(index).collect();
+    assert!(indices.iter().all(|index| *index < 1 << 24));
+    let nodes =
+        |bits: u32| indices.iter().map(|index| index >> bits).collect::<BTreeSet<_>>().len();
+    [6, 12, 18, 24].into_iter().map(nodes).sum()
+}
+
+fn most(load: &Load) -> usize {
+    load.pools.iter().map(most_nodes).max().unwrap_or(0)
+}
+
+#[test]
+fn full_loads_fit_1000_nodes() {
+    for load in [dense(60_000), sparse(60_000), marked_finds(60_000, 60_000)] {
+        assert!(most(&load) <= 1000, "{}: {}", load.name, most(&load));
+        let commands: usize = load.pools.iter().map(|work| work.timed.len()).sum();
+        assert_eq!(commands, 60_000);
+    }
+}
+
+#[test]
+fn small_loads_fit_40_nodes() {
+    for load in small() {
+        assert!(most(&load) <= 40, "{}: {}", load.name, most(&load));
+    }
+}
+
+#[test]
+fn batches_are_full_and_lose_nothing() {
+    let work = &dense(1000).pools[0];
+    let all = batches(&work.timed);
+    assert_eq!(all.iter().map(|batch| batch.len()).collect::<Vec<_>>(), [409, 409, 182]);
+    let again: Vec<Command> = all.iter().flat_map(|batch| batch.commands().flatten()).collect();
+    assert_eq!(again, work.timed);
+}

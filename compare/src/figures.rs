@@ -1,0 +1,93 @@
+//! What was compared so far, counted in memory that the child process shares with us.
+
+use crate::lend::{Call, Given};
+use crate::os::shared_numbers;
+use std::sync::atomic::{AtomicU64, Ordering::Relaxed};
+
+#[derive(Clone, Copy)]
+pub struct Figures {
+    numbers: &'static [AtomicU64; 64],
+}
+
+/// Which number is what.
+#[derive(Clone, Copy)]
+pub enum Of {
+    Seed = 0,
+    Lists = 1,
+    Calls = 2,
+    Batches = 3,
+    Commands = 4,
+    Words = 5,
+    ReplyBytes = 6,
+    ProgramBatches = 7,
+    ProgramBytes = 8,
+    Changes = 9,
+}
+
+/// The first number of the answers of calls and of those in replies.
+const CALL_ANSWERS: usize = 16;
+const REPLY_ANSWERS: usize = 32;
+
+impl Figures {
+    pub fn new() -> Figures {
+        Figures { numbers: shared_numbers() }
+    }
+
+    pub fn get(self, of: Of) -> u64 {
+        self.numbers[of as usize].load(Relaxed)
+    }
+
+    pub fn set(self, of: Of, number: u64) {
+        self.numbers[of as usize].store(number, Relaxed);
+    }
+
+    pub fn add(self, of: Of, number: usize) {
+        self.numbers[of as usize].fetch_add(number as u64, Relaxed);
+    }
+
+    /// Counts a call on a pool of so many words, by what reference gave.
+    pub fn count(self, call: &Call, words: usize, given: &Given) {
+        self.add(Of::Calls, 1);
+        self.add(Of::Words, words);
+        self.add(Of::ReplyBytes, given.reply.len());
+        self.numbers[CALL_ANSWERS + given.answer as usize].fetch_add(1, Relaxed);
+        if !matches!(call, Call::Run { .. }) {
+            return;
+        }
+        self.add(Of::Batches, 1);
+        if given.answer == 0 {
+            self.add(Of::Commands, given.number as usize);
+            for reply in given.reply.chunks(24).take(given.number as usize) {
+                self.numbers[REPLY_ANSWERS + usize::from(reply[3])].fetch_add(1, Relaxed);
+            }
+        }
+    }
+
+    fn answers(self, from: usize, answers: std::ops::Range<usize>) -> String {
+        let each = answers.map(|answer| (answer, self.numbers[from + answer].load(Relaxed)));
+        let named: Vec<String> = each
+            .filter(|(_, count)| *count > 0)
+            .map(|(answer, count)| format!("{answer}: {count}"))
+            .collect();
+        named.join(", ")
+    }
+
+    pub fn print_calls(self) {
+        println!(
+            "calls: {} lists of calls, {} calls, {} batches, {} commands, {} words and {} reply bytes compared",
+            self.get(Of::Lists),
+            self.get(Of::Calls),
+            self.get(Of::Batches),
+            self.get(Of::Commands),
+            self.get(Of::Words),
+            self.get(Of::ReplyBytes)
+        );
+        println!("  answers of calls      {}", self.answers(CALL_ANSWERS, 0..5));
+        println!("  answers in replies    {}", self.answers(REPLY_ANSWERS, 0..14));
+    }
+
+    pub fn print_program(self) {
+        let (batches, bytes) = (self.get(Of::ProgramBatches), self.get(Of::ProgramBytes));
+        println!("program: {batches} batches, {bytes} bytes of output compared");
+    }
+}

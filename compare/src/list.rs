@@ -1,0 +1,191 @@
+//! A list of calls on one pool.
+
+use crate::batches::{parts, random_batch, show};
+use crate::figures::{Figures, Of};
+use crate::lend::{Call, Lender};
+use crate::pools::random_words;
+use reference::awkward::Commands as Source;
+use reference::batch::read;
+use reference::pool::{node_count, pool_length, State};
+use reference::random::Random;
+
+/// The words it starts from, and the calls.
+#[derive(Clone, Debug, PartialEq, Eq)]
+pub struct CallList {
+    pub words: Vec<u64>,
+    pub calls: Vec<Call>,
+}
+
+impl CallList {
+    pub fn random(seed: u64) -> CallList {
+        let mut random = Random::new(seed);
+        let mut source = Source::new(Random::new(random.word()));
+        let words = random_words(&mut random, &mut source);
+        let count = 1 + random.below(6);
+        let calls = (0..count).map(|_| random_call(&mut random, &mut source)).collect();
+        CallList { words, calls }
+    }
+
+    /// The first difference, with the number of the call.
+    pub fn difference(&self, figures: Option<Figures>) -> Option<String> {
+        // One lender for all lists: a new one would map its memory each time.
+        thread_local!(static LENDER: std::cell::RefCell<Lender> = Lender::new().into());
+        LENDER.with_borrow_mut(|lender| self.difference_by(lender, figures))
+    }
+
+    fn difference_by(&self, lender: &mut Lender, figures: Option<Figures>) -> Option<String> {
+        let mut pool = self.words.clone();
+        lender.set_pool(&pool);
+        for (number, call) in self.calls.iter().enumerate() {
+            let (given, difference) = lender.difference(call, &mut pool);
+            if let Some(text) = difference {
+                return Some(format!("call {}: {text}", number + 1));
+            }
+            if let Some(figures) = figures {
+                figures.count(call, pool.len(), &given);
+            }
+        }
+        if let Some(figures) = figures {
+            figures.add(Of::Lists, 1);
+        }
+        None
+    }
+
+    /// Smaller lists, the much smaller ones first.
+    pub fn smaller(&self) -> Vec<CallList> {
+        let mut all = self.fewer_calls();
+        all.extend(self.smaller_pools());
+        for number in 0..self.calls.len() {
+            all.extend(self.fewer_commands(number));
+        }
+        all.extend(self.fewer_words());
+        all
+    }
+
+    fn fewer_calls(&self) -> Vec<CallList> {
+        let without = |number: usize| {
+            let mut list = self.clone();
+            list.calls.remove(number);
+            list
+        };
+        (0..self.calls.len()).rev().map(without).collect()
+    }
+
+    fn with_words(&self, words: Vec<u64>) -> CallList {
+        CallList { words, calls: self.calls.clone() }
+    }
+
+    /// An initialised pool, or fewer nodes.
+    fn smaller_pools(&self) -> Vec<CallList> {
+        let Some(nodes) = node_count(self.words.len()) else {
+            return Vec::new();
+        };
+        let mut all = Vec::new();
+        let empty = State::empty(nodes).words();
+        if self.words != empty {
+            all.push(self.with_words(empty));
+        }
+        for fewer in
+            [1, nodes / 2, nodes - 1].into_iter().filter(|fewer| (1..nodes).contains(fewer))
+        {
+            let mut words = self.words[..pool_length(fewer)].to_vec();
+            words[0] = if words[0] == nodes as u64 { fewer as u64 } else { words[0] };
+            all.push(self.with_words(words));
+        }
+        all
+    }
+
+    /// One call's batch without some of its records, its reply space as long or short as before.
+    fn fewer_commands(&self, number: usize) -> Vec<CallList> {
+        let Call::Run { batch, reply } = &self.calls[number] else {
+            return Vec::new();
+        };
+        let parts = parts(batch);
+        let mut all = self.exact_reply(number);
+        let mut size = parts.len();
+        while size > 0 {
+            for from in (0..parts.len()).step_by(size) {
+                let to = (from + size).min(parts.len());
+                let fewer = [&parts[..from], &parts[to..]].concat().concat();
+                let less = reply.saturating_sub(24 * (to - from));
+                let mut list = self.clone();
+                list.calls[number] = Call::Run { batch: fewer, reply: less };
+                all.push(list);
+            }
+            size /= 2;
+        }
+        all
+    }
+
+    /// One call with as much reply space as it needs, if it has more.
+    fn exact_reply(&self, number: usize) -> Vec<CallList> {
+        let mut list = self.clone();
+        if let Call::Run { batch, reply } = &mut list.calls[number] {
+            *reply = (*reply).min(24 * parts(batch).len());
+        }
+        if list == *self {
+            Vec::new()
+        } else {
+            vec![list]
+        }
+    }
+
+    /// One word 0 that was not, but for small pools only.
+    fn fewer_words(&self) -> Vec<CallList> {
+        let filled = (1..self.words.len()).filter(|place| self.words[*place] != 0);
+        let without = |place: usize| {
+            let mut words = self.words.clone();
+            words[place] = 0;
+            self.with_words(words)
+        };
+        filled.take(150).map(without).collect()
+    }
+
+    pub fn show(&self) -> String {
+        let mut text = format!("a pool of {} words", self.words.len());
+        let nodes = node_count(self.words.len());
+        if nodes.is_some_and(|nodes| self.words == State::empty(nodes).words()) {
+            text += &format!(", initialised: {} nodes\n", self.words[0]);
+        } else {
+            text += "; those that are not 0:\n";
+            for (place, word) in self.words.iter().enumerate().filter(|(_, word)| **word != 0) {
+                text += &format!("  word {place}: {word:#x}\n");
+            }
+        }
+        for (number, call) in self.calls.iter().enumerate() {
+            text += &format!("call {}: ", number + 1);
+            text += &match call {
+                Call::Init => "init\n".into(),
+                Call::Check => "check\n".into(),
+                Call::Run { batch, reply } => {
+                    format!("run, reply space {reply}\n{}", show(batch))
+                }
+            };
+        }
+        text
+    }
+}
+
+fn random_call(random: &mut Random, source: &mut Source) -> Call {
+    match random.below(12) {
+        0 => Call::Init,
+        1 | 2 => Call::Check,
+        _ => {
+            let batch = random_batch(random, source);
+            let reply = reply_space(random, &batch);
+            Call::Run { batch, reply }
+        }
+    }
+}
+
+/// Mostly as much as the replies need; at times a byte or more too little or too much.
+fn reply_space(random: &mut Random, batch: &[u8]) -> usize {
+    let exact = read(batch).map_or(24 * random.below(5) as usize, |commands| 24 * commands.len());
+    match random.below(16) {
+        0 => exact.saturating_sub(1),
+        1 => random.below(exact as u64 + 1) as usize,
+        2 => exact + 1,
+        3 | 4 => exact + random.below(200) as usize,
+        _ => exact,
+    }
+}

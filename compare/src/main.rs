@@ -1,0 +1,186 @@
+//! compare: the library libxapool.a and the program tamburish against reference/, on random input.
+//!
+//! The library is the one that XAPOOL_LIB named when this was built; the programs are named by
+//! TAMBURISH_BIN and REFERENCE_BIN. TAMBURISH_BIN=none leaves the program out.
+
+mod batches;
+mod cases;
+mod exhaustive;
+mod figures;
+mod lend;
+mod list;
+mod os;
+mod pools;
+mod program;
+#[cfg(test)]
+mod tests;
+mod trial;
+
+use figures::{Figures, Of};
+use os::{end_after, in_child, End};
+use reference::random::Random;
+use std::process::ExitCode;
+use std::time::{Duration, Instant, SystemTime};
+use trial::{Kind, Trial, LONGEST_SECONDS};
+
+const USAGE: &str = "\
+usage: compare [SECONDS [SEED]]     all of it, in about so many seconds (100 if none are named)
+       compare cases                cases 14 and 15, the empty batch, the longest batches
+       compare changes              every single-word change of some pools
+       compare again calls SEED     one list of calls, by the seed that was printed
+       compare again program SEED   one input of the program
+The long run: compare 3600
+Exit status: 0 no difference, 1 a difference, 2 bad usage or no program.";
+
+const DEFAULT_SECONDS: u64 = 100;
+
+fn main() -> ExitCode {
+    let arguments: Vec<String> = std::env::args().skip(1).collect();
+    let words: Vec<&str> = arguments.iter().map(String::as_str).collect();
+    let same = match words[..] {
+        [] => compare(DEFAULT_SECONDS, clock()),
+        ["cases"] => with_program().map(compare_cases),
+        ["changes"] => Ok(compare_changes(Figures::new())),
+        ["again", kind, seed] => again(kind, seed),
+        [seconds] => number(seconds).and_then(|seconds| compare(seconds, clock())),
+        [seconds, seed] => number(seconds).and_then(|s| compare(s, number(seed)?)),
+        _ => Err(USAGE.into()),
+    };
+    match same {
+        Ok(true) => ExitCode::SUCCESS,
+        Ok(false) => ExitCode::from(1),
+        Err(message) => {
+            eprintln!("compare: {message}");
+            ExitCode::from(2)
+        }
+    }
+}
+
+fn number(text: &str) -> Result<u64, String> {
+    text.parse().map_err(|_| format!("'{text}' is no number\n{USAGE}"))
+}
+
+/// A seed that differs from run to run; it is printed.
+fn clock() -> u64 {
+    let since = SystemTime::now().duration_since(SystemTime::UNIX_EPOCH).unwrap_or_default();
+    since.as_nanos() as u64 % 1_000_000_000
+}
+
+/// Whether the program is to be compared. That it is missing is an error, not a pass.
+fn with_program() -> Result<bool, String> {
+    if program::tamburish().as_os_str() == "none" {
+        return Ok(false);
+    }
+    for path in [program::tamburish(), program::reference_program()] {
+        if !path.is_file() {
+            return Err(format!("no program at {}", path.display()));
+        }
+    }
+    Ok(true)
+}
+
+fn compare(seconds: u64, seed: u64) -> Result<bool, String> {
+    let started = Instant::now();
+    let program = with_program()?;
+    if !os::guards_hold() {
+        return Err("the unreadable pages do not hold".into());
+    }
+    println!("compare: {seconds} seconds, seed {seed}");
+    let figures = Figures::new();
+    // Where a case fails, the random input still runs: it gives a small case to look at.
+    let mut same = compare_cases(program) & compare_changes(figures);
+    // At least half of the time is for random input.
+    let all = Duration::from_secs(seconds);
+    let left = all.saturating_sub(started.elapsed()).max(all / 2);
+    let calls = if program { left * 3 / 4 } else { left };
+    same &= random_trials(Kind::Calls, seed, calls, figures);
+    figures.print_calls();
+    if program {
+        same &= random_trials(Kind::Program, seed, left - calls, figures);
+        figures.print_program();
+    } else {
+        println!("program: not compared (TAMBURISH_BIN=none)");
+    }
+    let verdict = if same { "no difference" } else { "a difference, see above" };
+    println!("compare: {verdict}, seed {seed}, {} seconds", started.elapsed().as_secs());
+    Ok(same)
+}
+
+/// In a child process, as all that calls the library is.
+fn compare_cases(with_program: bool) -> bool {
+    let end = in_child(|| {
+        end_after(LONGEST_SECONDS);
+        let (count, failed) = cases::run_all(with_program);
+        failed.iter().for_each(|name| println!("DIFFERENCE in {name}"));
+        println!("cases: {} passed, {} failed", count - failed.len(), failed.len());
+        i32::from(!failed.is_empty())
+    });
+    if let End::Signal(signal) = end {
+        println!("DIFFERENCE in cases: signal {signal}");
+    }
+    end == End::Status(0)
+}
+
+/// The child counts the changes that it is done with; where it ends otherwise than well, the next
+/// one is the one to report.
+fn compare_changes(figures: Figures) -> bool {
+    let end = in_child(|| {
+        for list in exhaustive::lists() {
+            end_after(LONGEST_SECONDS);
+            if list.difference(None).is_some() {
+                return 1;
+            }
+            figures.add(Of::Changes, 1);
+        }
+        0
+    });
+    let done = figures.get(Of::Changes);
+    println!("changes: {done} single-word changes checked");
+    if end != End::Status(0) {
+        let list = exhaustive::lists().nth(done as usize);
+        list.into_iter().for_each(|list| Trial::Calls(list).report("a single-word change"));
+    }
+    end == End::Status(0)
+}
+
+/// Random trials for this long in a child process. If it ends otherwise than well, the trial whose
+/// seed it noted last is the one to report.
+fn random_trials(kind: Kind, seed: u64, time: Duration, figures: Figures) -> bool {
+    let deadline = Instant::now() + time;
+    let end = in_child(|| {
+        let mut seeds = Random::new(seed);
+        while Instant::now() < deadline {
+            let seed = seeds.word();
+            figures.set(Of::Seed, seed);
+            end_after(LONGEST_SECONDS);
+            if Trial::random(kind, seed).difference(Some(figures)).is_some() {
+                return 1;
+            }
+        }
+        0
+    });
+    if end != End::Status(0) {
+        report(kind, figures.get(Of::Seed));
+    }
+    end == End::Status(0)
+}
+
+fn report(kind: Kind, seed: u64) {
+    Trial::random(kind, seed).report(&format!("{} {seed}", kind.name()));
+    println!("to see it again: compare again {} {seed}", kind.name());
+}
+
+fn again(kind: &str, seed: &str) -> Result<bool, String> {
+    let kind = match kind {
+        "calls" => Kind::Calls,
+        "program" => Kind::Program,
+        _ => return Err(USAGE.into()),
+    };
+    let seed = number(seed)?;
+    let end = in_child(|| i32::from(Trial::random(kind, seed).difference(None).is_some()));
+    match end {
+        End::Status(0) => println!("no difference"),
+        _ => report(kind, seed),
+    }
+    Ok(end == End::Status(0))
+}

@@ -1,0 +1,87 @@
+//! The random lists reach what they are to reach: this is a test of the test, by reference alone.
+
+use crate::lend::Call;
+use crate::list::CallList;
+use crate::program::Input;
+use reference::batch::{read, Command};
+use reference::calls::{check, init, run};
+use reference::command::{execute, needed};
+use reference::pool::State;
+use reference::recover::recover;
+use std::collections::BTreeMap;
+
+type Counts<T> = BTreeMap<T, usize>;
+
+/// How often each answer of a call, each answer in a reply, and each distance of a store from
+/// having too few nodes was met (0: exactly enough; -1: one is missing).
+#[derive(Default)]
+struct Met {
+    calls: Counts<u64>,
+    replies: Counts<u8>,
+    spare: Counts<i64>,
+    places: Counts<u64>,
+}
+
+fn follow(met: &mut Met, list: &CallList) {
+    let mut pool = list.words.clone();
+    for call in &list.calls {
+        let outcome = match call {
+            Call::Init => init(&mut pool),
+            Call::Check => check(&pool),
+            Call::Run { batch, reply } => {
+                let before = recover(&pool);
+                let outcome = run(&mut pool, batch, &mut vec![0; *reply]);
+                if let (0, Some(state)) = (outcome.answer, before) {
+                    follow_batch(met, state, batch);
+                }
+                outcome
+            }
+        };
+        *met.calls.entry(outcome.answer).or_default() += 1;
+        if outcome.answer == 3 {
+            *met.places.entry(outcome.number).or_default() += 1;
+        }
+    }
+}
+
+fn follow_batch(met: &mut Met, mut state: State, batch: &[u8]) {
+    for command in read(batch).unwrap_or_default() {
+        if let Command::Store { index, order, word } = command {
+            let free = state.free_numbers().len() as i64;
+            if let Some(count) = needed(&state, index, order, word).filter(|count| *count > 0) {
+                *met.spare.entry(free - count as i64).or_default() += 1;
+            }
+        }
+        let done = execute(&state, command);
+        *met.replies.entry(done.reply.answer).or_default() += 1;
+        state = done.state;
+    }
+}
+
+#[test]
+fn every_answer_and_both_sides_of_11_are_met() {
+    let mut met = Met::default();
+    (0..3000).for_each(|seed| follow(&mut met, &CallList::random(seed)));
+    let many = |count: Option<&usize>| *count.unwrap_or(&0) >= 20;
+    assert!((0..=4).all(|answer| many(met.calls.get(&answer))), "{:?}", met.calls);
+    let replies = [0].into_iter().chain(5..=13);
+    assert!(replies.into_iter().all(|answer| many(met.replies.get(&answer))), "{:?}", met.replies);
+    assert!([-1, 0].iter().all(|spare| many(met.spare.get(spare))), "{:?}", met.spare);
+    assert!(many(met.places.get(&8192)) && met.places.len() > 50, "{:?}", met.places);
+}
+
+#[test]
+fn a_seed_gives_the_same_list_again() {
+    for seed in 0..50 {
+        assert_eq!(CallList::random(seed), CallList::random(seed));
+        assert_eq!(Input::random(seed), Input::random(seed));
+    }
+}
+
+#[test]
+fn what_is_smaller_differs() {
+    for seed in 0..50 {
+        let list = CallList::random(seed);
+        assert!(list.smaller().iter().all(|smaller| *smaller != list || list.calls.is_empty()));
+    }
+}

@@ -1,0 +1,110 @@
+//! Something compared, of either kind; and the search for a smaller one that still differs.
+
+use crate::figures::Figures;
+use crate::list::CallList;
+use crate::os::{end_after, in_child, End};
+use crate::program::Input;
+use std::time::{Duration, Instant};
+
+#[derive(Clone, Copy, Debug, PartialEq, Eq)]
+pub enum Kind {
+    Calls,
+    Program,
+}
+
+impl Kind {
+    pub fn name(self) -> &'static str {
+        match self {
+            Kind::Calls => "calls",
+            Kind::Program => "program",
+        }
+    }
+}
+
+#[derive(Clone, Debug, PartialEq, Eq)]
+pub enum Trial {
+    Calls(CallList),
+    Program(Input),
+}
+
+/// A trial takes milliseconds; one that takes so many seconds does not end.
+pub const LONGEST_SECONDS: u32 = 60;
+const SHRINK_TIME: Duration = Duration::from_secs(60);
+
+impl Trial {
+    pub fn random(kind: Kind, seed: u64) -> Trial {
+        match kind {
+            Kind::Calls => Trial::Calls(CallList::random(seed)),
+            Kind::Program => Trial::Program(Input::random(seed)),
+        }
+    }
+
+    pub fn difference(&self, figures: Option<Figures>) -> Option<String> {
+        match self {
+            Trial::Calls(list) => list.difference(figures),
+            Trial::Program(input) => input.difference(figures),
+        }
+    }
+
+    fn smaller(&self) -> Vec<Trial> {
+        match self {
+            Trial::Calls(list) => list.smaller().into_iter().map(Trial::Calls).collect(),
+            Trial::Program(input) => input.smaller().into_iter().map(Trial::Program).collect(),
+        }
+    }
+
+    fn show(&self) -> String {
+        match self {
+            Trial::Calls(list) => list.show(),
+            Trial::Program(input) => input.show(),
+        }
+    }
+
+    /// Tried in a child process: a crash is a difference as well.
+    fn differs(&self) -> bool {
+        let end = in_child(|| {
+            end_after(LONGEST_SECONDS);
+            i32::from(self.difference(None).is_some())
+        });
+        end != End::Status(0)
+    }
+
+    /// The smallest that was found, by leaving things out one after the other.
+    fn shrunk(self) -> Trial {
+        let started = Instant::now();
+        let mut least = self;
+        while started.elapsed() < SHRINK_TIME {
+            let in_time = |_: &Trial| started.elapsed() < SHRINK_TIME;
+            let smaller = least.smaller().into_iter().take_while(in_time);
+            match smaller.filter(|smaller| *smaller != least).find(Trial::differs) {
+                Some(smaller) => least = smaller,
+                None => break,
+            }
+        }
+        least
+    }
+
+    /// Shrinks it, prints it and what differs.
+    pub fn report(self, name: &str) {
+        println!("DIFFERENCE in {name}");
+        if !self.differs() {
+            println!("it does not come again; the case as it was:\n{}", self.show());
+            return;
+        }
+        let least = self.shrunk();
+        println!("shrunk to {}", least.show());
+        let end = in_child(|| {
+            end_after(LONGEST_SECONDS);
+            println!("{}", least.difference(None).unwrap_or_default());
+            0
+        });
+        match end {
+            End::Status(0) => {}
+            End::Signal(14) => println!("it does not end in {LONGEST_SECONDS} seconds"),
+            End::Signal(11 | 7) => {
+                println!("it reads past a buffer it was lent, or writes where it may not")
+            }
+            other => println!("it crashes: {other:?}"),
+        }
+    }
+}

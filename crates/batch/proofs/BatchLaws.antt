@@ -1,0 +1,107 @@
+-- Laws of reading a batch, as the code tests it.
+use Prim.Native.Nat.{ℕ, zero, suc, _+_, _≤_, _<_, _-_}
+use mathlib.Core.Path.{_≡_, refl, sym, ap, subst, _∙_}
+use mathlib.Core.Logic.{_≢_}
+use mathlib.Core.Bool.{Bool, true, false, not}
+use mathlib.Core.List.{List, [], _∷_}
+use native.Mathlib.Omega.{arith}
+use native.Mathlib.Nat.{add-zero}
+use lib.Dec.{leb, ltb, eqb}
+use lib.ListN.{length, getD}
+use borrow.Author.Tests.{eqb-true, le-leb, lt-leb, eq-eqb, ne-eqb}
+use Rattle.blocks.specs.Choice.{pick, both}
+use Rattle.blocks.proofs.BoolLaws.{byT, both-no}
+use Rattle.batch.specs.Bytes.{numberAt}
+use Rattle.batch.specs.Batch.{
+  fieldBytes,
+  headBytes,
+  commandAt,
+  isRecord,
+  nextAt,
+  readAt,
+  Read,
+  Next,
+  Bad,
+  End,
+  Command,
+}
+
+-- the last tag that has fields
+pub last-tag : (tag : ℕ) → fieldBytes tag ≢ 0 → tag ≢ 1 → tag ≢ 2 → tag ≢ 3 → tag ≢ 4 → tag ≢ 5 → tag ≡ 6
+last-tag tag f a b c d e =
+    byT (eqb tag 6) (eqb-true tag 6)
+    (λ t. absurd (f (rw (ne-eqb tag 1 a, ne-eqb tag 2 b, ne-eqb tag 3 c, ne-eqb tag 4 d, ne-eqb tag 5 e, t))))
+
+-- the fields of a known tag have room where those of the tag have
+pub room : {tag n : ℕ} (t at : ℕ) → tag ≡ t → at + fieldBytes tag ≤ n → at + fieldBytes t ≤ n
+room {tag} {n} t at e h = subst (λ (x : ℕ). at + fieldBytes x ≤ n) e h
+
+-- the byte that the code reads as a number
+pub one-byte : (s : List ℕ) (at : ℕ) {tag : ℕ} → tag ≡ numberAt s at 1 → tag ≡ getD s at 0
+one-byte s at e = e ∙ omega arith ∙ ap (λ (k : ℕ). getD s k 0) (add-zero at)
+
+-- READING, test by test as the code has them
+module _ (s : List ℕ) (at : ℕ) where
+  pub read-end : length s ≤ at → End ≡ readAt s at
+  unfolding readAt
+  read-end h = rw (le-leb (length s) at h)
+
+  -- a record that fails a test
+  bad : at < length s → isRecord s at ≡ false → Bad ≡ readAt s at
+  unfolding readAt
+  bad h f = rw (lt-leb (length s) at h, f)
+
+  pub read-head : at < length s → length s - at < headBytes → Bad ≡ readAt s at
+  read-head g h = bad g (rw (lt-leb (at + headBytes) (length s) (omega arith)))
+
+  -- the tag and the length of its fields
+  module _ (tag size : ℕ) (t : tag ≡ numberAt s at 1) (z : size ≡ fieldBytes tag) where
+    size-is : size ≡ fieldBytes (getD s at 0)
+    size-is = z ∙ ap fieldBytes (one-byte s at t)
+
+    pub read-tag : at + headBytes ≤ length s → size ≡ 0 → Bad ≡ readAt s at
+    read-tag h e =
+        bad (omega arith)
+        (rw (le-leb (at + headBytes) (length s) h, eq-eqb (fieldBytes (getD s at 0)) 0 (sym size-is ∙ e)))
+
+    module _ (h : at + headBytes ≤ length s) (f : size ≢ 0) where
+      some-fields : fieldBytes (getD s at 0) ≢ 0
+      some-fields e = f (size-is ∙ e)
+
+      pub read-length : numberAt s (at + 1) 2 ≢ size → Bad ≡ readAt s at
+      read-length n =
+          bad (omega arith)
+          (rw (
+            le-leb (at + headBytes) (length s) h,
+            ne-eqb (fieldBytes (getD s at 0)) 0 some-fields,
+            ne-eqb (numberAt s (at + 1) 2) (fieldBytes (getD s at 0)) (λ e. n (e ∙ sym size-is)),
+          ))
+
+      module _ (e : numberAt s (at + 1) 2 ≡ size) where
+        whole-head : numberAt s (at + 1) 2 ≡ fieldBytes (getD s at 0)
+        whole-head = e ∙ size-is
+
+        pub read-cut : length s < at + headBytes + size → Bad ≡ readAt s at
+        read-cut g =
+            bad (omega arith)
+            (rw (
+              le-leb (at + headBytes) (length s) h,
+              ne-eqb (fieldBytes (getD s at 0)) 0 some-fields,
+              eq-eqb (numberAt s (at + 1) 2) (fieldBytes (getD s at 0)) whole-head,
+              lt-leb (at + headBytes + fieldBytes (getD s at 0)) (length s) (rw (← size-is) g),
+            ))
+
+        pub read-next : at + headBytes + size ≤ length s → (c : Command) → c ≡ commandAt s tag (at + headBytes) →
+            Next c (record { at = at + headBytes + size }) ≡ readAt s at
+        unfolding readAt
+        read-next g c q =
+            let q′ : c ≡ commandAt s (getD s at 0) (at + headBytes) =
+            q ∙ ap (λ (k : ℕ). commandAt s k (at + headBytes)) (one-byte s at t) in
+            rw (
+              lt-leb (length s) at (omega arith),
+              le-leb (at + headBytes) (length s) h,
+              ne-eqb (fieldBytes (getD s at 0)) 0 some-fields,
+              eq-eqb (numberAt s (at + 1) 2) (fieldBytes (getD s at 0)) whole-head,
+              le-leb (at + headBytes + fieldBytes (getD s at 0)) (length s) (rw (← size-is) g),
+            )
+            (λ i. Next (q′ i) (record { at = at + headBytes + size-is i }))

@@ -1,0 +1,5 @@
+pub mod BatchLaws
+pub mod ParseLaws
+pub mod WriteLaws
+pub mod BoundLaws
+pub mod CutLaws

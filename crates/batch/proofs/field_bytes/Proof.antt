@@ -1,0 +1,41 @@
+use Prim.Native.Nat.{_≤_}
+use mathlib.Core.Path.{_≡_, refl}
+use native.Mathlib.Omega.{arith}
+use borrow.Author.Tests.{ne-eqb}
+use Rattle.batch.proofs.field_bytes.Statement.{statement}
+use Rattle.batch.proofs.field_bytes.Tie as tie
+
+returns : tie.Need-returns
+returns c = (rw (c .if1 .taken), omega arith)
+
+returns-2 : tie.Need-returns-2
+returns-2 c = (rw (c .if2 .taken), omega arith)
+
+returns-3 : tie.Need-returns-3
+returns-3 c = (rw (c .if3 .taken), omega arith)
+
+returns-4 : tie.Need-returns-4
+returns-4 c = (rw (c .if4 .taken), omega arith)
+
+returns-5 : tie.Need-returns-5
+returns-5 c = (rw (c .if5 .taken), omega arith)
+
+returns-6 : tie.Need-returns-6
+returns-6 c = (rw (c .if6 .taken), omega arith)
+
+returns-7 : tie.Need-returns-7
+returns-7 c = (
+  rw (
+    ne-eqb _ 1 (c .before .before .before .before .before .if1 .left),
+    ne-eqb _ 2 (c .before .before .before .before .if2 .left),
+    ne-eqb _ 3 (c .before .before .before .if3 .left),
+    ne-eqb _ 4 (c .before .before .if4 .left),
+    ne-eqb _ 5 (c .before .if5 .left),
+    ne-eqb _ 6 (c .if6 .left),
+  ),
+  omega arith,
+)
+
+pub field-bytes-spec : {M : Type 1} → statement M
+field-bytes-spec =
+    tie.close (tie.spec returns returns-2 returns-3 returns-4 returns-5 returns-6 returns-7)

@@ -1,0 +1,17 @@
+-- Bytes, and commands whose fields are 64-bit numbers.
+use Prim.Native.Nat.{ℕ, _^_, _<_}
+use mathlib.Core.List.{List}
+use lib.ListN.{getD}
+use Rattle.batch.specs.Batch.{Command, Store, Load, Erase, Mark, Unmark, Find}
+
+pub record Bytes (s : List ℕ) : Type 0 where
+  pub small : (i : ℕ) → getD s i 0 < 256
+
+-- the index and the word of a store
+abbrev pub Fits : Command → Type 0
+Fits (Store i k w) = (i < 2 ^ 64) × (w < 2 ^ 64)
+Fits (Load i) = Unit
+Fits (Erase i) = Unit
+Fits (Mark i m) = Unit
+Fits (Unmark i m) = Unit
+Fits (Find a z f k) = Unit

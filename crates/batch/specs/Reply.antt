@@ -1,0 +1,40 @@
+-- Replies (document 01, "A sheet and its replies"): "Each reply has the command's tag + 128, length 21, then answer 1,
+-- index 8, order 1, entry 8, marks 1, count 2."
+use Prim.Native.Nat.{ℕ, _+_}
+use mathlib.Core.List.{List, [], _∷_}
+use Rattle.model.specs.declared.Entry.{Entry}
+use Rattle.batch.specs.Bytes.{bytesThen}
+use Rattle.batch.specs.Batch.{Command, Store, Load, Erase, Mark, Unmark, Find}
+pub use Rattle.batch.specs.declared.Reply.{Reply}
+
+abbrev pub replyBytes : ℕ
+replyBytes = 24
+
+-- the tag of the reply to a command
+abbrev pub replyTag : Command → ℕ
+replyTag (Store i k w) = 129
+replyTag (Load i) = 130
+replyTag (Erase i) = 131
+replyTag (Mark i m) = 132
+replyTag (Unmark i m) = 133
+replyTag (Find a z f k) = 134
+
+-- the 24 bytes of a reply
+abbrev pub encode : Reply → List ℕ
+encode r =
+    bytesThen 1 (r .tag)
+    (bytesThen 2 21
+    (bytesThen 1 (r .answer)
+    (bytesThen 8 (r .index)
+    (bytesThen 1 (r .order)
+    (bytesThen 8 (r .word)
+    (bytesThen 1 (r .marks)
+    (bytesThen 2 (r .count) [])))))))
+
+-- "All else is zero.": an answer with an index and a count, or with an entry and a count
+abbrev pub answered : (tag answer index count : ℕ) → Reply
+answered t a i n = record { tag = t; answer = a; index = i; order = 0; word = 0; marks = 0; count = n }
+
+abbrev pub answeredBy : (tag : ℕ) → Entry → (count : ℕ) → Reply
+answeredBy t e n =
+    record { tag = t; answer = 0; index = e .base; order = e .order; word = e .word; marks = e .marks; count = n }

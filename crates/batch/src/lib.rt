@@ -1,0 +1,300 @@
+// Batches of commands (document 01: sheets) and their replies, as bytes.
+//
+// batch: the borrowed bytes; at: a place in them; a record is a tag byte, a length of two bytes and that many bytes of
+// fields; reply: the borrowed bytes of the replies.
+ghost use mathlib.Core.Path.{_≡_};
+ghost use mathlib.Core.Logic.{_≢_};
+ghost use mathlib.Core.List.{[], _∷_};
+ghost use Prim.Native.Nat.{_+_, _*_, _<_, _≤_, _%_};
+ghost use lib.ListN.{length};
+ghost use Rattle.batch.specs.Bytes.{numberAt, bytesThen, overwrite};
+ghost use Rattle.batch.specs.Batch.{fieldBytes, headBytes, commandAt, readAt, restAt, counted, parse};
+ghost use Rattle.batch.specs.Reply.{replyBytes, encode, replyTag};
+
+// The longest batch, the bytes of a record before its fields, and the bytes of a reply.
+pub const MAX_BATCH: usize = 8192;
+
+const HEAD_BYTES: usize = 3;
+
+pub const REPLY_BYTES: usize = 24;
+
+// A command of a batch.
+pub enum Command {
+    Store {
+        index: u64,
+        order: u64,
+        word: u64,
+    },
+    Load {
+        index: u64,
+    },
+    Erase {
+        index: u64,
+    },
+    Mark {
+        index: u64,
+        mark: u64,
+    },
+    Unmark {
+        index: u64,
+        mark: u64,
+    },
+    Find {
+        first: u64,
+        last: u64,
+        filter: u64,
+        budget: u64,
+    },
+}
+
+// A position in a batch.
+pub struct Cursor {
+    pub at: usize,
+}
+
+// What reading at a position finds: a command, with the position after its record; a bad record; the batch's end.
+pub enum Read {
+    Next(Command, Cursor),
+    Bad,
+    End,
+}
+
+// What a whole batch comes to: how many commands, or the place of its first bad record.
+pub enum Counted {
+    Commands(u64),
+    Refused(u64),
+}
+
+// The fields of a reply.
+pub struct Reply {
+    pub tag: u64,
+    pub answer: u64,
+    pub index: u64,
+    pub order: u64,
+    pub word: u64,
+    pub marks: u64,
+    pub count: u64,
+}
+
+fn wide(x: u8) -> u64
+    ensures { λ r. ⌜ (r ≡ x) × (r < 256) ⌝ }
+{
+    x as u64
+}
+
+fn number1(s: &[u8], at: usize) -> u64
+    requires { ⌜ at + 1 ≤ length (now s) ⌝ }
+    ensures { λ r. ⌜ (r ≡ numberAt (now (s .entry)) at 1) × (r < 256) ⌝ }
+{
+    wide(s[at + 0])
+}
+
+fn number2(s: &[u8], at: usize) -> u64
+    requires { ⌜ at + 2 ≤ length (now s) ⌝ }
+    ensures { λ r. ⌜ (r ≡ numberAt (now (s .entry)) at 2) × (r < 65536) ⌝ }
+{
+    let a = wide(s[at + 0]);
+    let b = wide(s[at + 1]);
+    a * 256 + b
+}
+
+fn number8(s: &[u8], at: usize) -> u64
+    requires { ⌜ at + 8 ≤ length (now s) ⌝ }
+    ensures { λ r. ⌜ r ≡ numberAt (now (s .entry)) at 8 ⌝ }
+{
+    let a = wide(s[at + 0]);
+    let b = wide(s[at + 1]);
+    let c = wide(s[at + 2]);
+    let d = wide(s[at + 3]);
+    let e = wide(s[at + 4]);
+    let f = wide(s[at + 5]);
+    let g = wide(s[at + 6]);
+    let h = wide(s[at + 7]);
+    ((((((a * 256 + b) * 256 + c) * 256 + d) * 256 + e) * 256 + f) * 256 + g) * 256 + h
+}
+
+// The length of a record's fields, by tag; 0 where no command has the tag.
+fn field_bytes(tag: u64) -> usize
+    ensures { λ r. ⌜ (r ≡ fieldBytes tag) × (r ≤ 19) ⌝ }
+{
+    if tag == 1 {
+        return 17;
+    }
+    if tag == 2 {
+        return 8;
+    }
+    if tag == 3 {
+        return 8;
+    }
+    if tag == 4 {
+        return 9;
+    }
+    if tag == 5 {
+        return 9;
+    }
+    if tag == 6 {
+        return 19;
+    }
+    0
+}
+
+fn store_at(s: &[u8], at: usize) -> Command
+    requires { ⌜ at + 17 ≤ length (now s) ⌝ }
+    ensures { λ r. ⌜ r ≡ commandAt (now (s .entry)) 1 at ⌝ }
+{
+    let index = number8(s, at);
+    let order = number1(s, at + 8);
+    let word = number8(s, at + 9);
+    Command::Store { index, order, word }
+}
+
+fn find_at(s: &[u8], at: usize) -> Command
+    requires { ⌜ at + 19 ≤ length (now s) ⌝ }
+    ensures { λ r. ⌜ r ≡ commandAt (now (s .entry)) 6 at ⌝ }
+{
+    let first = number8(s, at);
+    let last = number8(s, at + 8);
+    let filter = number1(s, at + 16);
+    let budget = number2(s, at + 17);
+    Command::Find {
+        first,
+        last,
+        filter,
+        budget,
+    }
+}
+
+// The command of a tag whose fields begin at a place.
+fn command_at(s: &[u8], tag: u64, at: usize) -> Command
+    requires { ⌜ (fieldBytes tag ≢ 0) × (at + fieldBytes tag ≤ length (now s)) ⌝ }
+    ensures { λ r. ⌜ r ≡ commandAt (now (s .entry)) tag at ⌝ }
+{
+    if tag == 1 {
+        return store_at(s, at);
+    }
+    if tag == 2 {
+        return Command::Load {
+            index: number8(s, at),
+        };
+    }
+    if tag == 3 {
+        return Command::Erase {
+            index: number8(s, at),
+        };
+    }
+    if tag == 4 {
+        return Command::Mark {
+            index: number8(s, at),
+            mark: number1(s, at + 8),
+        };
+    }
+    if tag == 5 {
+        return Command::Unmark {
+            index: number8(s, at),
+            mark: number1(s, at + 8),
+        };
+    }
+    find_at(s, at)
+}
+
+// What stands at a place of a batch.
+pub fn read_at(batch: &[u8], at: usize) -> Read
+    ensures { λ r. ⌜ r ≡ readAt (now (batch .entry)) at ⌝ }
+{
+    if batch.len() <= at {
+        return Read::End;
+    }
+    if batch.len() - at < HEAD_BYTES {
+        return Read::Bad;
+    }
+    let tag = number1(batch, at);
+    let size = field_bytes(tag);
+    if size == 0 {
+        return Read::Bad;
+    }
+    if number2(batch, at + 1) != size as u64 {
+        return Read::Bad;
+    }
+    let start = at + HEAD_BYTES;
+    if batch.len() - start < size {
+        return Read::Bad;
+    }
+    Read::Next(command_at(batch, tag, start), Cursor { at: start + size })
+}
+
+// The whole batch from its beginning, where it is not too long.
+fn count_records(batch: &[u8]) -> Counted
+    ensures { λ r. ⌜ r ≡ counted (restAt (now (batch .entry)) 0) ⌝ }
+{
+    let mut at: usize = 0;
+    let mut n: u64 = 0;
+    loop {
+        let r = read_at(batch, at);
+        match r {
+            Read::End => {
+                return Counted::Commands(n);
+            }
+            Read::Bad => {
+                return Counted::Refused(at as u64);
+            }
+            Read::Next(_, next) => {
+                at = next.at;
+                n = n + 1;
+            }
+        }
+    }
+}
+
+// How many commands a batch has, or the place of its first bad record.
+pub fn count(batch: &[u8]) -> Counted
+    ensures { λ r. ⌜ r ≡ counted (parse (now (batch .entry))) ⌝ }
+{
+    if batch.len() > MAX_BATCH {
+        return Counted::Refused(MAX_BATCH as u64);
+    }
+    count_records(batch)
+}
+
+fn put1(out: &mut [u8], at: usize, x: u64)
+    requires { ⌜ at + 1 ≤ length (now out) ⌝ }
+    ensures { λ _. ⌜ now (out .exit) ≡ overwrite (now (out .entry)) at (bytesThen 1 x []) ⌝ }
+{
+    out[at + 0] = (x / 1 % 256) as u8;
+}
+
+fn put2(out: &mut [u8], at: usize, x: u64)
+    requires { ⌜ at + 2 ≤ length (now out) ⌝ }
+    ensures { λ _. ⌜ now (out .exit) ≡ overwrite (now (out .entry)) at (bytesThen 2 x []) ⌝ }
+{
+    out[at + 0] = (x / 256 % 256) as u8;
+    out[at + 1] = (x / 1 % 256) as u8;
+}
+
+fn put8(out: &mut [u8], at: usize, x: u64)
+    requires { ⌜ at + 8 ≤ length (now out) ⌝ }
+    ensures { λ _. ⌜ now (out .exit) ≡ overwrite (now (out .entry)) at (bytesThen 8 x []) ⌝ }
+{
+    out[at + 0] = (x / 72057594037927936 % 256) as u8;
+    out[at + 1] = (x / 281474976710656 % 256) as u8;
+    out[at + 2] = (x / 1099511627776 % 256) as u8;
+    out[at + 3] = (x / 4294967296 % 256) as u8;
+    out[at + 4] = (x / 16777216 % 256) as u8;
+    out[at + 5] = (x / 65536 % 256) as u8;
+    out[at + 6] = (x / 256 % 256) as u8;
+    out[at + 7] = (x / 1 % 256) as u8;
+}
+
+// The 24 bytes of a reply, from a place on.
+pub fn write_reply(out: &mut [u8], at: usize, r: Reply)
+    requires { ⌜ at + replyBytes ≤ length (now out) ⌝ }
+    ensures { λ _. ⌜ now (out .exit) ≡ overwrite (now (out .entry)) at (encode r) ⌝ }
+{
+    put1(out, at + 0, r.tag);
+    put2(out, at + 1, 21);
+    put1(out, at + 3, r.answer);
+    put8(out, at + 4, r.index);
+    put1(out, at + 12, r.order);
+    put8(out, at + 13, r.word);
+    put1(out, at + 21, r.marks);
+    put2(out, at + 22, r.count);
+}

@@ -1,0 +1,55 @@
+-- Lists in index order within bounds, and the indices that a slot covers.
+use Prim.Native.Nat.{ℕ, zero, suc, _+_, _*_, _-_, _/_, _%_, _^_, _≤_, _<_}
+use mathlib.Core.Path.{_≡_, refl, sym, ap, _∙_}
+use mathlib.Core.Bool.{not}
+use mathlib.Core.List.{List, [], _∷_, _++_}
+use native.Mathlib.Omega.{arith}
+use native.Mathlib.Nat.{mod-lt, mul-mod-left, div-add-mod', mul-le-mul-right}
+use lib.Dec.{lit<, eqb, T}
+use lib.Pow.{pow-add}
+use borrow.Author.Tests.{ne-eqb}
+use Rattle.blocks.specs.Choice.{both}
+use Rattle.blocks.specs.Blocks.{bit}
+use Rattle.model.specs.declared.Entry.{Entry}
+use Rattle.tree.specs.Tree.{tierOrder, slots}
+use Rattle.layout.specs.declared.Slot.the-variants.{Held}
+use Rattle.layout.specs.Pool.{slotOf}
+use Rattle.layout.specs.Decode.{wide}
+use Rattle.decode.proofs.Restrict.{Chain}
+use Rattle.decode.proofs.SaysLaws.{word-of}
+
+pub wide-pow : (v : ℕ) → 2 ^ (tierOrder v) ≡ wide v
+wide-pow zero = refl
+wide-pow (suc v) = let e : tierOrder (suc v) ≡ tierOrder v + 6 = omega arith in rw (e, pow-add, wide-pow v)
+
+pub order-pow : (v r : ℕ) → 2 ^ (tierOrder v + r) ≡ wide v * 2 ^ r
+order-pow v r = pow-add 2 (tierOrder v) r ∙ ap (λ (x : ℕ). x * 2 ^ r) (wide-pow v)
+
+-- a slot that is a multiple of 2^r, of whichever node
+pub slot-aligned : (v b j r : ℕ) → r ≤ 5 → j % 2 ^ r ≡ 0 → (slots * b + j) * wide v % 2 ^ (tierOrder v + r) ≡ 0
+slot-aligned v b j r h e =
+    let sixtyfour : 2 ^ (6 - r) * 2 ^ r ≡ slots = let x : 6 - r + r ≡ 6 = omega arith in
+    sym (pow-add 2 (6 - r) r) ∙ ap (λ (x : ℕ). 2 ^ x) x in
+    let d : j / 2 ^ r * 2 ^ r + j % 2 ^ r ≡ j = div-add-mod' j (2 ^ r) in
+    let g : slots * b + j ≡ (2 ^ (6 - r) * b + j / 2 ^ r) * 2 ^ r = omega (arith, ap (λ (x : ℕ). x * b) sixtyfour) in
+    let f : (slots * b + j) * wide v ≡ (2 ^ (6 - r) * b + j / 2 ^ r) * (wide v * 2 ^ r) = ap (λ (x : ℕ). x * wide v)
+    g ∙ (omega arith) in
+    rw (order-pow, f) (mul-mod-left (2 ^ (6 - r) * b + j / 2 ^ r) (wide v * 2 ^ r))
+
+pub chain-lower : (a b c : ℕ) (xs : List Entry) → a ≤ b → Chain b xs c → Chain a xs c
+chain-lower a b c [] h p = omega arith
+chain-lower a b c (x ∷ xs) h p = (omega arith, p .1, p .2)
+
+pub chain-append : (a b c : ℕ) (xs ys : List Entry) → Chain a xs b → Chain b ys c → Chain a (xs ++ ys) c
+chain-append a b c [] ys p q = chain-lower a b c ys p q
+chain-append a b c (x ∷ xs) ys p q = (p .0, p .1, chain-append _ b c xs ys (p .2) q)
+
+pub held-word : (w : ℕ) → slotOf w ≡ Held → T (both (not (eqb w 0)) (not (eqb (w % 4) 2)))
+held-word w e = let q = word-of w Held e in rw (ne-eqb _ _ (q .0), ne-eqb _ _ (q .1)) tt
+
+pub bit-lt : (j w : ℕ) → bit j w < 2
+bit-lt j w = mod-lt (w / 2 ^ j) (lit< tt)
+
+-- from slot numbers to indices
+pub scale : (v a c : ℕ) → a ≤ c → a * wide v ≤ c * wide v
+scale v a c h = mul-le-mul-right (wide v) h

@@ -1,0 +1,17 @@
+pub mod KeepLaws
+pub mod Restrict
+pub mod SaysLaws
+pub mod BelowLaws
+pub mod ChainLaws
+pub mod FitLaws
+pub mod CoverLaws
+pub mod BlockShape
+pub mod SlotsShown
+pub mod ListBack
+pub mod FreeLaws
+pub mod SameTree
+pub mod PrescribedWords
+pub mod PlacesFor
+pub mod DecodeLaws
+pub mod DecideLaws
+pub mod Example

@@ -1,0 +1,212 @@
+-- Words that are prescribed as a whole, word by word.
+use Prim.Native.Nat.{ℕ, zero, suc, _+_, _*_, _-_, _/_, _%_, _<_}
+use mathlib.Core.Path.{_≡_, refl, sym, ap, subst, _∙_}
+use mathlib.Core.Bool.{true, false}
+use mathlib.Core.Logic.{_⊎_, inl, inr}
+use mathlib.Core.List.{List, [], _∷_}
+use mathlib.Core.Option.{Option, none, some}
+use native.Mathlib.Omega.{arith}
+use native.Mathlib.Nat.{zero-add}
+use lib.Dec.{leb}
+use lib.ListN.{length, getD}
+use borrow.Author.Tests.{lt-ltb, le-ltb, eq-eqb, ne-eqb}
+use Rattle.blocks.specs.Lists.{any, In, here, there, Distinct, d-more}
+use Rattle.blocks.specs.Blocks.{bitsTo}
+use Rattle.blocks.proofs.BoolLaws.{clash, byT, is-false, both-r}
+use Rattle.blocks.proofs.ListLaws.{in-cons}
+use Rattle.blocks.proofs.UpToLaws.{getD-upTo}
+use Rattle.model.specs.declared.Entry.{Entry}
+use Rattle.model.specs.Model.{within}
+use Rattle.tree.specs.Tree.{Node, height, has, slotMark, nodes, tierOrder, slots}
+use Rattle.tree.specs.Slots.{Numbering, slot}
+use Rattle.layout.specs.Words.{
+  field,
+  fieldAt,
+  place,
+  poolWords,
+  nodeWords,
+  slotField,
+  markField,
+  shiftField,
+  ownerField,
+}
+use Rattle.layout.specs.Places.{Places, same, numberOf, numberIn, standing, wordAt}
+use Rattle.layout.proofs.PlacesLaws.{same-is}
+use Rattle.layout.specs.Pool.{poolOf}
+use Rattle.layout.specs.WellFormed.{Prescribed}
+use Rattle.decode.proofs.FreeLaws.{words-free}
+use Rattle.decode.proofs.Restrict.{hasLevel, Prescribes, NodeIs}
+use Rattle.decode.proofs.SameTree.{
+  to-chain,
+  has-same,
+  none-at-0,
+  lower,
+  slot-same,
+  marks-same,
+  level-owner,
+  head-same,
+}
+
+-- PLACES
+abbrev pub node : ℕ → ℕ → Node
+node u b = record { tier = u; number = b }
+
+pub none-some : {p : Node} {C : Type 0} → _≡_ {A = Option Node} none (some p) → C
+none-some e = let z : _≡_ {A = ℕ} 0 1 = cc in absurd (omega arith)
+
+pub same-self : (p : Node) → same p p ≡ true
+same-self p = rw (eq-eqb (p .tier) _ refl, eq-eqb (p .number) _ refl)
+
+pub get-in : (os : Places) (m : ℕ) (p : Node) → getD os m none ≡ some p → In p (standing os)
+get-in [] m p e = none-some e
+get-in (none ∷ os) zero p e = none-some e
+get-in (some q ∷ os) zero p e = let d : p ≡ q = cc in subst (λ (r : Node). In r (q ∷ standing os)) (sym d) here
+get-in (none ∷ os) (suc m) p e = get-in os m p e
+get-in (some q ∷ os) (suc m) p e = there (get-in os m p e)
+
+-- a node that stands is found at its number
+number-at : (p : Node) (os : Places) → In p (standing os) →
+    (numberOf p os < length os) × (getD os (numberOf p os) none ≡ some p)
+number-at p [] m = elim m [ ]
+number-at p (none ∷ os) m = let (a, b) = number-at p os m in (omega arith, b)
+number-at p (some q ∷ os) m =
+    byT (same q p) (λ t. rw t (omega arith, ap some (same-is q p t)))
+    (λ t. rw t (go t (in-cons m) (number-at p os)))
+  where
+    go : same q p ≡ false → (p ≡ q) ⊎ In p (standing os) →
+        (In p (standing os) → (numberOf p os < length os) × (getD os (numberOf p os) none ≡ some p)) →
+        (suc (numberOf p os) < suc (length os)) × (getD os (numberOf p os) none ≡ some p)
+    go t (inl e) f = absurd (clash (subst (λ (r : Node). same r p ≡ true) e (same-self p)) t)
+    go t (inr k) f = let (a, b) = f k in (omega arith, b)
+
+-- and what is found at a number has it
+pub at-number-of : (os : Places) → Distinct (standing os) → (m : ℕ) (p : Node) → getD os m none ≡ some p →
+    numberOf p os ≡ m
+at-number-of [] d m p e = none-some e
+at-number-of (none ∷ os) d zero p e = none-some e
+at-number-of (none ∷ os) d (suc m) p e = ap suc (at-number-of os d m p e)
+at-number-of (some q ∷ os) d zero p e = let k : q ≡ p = cc in
+    rw (subst (λ (r : Node). same q r ≡ true) k (same-self q))
+at-number-of (some q ∷ os) (d-more n d) (suc m) p e =
+    rw (is-false {b = same q p} (λ t. n (subst (λ (r : Node). In r (standing os)) (sym (same-is q p t))
+    (get-in os m p e)))) (ap suc (at-number-of os d m p e))
+
+-- FIELDS
+module _ (l : List Entry) (ν : Numbering) (v b : ℕ) where
+  pub field-shift : field l ν (suc v) b 0 ≡ tierOrder v + 1
+  field-shift = omega arith
+
+  pub field-mark : (μ : ℕ) → μ < 3 → field l ν (suc v) b (2 + μ) ≡ bitsTo (λ j. slotMark l μ v (slots * b + j)) slots
+  field-mark μ h =
+      let e : 2 + μ - 2 ≡ μ = omega arith in
+      let d : suc v - 1 ≡ v = omega arith in
+      rw (
+        ne-eqb (2 + μ) 0 (λ (z : 2 + μ ≡ 0). omega arith),
+        ne-eqb (2 + μ) 1 (λ (z : 2 + μ ≡ 1). omega arith),
+        lt-ltb (2 + μ) 5 (omega arith),
+        e,
+        d,
+      )
+
+  pub field-slot : (j : ℕ) → field l ν (suc v) b (5 + j) ≡ slot l ν v (slots * b + j)
+  field-slot j =
+      let e : 5 + j - 5 ≡ j = omega arith in
+      let d : suc v - 1 ≡ v = omega arith in
+      rw (
+        ne-eqb (5 + j) 0 (λ (z : 5 + j ≡ 0). omega arith),
+        ne-eqb (5 + j) 1 (λ (z : 5 + j ≡ 1). omega arith),
+        le-ltb (5 + j) 5 (omega arith),
+        e,
+        d,
+      )
+
+-- a node's slots lie in its block
+pub node-within : (l : List Entry) (u b : ℕ) → has l u b ≡ true → any (within (tierOrder u) b) l ≡ true
+unfolding has
+node-within l u b t = both-r (leb u (height l)) _ t
+
+-- FROM THE WHOLE TO THE WORDS
+module _ (n : ℕ) (l : List Entry) (os : Places) (ws : List ℕ) (S : Prescribed n l os ws) where
+  word : (i : ℕ) → i < poolWords n → getD ws i 0 ≡ wordAt l os n i
+  word i h = ap (λ (x : List ℕ). getD x i 0) (S .words-are) ∙ getD-upTo (wordAt l os n) 0 (poolWords n) i h ∙ ap
+      (wordAt l os n) (zero-add i)
+
+  pub count-is : getD ws 0 0 ≡ n
+  count-is = word 0 (omega arith)
+
+  pub spare-is : getD ws 3 0 ≡ 0
+  spare-is = word 3 (omega arith)
+
+  pub node-word : (m f : ℕ) → m < n → f < nodeWords → getD ws (place m f) 0 ≡ fieldAt l (numberIn os) (getD os m none)
+      f
+  node-word m f lt h =
+      let d : (place m f - 4) / nodeWords ≡ m = omega arith in
+      let r : (place m f - 4) % nodeWords ≡ f = omega arith in
+      word (place m f) (omega arith) ∙ (rw (le-ltb (place m f) 4 (omega arith), d, r))
+
+  found : (v b : ℕ) → hasLevel l v b ≡ true → (numberIn os (suc v) b < n) ×
+      (getD os (numberIn os (suc v) b) none ≡ some (node (suc v) b))
+  found v b t =
+      let (a, k) = number-at (node (suc v) b) os (S .placed .full (node (suc v) b)
+      (sym (has-same (S .valid) v b) ∙ t)) in
+      (omega (arith, S .placed .size), k)
+
+  -- what stands at a place is a node of the tree
+  pub there-is : (m : ℕ) (p : Node) → getD os m none ≡ some p →
+      (v : ℕ) × (p .tier ≡ suc v) × (hasLevel l v (p .number) ≡ true) × (numberIn os (suc v) (p .number) ≡ m)
+  there-is m p e = go p (S .placed .sound p (get-in os m p e)) (at-number-of os (S .placed .once) m p e)
+    where
+      go : (p : Node) → has l (p .tier) (p .number) ≡ true → numberOf p os ≡ m →
+          (v : ℕ) × (p .tier ≡ suc v) × (hasLevel l v (p .number) ≡ true) × (numberIn os (suc v) (p .number) ≡ m)
+      go p t s = tier (p .tier) refl t
+        where
+          tier : (u : ℕ) → p .tier ≡ u → has l u (p .number) ≡ true →
+              (v : ℕ) × (p .tier ≡ suc v) × (hasLevel l v (p .number) ≡ true) × (numberIn os (suc v) (p .number) ≡ m)
+          tier zero e t = absurd (none-at-0 l (p .number) t)
+          tier (suc v) e t = (
+            v,
+            e,
+            has-same (S .valid) v (p .number) ∙ t,
+            subst (λ (u : ℕ). numberOf (node u (p .number)) os ≡ m) e s,
+          )
+
+  node-is : (v b : ℕ) → hasLevel l v b ≡ true → NodeIs (poolOf ws) l (lower (numberIn os)) (numberIn os (suc v) b) v b
+  node-is v b t =
+      let m : ℕ = numberIn os (suc v) b in
+      let (lt, k) = found v b t in
+      let inside : any (within (tierOrder (suc v)) b) l ≡ true = node-within l (suc v) b
+      (sym (has-same (S .valid) v b) ∙ t) in
+      let w : (f : ℕ) → f < nodeWords → getD ws (place m f) 0 ≡ field l (numberIn os) (suc v) b f = λ f h. node-word m
+      f lt h ∙ ap (λ (o : Option Node). fieldAt l (numberIn os) o f) k in
+      record {
+        shift-is = w shiftField (omega arith) ∙ field-shift l (numberIn os) v b;
+        owner-is = w ownerField (omega arith) ∙ sym (level-owner (S .valid) (numberIn os) v b);
+        marks-are = λ μ h. w (markField + μ) (omega arith) ∙ field-mark l (numberIn os) v b μ h
+            ∙ sym (marks-same l (lower (numberIn os)) μ v b);
+        slots-are = λ j h. let q : (slots * b + j) / slots ≡ b = omega arith in
+            w (slotField + j) (omega arith) ∙ field-slot l (numberIn os) v b j
+            ∙ sym (slot-same (S .valid) (numberIn os) v (slots * b + j) (rw q inside));
+      }
+
+  pub from-places : Prescribes (poolOf ws) l (lower (numberIn os))
+  from-places = record {
+    valid = to-chain (S .valid);
+    below = λ v b t. rw count-is (found v b t .0);
+    apart = λ v b v′ b′ t t′ e.
+        let q : _≡_ {A = Option Node} (some (node (suc v) b)) (some (node (suc v′) b′)) = sym (found v b t .1) ∙ ap
+        (λ (m : ℕ). getD os m none) e ∙ found v′ b′ t′ .1 in
+        let r : node (suc v) b ≡ node (suc v′) b′ = cc in
+        let x : suc v ≡ suc v′ = ap (λ (p : Node). p .tier) r in
+        (omega arith, ap (λ (p : Node). p .number) r);
+    nodes = node-is;
+    frees = λ m lt f. words-free ws m (λ i h.
+        let lt′ : m < n = subst (λ (x : ℕ). m < x) count-is lt in
+        node-word m i lt′ h ∙ ap (λ (o : Option Node). fieldAt l (numberIn os) o i) (free m f (getD os m none) refl));
+    head-is = word 1 (omega arith) ∙ sym (head-same (S .valid) (numberIn os));
+    marks-are = word 2 (omega arith);
+  }
+    where
+      free : (m : ℕ) → ((v b : ℕ) → hasLevel l v b ≡ true → numberIn os (suc v) b ≡ m → ⊥) → (o : Option Node) →
+          getD os m none ≡ o → o ≡ none
+      free m f none e = refl
+      free m f (some p) e = let (v, _, t, s) = there-is m p e in absurd (f v (p .number) t s)

@@ -1,0 +1,4 @@
+pub mod LeavingLaws
+pub mod LowerLaws
+pub mod FreedLaws
+pub mod ErasedLaws

@@ -1,0 +1,91 @@
+use Prim.Native.Nat.{ℕ, _+_}
+use mathlib.Core.Path.{_≡_, ap, _∙_}
+use mathlib.Core.List.{List}
+use native.Mathlib.Omega.{arith}
+use lib.ListN.{getD}
+use Rattle.blocks.specs.Blocks.{block}
+use Rattle.tree.specs.Tree.{tierOrder}
+use Rattle.layout.specs.WellFormed.{WellFormed, num}
+use Rattle.layout.proofs.FillLaws.{filled-before, filled-after, filled-in}
+use Rattle.lookup.specs.Views.{Holds}
+use Rattle.erase.specs.Leaving.{Unmarked}
+use Rattle.erase.proofs.LeavingLaws.{run-at, run-stands, run-fits, run-small, run-wide, cut-start}
+use Rattle.erase.proofs.FreedLaws.{run-spares}
+use borrow.Author.Needs.{needs}
+use Rattle.erase.proofs.cut_run.Statement.{statement}
+use Rattle.erase.proofs.cut_run.Tie as tie
+
+-- how many slots the entry takes
+order : (c : tie.After-order-of) (s : WellFormed (c .before .before .before .args .pool .now))
+    (h : Holds (s .list) (num s) (c .before .before .before .args .i)
+    (c .before .before .before .args .at .node) (c .before .before .before .args .at .tier)
+    (c .before .before .before .args .at .slot)) → Unmarked (s .list) (c .before .before .before .args .i) →
+    h .entry .order ≡ tierOrder (c .before .before .before .args .at .tier) + c .order-of .result
+order c s h un =
+    c .order-of .ensures .1 s (c .before .before .before .args .at .tier)
+    (block (tierOrder (c .before .before .before .args .at .tier)) (h .entry .base))
+    (h .entry) (run-at s h un) (h .slot-is) (run-stands s h un)
+
+order-of-requires : tie.Need-order-of-requires
+order-of-requires c κs = let l = c .before .before .pre in
+    let f = run-fits (l .formed) (l .holds) (l .unmarked) in (f .0, f .2)
+
+pow2-requires : tie.Need-pow2-requires
+pow2-requires c κs = let l = c .before .before .before .pre in
+    run-small (l .formed) (l .holds) (l .unmarked) _ (order c (l .formed) (l .holds) (l .unmarked))
+
+mul-fill : tie.Need-mul-fill
+mul-fill c = let l = c .before .before .before .before .before .pre in
+    let f = run-fits (l .formed) (l .holds) (l .unmarked) in omega (arith, f .1)
+
+add-fill : tie.Need-add-fill
+add-fill c = let l = c .before .before .before .before .before .pre in
+    let f = run-fits (l .formed) (l .holds) (l .unmarked) in omega (arith, f .1)
+
+add-fill-2 : tie.Need-add-fill-2
+add-fill-2 c = let l = c .before .before .before .before .before .pre in
+    let f = run-fits (l .formed) (l .holds) (l .unmarked) in omega (arith, f .2)
+
+add-fill-3 : tie.Need-add-fill-3
+add-fill-3 c = let l = c .before .before .before .before .before .pre in
+    let f = run-fits (l .formed) (l .holds) (l .unmarked) in omega (arith, f .1, f .2)
+
+fill-requires : tie.Need-fill-requires
+fill-requires c κs = let l = c .before .before .before .before .before .pre in
+    let f = run-fits (l .formed) (l .holds) (l .unmarked) in
+    let w = run-wide (l .formed) (l .holds) (l .unmarked) _
+    (order (c .before .before) (l .formed) (l .holds) (l .unmarked)) in
+    omega (arith, f .0, c .before .pow2 .ensures)
+
+same-length : tie.Need-same-length
+same-length c = search needs
+
+returns : tie.Need-returns
+returns c = let l = c .before .before .before .before .before .before .before .before .pre in
+    let w = run-wide (l .formed) (l .holds) (l .unmarked) _
+    (order (c .before .before .before .before .before) (l .formed) (l .holds) (l .unmarked)) in
+    let f = run-fits (l .formed) (l .holds) (l .unmarked) in
+    let e = c .before .before .before .before .pow2 .ensures in (
+      (λ s h un. cut-start s h un _ (order (c .before .before .before .before .before) s h un)
+          (c .before .before .fill .kept .0)
+          (λ j a b. ap (λ (ws : List ℕ). getD ws j 0) (c .before .before .fill .ensures) ∙
+          filled-in _ _ 0 _ j (omega (arith, f .0)) a (omega arith))
+          (λ j a. ap (λ (ws : List ℕ). getD ws j 0) (c .before .before .fill .ensures) ∙ filled-before _ _ 0 _ j a)
+          (λ j a. ap (λ (ws : List ℕ). getD ws j 0) (c .before .before .fill .ensures) ∙ filled-after _ _ 0 _ j
+          (omega arith))),
+      run-spares _ _ _ (omega arith) (c .before .before .fill .ensures),
+    )
+
+pub cut-run-spec : {M : Type 1} → statement M
+cut-run-spec =
+    tie.close
+    (tie.spec
+    order-of-requires
+    pow2-requires
+    mul-fill
+    add-fill
+    add-fill-2
+    add-fill-3
+    fill-requires
+    same-length
+    returns)

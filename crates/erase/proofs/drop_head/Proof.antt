@@ -1,0 +1,185 @@
+use mathlib.Core.Path.{refl}
+use native.Mathlib.Omega.{arith}
+use borrow.Author.Tests.{not-true, not-false}
+use Rattle.blocks.proofs.BoolLaws.{clash}
+use Rattle.erase.proofs.LowerLaws.{
+  under-fits,
+  under-child,
+  stay-vacant,
+  stay-held,
+  drop-child,
+  drop-held,
+  not-empty,
+  not-sibling,
+}
+use Rattle.erase.proofs.FreedLaws.{spares-same, raised-spares, freed-spares}
+use borrow.Author.Needs.{needs}
+use Rattle.erase.proofs.drop_head.Statement.{statement}
+use Rattle.erase.proofs.drop_head.Tie as tie
+
+vacant-requires : tie.Need-vacant-requires
+vacant-requires c κs = let H = c .before .before .pre .1 in under-fits (H .tower .tall) (c .before .before .pre .0)
+    (H .there) (H .number) .0
+
+same-length : tie.Need-same-length
+same-length c = search needs
+
+returns : tie.Need-returns
+returns c = (
+  (λ k l os w t q. record {
+    yes = λ e. absurd (clash e refl);
+    no = λ _. stay-vacant w (c .before .before .before .before .pre .0) t q
+        (c .before .vacant .ensures .1 (not-true _ (c .if1 .taken)));
+  }),
+  λ low _. spares-same low _,
+)
+
+add-field : tie.Need-add-field
+add-field c = omega arith
+
+field-requires : tie.Need-field-requires
+field-requires c κs = let H = c .before .before .before .before .before .pre .1 in
+    omega (
+      arith,
+      under-fits (H .tower .tall) (c .before .before .before .before .before .pre .0) (H .there)
+          (H .number) .0,
+    )
+
+read-slot-requires : tie.Need-read-slot-requires
+read-slot-requires c κs = search needs
+
+enum-known-k : tie.Need-enum-known-k
+enum-known-k c = search needs
+
+raise-requires : tie.Need-raise-requires
+raise-requires c κs = let H = c .before .before .before .before .before .before .before .before .before .before
+    .before .pre .1 in (
+      under-fits (H .tower .tall) (c .before .before .before .before .before .before .before .before .before .before
+          .before .pre .0) (H .there) (H .number) .0,
+      under-child (H .tower .tall) (c .before .before .before .before .before .before .before .before .before .before
+          .before .pre .0) (H .there) (H .number) (c .before .before .before .before .before .field .ensures)
+          (c .before .before .before .before .read-slot .ensures)
+          _ (c .before .before .k .given .1) .2,
+    )
+
+enum-told : tie.Need-enum-told
+enum-told c = search needs
+
+same-length-2 : tie.Need-same-length-2
+same-length-2 c = search needs
+
+returns-2 : tie.Need-returns-2
+returns-2 c = (
+  (λ k l os w t q. record {
+    yes = λ e. absurd (clash e refl);
+    no = λ _. stay-held w (c .before .before .before .before .before .before .before .before .before .before .pre .0)
+        t q (c .before .before .before .before .field .ensures) (c .before .before .before .read-slot .ensures)
+        (c .before .enum-told .given .1)
+        (c .if2 .taken);
+  }),
+  λ low _. spares-same low _,
+)
+
+free-head-requires : tie.Need-free-head-requires
+free-head-requires c κs = let H = c .before .before .before .before .before .before .before .before .before .before
+    .before .pre .1 in under-fits (H .tower .tall) (c .before .before .before .before .before .before .before .before
+    .before .before .before .pre .0) (H .there) (H .number) .0
+
+enum-told-2 : tie.Need-enum-told-2
+enum-told-2 c = search needs
+
+enum-told-3 : tie.Need-enum-told-3
+enum-told-3 c = search needs
+
+same-length-3 : tie.Need-same-length-3
+same-length-3 c = c .before .before .raise .kept .0
+
+returns-3 : tie.Need-returns-3
+returns-3 c = let d = c .before .before .raise .ensures in (
+  (λ k l os w t q. record {
+    yes = λ _. drop-child w (c .before .before .before .before .before .before .before .before .before .before .before
+        .before .before .before .pre .0) t q (c .before .before .before .before .before .before .before .before .field
+        .ensures) (c .before .before .before .before .before .before .before .read-slot .ensures)
+        (c .before .before .before .before .before .before .before .before .before .before .before .vacant .ensures .0
+        (not-false _ (c .before .before .before .before .before .before .before .before .before .before .if1
+        .left))) _ (c .before .before .before .before .before .k .given .1) (c .before .before .raise .kept .0)
+        (d .gone) (d .own) (d .head) (d .rest);
+    no = λ e. absurd (clash refl e);
+  }),
+  λ low le. raised-spares d low (le refl),
+)
+
+same-length-4 : tie.Need-same-length-4
+same-length-4 c = c .before .before .free-head .kept .0
+
+returns-4 : tie.Need-returns-4
+returns-4 c = let d = c .before .before .free-head .ensures in (
+  (λ k l os w t q. record {
+    yes = λ _. drop-held w (c .before .before .before .before .before .before .before .before .before .before .before
+        .before .before .before .pre .0) t q (c .before .before .before .before .before .before .before .before .field
+        .ensures) (c .before .before .before .before .before .before .before .read-slot .ensures)
+        (c .before .before .before .before .before .before .before .before .before .before .before .vacant .ensures .0
+        (not-false _ (c .before .before .before .before .before .before .before .before .before .before .if1
+        .left))) (c .before .before .before .before .before .enum-told .given .1)
+        (c .before .before .before .before .if2 .left)
+        (c .before .before .free-head .kept .0) (d .gone) (d .head) (d .rest);
+    no = λ e. absurd (clash refl e);
+  }),
+  λ low le. freed-spares d low (le refl),
+)
+
+same-length-5 : tie.Need-same-length-5
+same-length-5 c = search needs
+
+returns-5 : tie.Need-returns-5
+returns-5 c = (
+  (λ k l os w t q. record {
+    yes = λ e. absurd (clash e refl);
+    no = λ _. absurd (not-empty w (c .before .before .before .before .before .before .before .before .before .pre .0)
+        t q (c .before .before .before .field .ensures) (c .before .before .read-slot .ensures)
+        (c .before .before .before .before .before .before .vacant .ensures .0
+        (not-false _ (c .before .before .before .before .before .if1 .left))) (c .enum-told2 .given .1));
+  }),
+  λ low _. spares-same low _,
+)
+
+same-length-6 : tie.Need-same-length-6
+same-length-6 c = search needs
+
+returns-6 : tie.Need-returns-6
+returns-6 c = (
+  (λ k l os w t q. record {
+    yes = λ e. absurd (clash e refl);
+    no = λ _. absurd (not-sibling w (c .before .before .before .before .before .before .before .before .before .pre
+        .0) t q (c .before .before .before .field .ensures) (c .before .before .read-slot .ensures) _
+        (c .enum-told3 .given .1));
+  }),
+  λ low _. spares-same low _,
+)
+
+pub drop-head-spec : {M : Type 1} → statement M
+drop-head-spec =
+    tie.close
+    (tie.spec
+    vacant-requires
+    same-length
+    returns
+    add-field
+    field-requires
+    read-slot-requires
+    enum-known-k
+    raise-requires
+    enum-told
+    same-length-2
+    returns-2
+    free-head-requires
+    enum-told-2
+    enum-told-3
+    same-length-3
+    returns-3
+    same-length-4
+    returns-4
+    same-length-5
+    returns-5
+    same-length-6
+    returns-6)

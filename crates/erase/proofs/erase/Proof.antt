@@ -1,0 +1,103 @@
+use mathlib.Core.Path.{sym, ap, _∙_}
+use native.Mathlib.Omega.{arith}
+use lib.ListN.{length-set}
+use Rattle.model.specs.Model.{covered}
+use Rattle.lookup.proofs.WordLaws.{pool-length}
+use Rattle.lookup.proofs.HeadLaws.{at-nothing, at-head, at-spot}
+use Rattle.erase.proofs.ErasedLaws.{words-gap, words-head, in-use-head}
+use borrow.Author.Needs.{needs}
+use Rattle.erase.proofs.erase.Statement.{statement}
+use Rattle.erase.proofs.erase.Tie as tie
+
+locate-requires : tie.Need-locate-requires
+locate-requires c κs = search needs
+
+enum-told : tie.Need-enum-told
+enum-told c = search needs
+
+enum-known-k : tie.Need-enum-known-k
+enum-known-k c = search needs
+
+slice-write-pool : tie.Need-slice-write-pool
+slice-write-pool c = omega (arith, pool-length (c .before .before .before .before .before .before .pre .0))
+
+slice-write-pool-2 : tie.Need-slice-write-pool-2
+slice-write-pool-2 c = simp length-set (omega (
+  arith,
+  pool-length
+      (c .before .before .before .before .before .before .pre .0),
+))
+
+enum-known-k-2 : tie.Need-enum-known-k-2
+enum-known-k-2 c = search needs
+
+remove-requires : tie.Need-remove-requires
+remove-requires c κs = let s = c .before .before .before .before .before .before .before .pre .0 in
+    let (q, h, t, le, d) = at-spot _ _ _ (c .before .before .before .before .locate .ensures s)
+    (c .before .before .k2 .given .1) in (
+      c .before .before .before .before .before .before .before .pre .1,
+      record { formed = s; holds = h; height-is = t },
+    )
+
+same-length : tie.Need-same-length
+same-length c = search needs
+
+returns : tie.Need-returns
+returns c = (
+  (λ s. let (q, d) = at-nothing _ (c .before .before .locate .ensures s) (c .enum-told .given .1) in
+      ap covered (sym q)),
+  (
+    (λ s. let (q, d) = at-nothing _ (c .before .before .locate .ensures s) (c .enum-told .given .1) in
+        words-gap s _ q),
+    c .before .before .before .before .before .pre .1,
+  ),
+)
+
+same-length-2 : tie.Need-same-length-2
+same-length-2 c = search needs
+
+returns-2 : tie.Need-returns-2
+returns-2 c = (
+  (λ s. let (z, q) = at-head _ (c .before .before .before .locate .ensures s) (c .before .k .given .1) in
+      ap covered (sym q)),
+  (
+    (λ s. let (z, q) = at-head _ (c .before .before .before .locate .ensures s) (c .before .k .given .1) in
+        words-head s _ _ q z),
+    in-use-head (c .before .before .before .before .before .before .pre .1),
+  ),
+)
+
+same-length-3 : tie.Need-same-length-3
+same-length-3 c = search needs
+
+returns-3 : tie.Need-returns-3
+returns-3 c = (
+  (λ s. let (q, h, t, le, d) = at-spot _ _ _
+      (c .before .before .before .before .before .before .before .locate .ensures s)
+      (c .before .before .before .before .before .k2 .given .1) in
+      ap covered (sym q)),
+  (
+    (λ s. let (q, h, t, le, d) = at-spot _ _ _ (c .before .before .before .before .before .before .before .locate
+        .ensures s) (c .before .before .before .before .before .k2 .given .1) in
+        c .before .before .remove .ensures .1 s h t),
+    c .before .before .remove .ensures .0,
+  ),
+)
+
+pub erase-spec : {M : Type 1} → statement M
+erase-spec =
+    tie.close
+    (tie.spec
+    locate-requires
+    enum-told
+    enum-known-k
+    slice-write-pool
+    slice-write-pool-2
+    enum-known-k-2
+    remove-requires
+    same-length
+    returns
+    same-length-2
+    returns-2
+    same-length-3
+    returns-3)

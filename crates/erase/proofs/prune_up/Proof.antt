@@ -1,0 +1,196 @@
+use Prim.Native.Nat.{ℕ, suc, _-_, _/_, _<_, _≤_}
+use mathlib.Core.Path.{_≡_, refl, sym, _∙_}
+use mathlib.Core.List.{List}
+use native.Mathlib.Omega.{arith}
+use native.Mathlib.Numerals.{add-one}
+use lib.ListN.{length}
+use borrow.Author.Tests.{not-true, not-false}
+use Rattle.tree.specs.Tree.{slots, topTier}
+use Rattle.layout.specs.Words.{place, lastField, maxNodes}
+use Rattle.layout.specs.WellFormed.{WellFormed}
+use Rattle.erase.specs.Freed.{Spares}
+use Rattle.erase.specs.Leaving.{Cut, Cutting}
+use Rattle.erase.proofs.LeavingLaws.{cut-fits, cut-empty, cut-filled, cut-done, cut-top, cut-next, over-fits}
+use Rattle.erase.proofs.FreedLaws.{spares-same, spares-then, freed-spares, unlinked-spares}
+use Rattle.erase.proofs.prune_up.Statement.{statement}
+use Rattle.erase.proofs.prune_up.Tie as tie
+
+record Bounds (pool₀ pool : List ℕ) (n v : ℕ) : Type 0 where
+  node-in : place n lastField < length pool
+  node-lt : n < maxNodes
+  tier-lt : v < topTier
+  same : length pool ≡ length pool₀
+
+bounds : {pool₀ pool : List ℕ} {i v n : ℕ} → Cutting i v n pool → length pool ≡ length pool₀ → Bounds pool₀ pool n v
+bounds k e =
+    let f = cut-fits (k .formed) (k .state) in record { node-in = f .0; node-lt = f .1; tier-lt = f .2; same = e }
+
+abbrev Inv-loop : tie.InvT-loop
+Inv-loop pool₀ i first tier low n₀ v₀ floor₀ pool n v floor =
+    Bounds pool₀ pool n v × Cutting i v n pool × (floor ≤ low) × Spares floor pool₀ pool ×
+    ((ws : List ℕ) (s : WellFormed ws) → Cut s i tier first pool₀ → Cut s i v n pool)
+
+abbrev μ-loop : tie.MeasureT-loop
+μ-loop pool₀ i first tier low n₀ v₀ floor₀ pool n v floor = topTier - v
+
+loop-holds : tie.Need-loop-holds Inv-loop μ-loop
+loop-holds c = (bounds (c .before .pre) refl, c .before .pre, omega arith, spares-same _ _, λ ws s k. k)
+
+vacant-requires : tie.Need-vacant-requires Inv-loop μ-loop
+vacant-requires c κs = c .before .loop .inv .0 .node-in
+
+same-length : tie.Need-same-length Inv-loop μ-loop
+same-length c = c .before .before .before .loop .inv .0 .same
+
+returns : tie.Need-returns Inv-loop μ-loop
+returns c = let w = c .before .before .before .loop .inv in (
+  w .2,
+  (
+    w .3,
+    λ ws s k. let k′ = w .4 ws s k in
+        cut-done s k′ (cut-filled s k′ (c .before .vacant .ensures .1 (not-true _ (c .if1 .taken)))),
+  ),
+)
+
+least-requires : tie.Need-least-requires Inv-loop μ-loop
+least-requires c κs = tt
+
+field-requires : tie.Need-field-requires Inv-loop μ-loop
+field-requires c κs = omega (arith, c .before .before .before .before .before .loop .inv .0 .node-in)
+
+free-head-requires : tie.Need-free-head-requires Inv-loop μ-loop
+free-head-requires c κs = c .before .before .before .before .before .before .before .before .loop .inv .0 .node-in
+
+same-length-2 : tie.Need-same-length-2 Inv-loop μ-loop
+same-length-2 c = c .before .before .free-head .kept .0 ∙ c .before .before .before .before .before .before .before
+    .before .before .before .before .loop .inv .0 .same
+
+returns-2 : tie.Need-returns-2 Inv-loop μ-loop
+returns-2 c = let w = c .before .before .before .before .before .before .before .before .before .before .before .loop
+    .inv in
+    let d = c .before .before .free-head .ensures in
+    let e = c .before .before .before .before .before .before .before .least .ensures in
+    let le = w .2 in (
+      omega arith,
+      (
+        spares-then (omega arith) (w .3) (freed-spares d _ (omega arith)),
+        λ ws s k. let k′ = w .4 ws s k in
+            cut-top s k′ (cut-empty s k′ (c .before .before .before .before .before .before .before .before .before
+            .vacant .ensures .0 (not-false _ (c .before .before .before .before .before .before .before .before
+            .if1 .left))))
+            (sym (c .before .before .before .before .before .field .ensures) ∙ c .before .before .before .before .if2
+            .taken) (c .before .before .free-head .kept .0) (d .gone) (d .head) (d .rest),
+      ),
+    )
+
+sub-m : tie.Need-sub-m Inv-loop μ-loop
+sub-m c = omega arith
+
+sub-unlink : tie.Need-sub-unlink Inv-loop μ-loop
+sub-unlink c = omega arith
+
+unlink-requires : tie.Need-unlink-requires Inv-loop μ-loop
+unlink-requires c κs = let w = c .before .before .before .before .before .before .before .before .loop .inv in
+    let k = w .1 in
+    let g = cut-empty (k .formed) (k .state) (c .before .before .before .before .before .before .vacant .ensures .0
+    (not-false _ (c .before .before .before .before .before .if1 .left))) in (
+      w .0 .node-in,
+      (
+        over-fits (k .formed) (k .state) g (c .before .before .field .result) (c .before .before .field .ensures)
+            (c .before .if2 .left) .0,
+        omega arith,
+      ),
+    )
+
+add-v : tie.Need-add-v Inv-loop μ-loop
+add-v c = omega (
+  arith,
+  c .before .before .before .before .before .before .before .before .before .before .before
+      .loop .inv .0 .tier-lt,
+)
+
+-- the way up from the node that is freed
+step-cut : (c : tie.After-slice-known3 Inv-loop μ-loop) (ws : List ℕ) (s : WellFormed ws) →
+    Cut s (c .before .before .before .before .before .before .before .before .before .before .before .before .before
+    .args .i) (c .before .before .before .before .before .before .before .before .before .before .before .loop .v)
+    (c .before .before .before .before .before .before .before .before .before .before .before .loop .n)
+    (c .before .before .before .before .before .before .before .before .before .before .before .loop .pool) →
+    Cut s (c .before .before .before .before .before .before .before .before .before .before .before .before .before
+    .args .i) (suc (c .before .before .before .before .before .before .before .before .before .before .before
+    .loop .v)) ((c .before .before .before .before .before .field .result - 1) / slots)
+    (c .before .before .unlink .last .0)
+step-cut c ws s k =
+    let d = c .before .before .unlink .ensures in
+    let g = cut-empty s k (c .before .before .before .before .before .before .before .before .before .vacant .ensures
+    .0 (not-false _ (c .before .before .before .before .before .before .before .before .if1 .left))) in
+    let p = c .before .before .before .before .before .field .result in
+    let r = c .before .before .before .before .before .field .ensures in
+    let ne = c .before .before .before .before .if2 .left in
+    cut-next s k g p r ne (c .before .before .unlink .kept .0) (d .gone) (d .cleared (over-fits s k g p r ne .1))
+    (d .rest)
+
+next : (c : tie.After-slice-known3 Inv-loop μ-loop) →
+    Inv-loop (c .before .before .before .before .before .before .before .before .before .before .before .before
+    .before .args .pool .now) (c .before .before .before .before .before .before .before .before .before .before
+    .before .before .before .args .i) (c .before .before .before .before .before .before .before .before .before
+    .before .before .before .before .args .first) (c .before .before .before .before .before .before .before
+    .before .before .before .before .before .before .args .tier)
+    (c .before .before .before .before .before .before .before .before .before .before .before .before .before
+    .args .low)
+    (c .before .before .before .before .before .before .before .before .before .before .before .before .before .args
+    .first) (c .before .before .before .before .before .before .before .before .before .before .before .before
+    .before .args .tier) (c .before .before .before .before .before .before .before .before .before .before
+    .before .before .before .args .low) (c .before .before .unlink .last .0)
+    ((c .before .before .before .before .before .field .result - 1) / slots)
+    (suc (c .before .before .before .before .before .before .before .before .before .before .before .loop .v))
+    (c .before .before .before .before .before .before .before .least .result)
+next c =
+    let w = c .before .before .before .before .before .before .before .before .before .before .before .loop .inv in
+    let k = w .1 in
+    let k′ : Cutting (c .before .before .before .before .before .before .before .before .before .before .before
+    .before .before .args .i) (suc (c .before .before .before .before .before .before .before .before .before
+    .before .before .loop .v)) ((c .before .before .before .before .before .field .result - 1) / slots)
+    (c .before .before .unlink .last .0) =
+    record { before = k .before; formed = k .formed; state = step-cut c (k .before) (k .formed) (k .state) } in
+    let e = c .before .before .before .before .before .before .before .least .ensures in
+    let le = w .2 in (
+      bounds k′ (c .before .before .unlink .kept .0 ∙ w .0 .same),
+      k′,
+      omega arith,
+      spares-then (omega arith) (w .3) (unlinked-spares (omega arith) (c .before .before .unlink .ensures) _
+          (omega arith)),
+      λ ws s x. step-cut c ws s (w .4 ws s x),
+    )
+
+loop-less : tie.Need-loop-less Inv-loop μ-loop
+loop-less c = omega (
+  arith,
+  next c .0 .tier-lt,
+  c .before .before .before .before .before .before .before .before
+      .before .before .before .loop .inv .0 .tier-lt,
+)
+
+loop-again : tie.Need-loop-again Inv-loop μ-loop
+loop-again c = rw add-one (next c)
+
+pub prune-up-spec : {M : Type 1} → statement M
+prune-up-spec =
+    tie.close
+    (tie.spec
+    Inv-loop
+    μ-loop
+    loop-holds
+    vacant-requires
+    same-length
+    returns
+    least-requires
+    field-requires
+    free-head-requires
+    same-length-2
+    returns-2
+    sub-m
+    sub-unlink
+    unlink-requires
+    add-v
+    loop-less
+    loop-again)

@@ -1,0 +1,20 @@
+use Rattle.erase.proofs.FreedLaws.{raised}
+use borrow.Author.Needs.{needs}
+use Rattle.erase.proofs.raise.Statement.{statement}
+use Rattle.erase.proofs.raise.Tie as tie
+
+put-requires : tie.Need-put-requires
+put-requires c κs = search needs
+
+free-head-requires : tie.Need-free-head-requires
+free-head-requires c κs = search needs
+
+same-length : tie.Need-same-length
+same-length c = search needs
+
+returns : tie.Need-returns
+returns c = raised _ _ _ (c .before .before .before .before .before .before .before .before .before .pre .1)
+    (c .before .before .before .before .before .before .put .ensures) (c .before .before .free-head .ensures)
+
+pub raise-spec : {M : Type 1} → statement M
+raise-spec = tie.close (tie.spec put-requires free-head-requires same-length returns)

@@ -1,0 +1,199 @@
+use borrow.Author.Needs.{needs}
+use Prim.Native.Nat.{ℕ, _≤_}
+use mathlib.Core.Path.{_≡_, refl, _∙_}
+use mathlib.Core.List.{List}
+use native.Mathlib.Omega.{arith}
+use lib.ListN.{length}
+use borrow.Author.Tests.{not-true, not-false}
+use Rattle.blocks.proofs.BoolLaws.{clash}
+use Rattle.model.specs.declared.Entry.{Entry}
+use Rattle.layout.specs.Places.{Places}
+use Rattle.erase.specs.Freed.{Spares}
+use Rattle.erase.specs.Tall.{Tall, Tower}
+use Rattle.erase.proofs.LowerLaws.{tall-flat, top-child, top-empty, top-held, top-sibling}
+use Rattle.erase.proofs.FreedLaws.{spares-same, spares-then}
+use Rattle.erase.proofs.shrink.Statement.{statement}
+use Rattle.erase.proofs.shrink.Tie as tie
+
+abbrev Inv-loop : tie.InvT-loop
+Inv-loop pool₀ top low h₀ floor₀ pool h floor =
+    Tower h pool × (length pool ≡ length pool₀) × (floor ≤ low) × Spares floor pool₀ pool ×
+    ((k : ℕ) (l : List Entry) (os : Places) → Tall k top l os pool₀ → Tall k h l os pool)
+
+abbrev μ-loop : tie.MeasureT-loop
+μ-loop pool₀ top low h₀ floor₀ pool h floor = h
+
+loop-holds : tie.Need-loop-holds Inv-loop μ-loop
+loop-holds c = (c .before .pre, refl, omega arith, spares-same _ _, λ k l os w. w)
+
+slice-read-read-slot : tie.Need-slice-read-read-slot Inv-loop μ-loop
+slice-read-read-slot c = omega (arith, c .before .before .loop .inv .0 .tall .size)
+
+read-slot-requires : tie.Need-read-slot-requires Inv-loop μ-loop
+read-slot-requires c κs = search needs
+
+enum-known-k : tie.Need-enum-known-k Inv-loop μ-loop
+enum-known-k c = search needs
+
+drop-head-requires : tie.Need-drop-head-requires Inv-loop μ-loop
+drop-head-requires c κs = let T = c .before .before .before .before .before .before .before .loop .inv .0 in
+    let h = top-child (T .tall) (c .before .before .before .before .before .before .loop-test .taken) refl
+    (c .before .before .before .before .read-slot .ensures) _ (c .before .before .k .given .1) in (
+      c .before .before .before .before .before .before .loop-test .taken,
+      record { tower = T; there = h .0; number = h .1 },
+    )
+
+same-length : tie.Need-same-length Inv-loop μ-loop
+same-length c = c .before .before .before .drop-head .kept .0 ∙ c .before .before .before .before .before .before
+    .before .before .before .before .before .loop .inv .1
+
+returns : tie.Need-returns Inv-loop μ-loop
+returns c = let f = not-true _ (c .if1 .taken) in
+    let w = c .before .before .before .before .before .before .before .before .before .before .before .loop .inv in (
+      w .2,
+      (
+        spares-then (omega arith) (w .3) (c .before .before .before .drop-head .ensures .1 _
+            (λ e. absurd (clash e f))),
+        λ k l os t.
+            let t′ = w .4 k l os t in
+            let h = top-child t′ (c .before .before .before .before .before .before .before .before .before .before
+            .loop-test .taken) refl (c .before .before .before .before .before .before .before .before .read-slot
+            .ensures) _ (c .before .before .before .before .before .before .k .given .1) in
+            c .before .before .before .drop-head .ensures .0 k l os t′ (h .0) (h .1) .no f,
+      ),
+    )
+
+least-requires : tie.Need-least-requires Inv-loop μ-loop
+least-requires c κs = search needs
+
+sub-h : tie.Need-sub-h Inv-loop μ-loop
+sub-h c = omega (
+  arith,
+  c .before .before .before .before .before .before .before .before .before .before .before
+      .loop-test .taken,
+)
+
+loop-less : tie.Need-loop-less Inv-loop μ-loop
+loop-less c = omega (
+  arith,
+  c .before .before .before .before .before .before .before .before .before .before .before
+      .loop-test .taken,
+)
+
+loop-again : tie.Need-loop-again Inv-loop μ-loop
+loop-again c = let f = not-false _ (c .before .if1 .left) in
+    let w = c .before .before .before .before .before .before .before .before .before .before .before .before .loop
+    .inv in
+    let T = w .0 in
+    let e = c .least .ensures in
+    let le = w .2 in
+    let pos = c .before .before .before .before .before .before .before .before .before .before .before .loop-test
+    .taken in
+    let r = c .before .before .before .before .before .before .before .before .before .read-slot .ensures in
+    let t₀ = top-child (T .tall) pos refl r _ (c .before .before .before .before .before .before .before .k .given .1)
+    in (
+      record {
+        n = T .n;
+        list = T .list;
+        places = T .places;
+        tall = c .before .before .before .before .drop-head .ensures .0 (T .n) (T .list) (T .places) (T .tall) (t₀ .0)
+            (t₀ .1) .yes f;
+      },
+      c .before .before .before .before .drop-head .kept .0 ∙ w .1,
+      omega arith,
+      spares-then (omega arith) (w .3) (c .before .before .before .before .drop-head .ensures .1 _
+          (λ _. omega arith)),
+      λ k l os t.
+          let t′ = w .4 k l os t in
+          let h = top-child t′ pos refl r _ (c .before .before .before .before .before .before .before .k .given .1)
+          in
+          c .before .before .before .before .drop-head .ensures .0 k l os t′ (h .0) (h .1) .yes f,
+    )
+
+enum-told : tie.Need-enum-told Inv-loop μ-loop
+enum-told c = search needs
+
+same-length-2 : tie.Need-same-length-2 Inv-loop μ-loop
+same-length-2 c = c .before .before .before .before .before .loop .inv .1
+
+returns-2 : tie.Need-returns-2 Inv-loop μ-loop
+returns-2 c = let w = c .before .before .before .before .before .loop .inv in (
+  w .2,
+  (
+    w .3,
+    λ k l os t.
+        absurd (top-held (w .4 k l os t) (c .before .before .before .before .loop-test .taken) refl
+        (c .before .before .read-slot .ensures) (c .enum-told .given .1)),
+  ),
+)
+
+enum-told-2 : tie.Need-enum-told-2 Inv-loop μ-loop
+enum-told-2 c = search needs
+
+same-length-3 : tie.Need-same-length-3 Inv-loop μ-loop
+same-length-3 c = c .before .before .before .before .before .loop .inv .1
+
+returns-3 : tie.Need-returns-3 Inv-loop μ-loop
+returns-3 c = let w = c .before .before .before .before .before .loop .inv in (
+  w .2,
+  (
+    w .3,
+    λ k l os t.
+        top-empty (w .4 k l os t) (c .before .before .before .before .loop-test .taken) refl
+        (c .before .before .read-slot .ensures) (c .enum-told2 .given .1),
+  ),
+)
+
+enum-told-3 : tie.Need-enum-told-3 Inv-loop μ-loop
+enum-told-3 c = search needs
+
+same-length-4 : tie.Need-same-length-4 Inv-loop μ-loop
+same-length-4 c = c .before .before .before .before .before .loop .inv .1
+
+returns-4 : tie.Need-returns-4 Inv-loop μ-loop
+returns-4 c = let w = c .before .before .before .before .before .loop .inv in (
+  w .2,
+  (
+    w .3,
+    λ k l os t.
+        absurd (top-sibling (w .4 k l os t) (c .before .before .before .before .loop-test .taken) refl
+        (c .before .before .read-slot .ensures) _
+        (c .enum-told3 .given .1)),
+  ),
+)
+
+same-length-5 : tie.Need-same-length-5 Inv-loop μ-loop
+same-length-5 c = c .before .loop .inv .1
+
+returns-5 : tie.Need-returns-5 Inv-loop μ-loop
+returns-5 c = let w = c .before .loop .inv in
+    (w .2, (w .3, λ k l os t. tall-flat (w .4 k l os t) (omega (arith, c .loop-test .left))))
+
+pub shrink-spec : {M : Type 1} → statement M
+shrink-spec =
+    tie.close
+    (tie.spec
+    Inv-loop
+    μ-loop
+    loop-holds
+    slice-read-read-slot
+    read-slot-requires
+    enum-known-k
+    drop-head-requires
+    same-length
+    returns
+    least-requires
+    sub-h
+    loop-less
+    loop-again
+    enum-told
+    same-length-2
+    returns-2
+    enum-told-2
+    same-length-3
+    returns-3
+    enum-told-3
+    same-length-4
+    returns-4
+    same-length-5
+    returns-5)

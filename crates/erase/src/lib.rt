@@ -1,0 +1,293 @@
+// Erasing the entry that covers an index: its marks off, its slots to 0, empty nodes freed, the head shrunk.
+//
+// pool: the borrowed words; i: the index; n, m: numbers of nodes; v: the tier of a node's slots; o: the offset of a
+// slot; h: the tier of the head; low: every node below it is in use.
+use layout::ANCHOR_WORDS;
+use layout::HEAD_WORD;
+use layout::MARKS_WORD;
+use layout::NODE_WORDS;
+use layout::OWNER_FIELD;
+use layout::SLOT_FIELD;
+use layout::SLOTS;
+use layout::Slot;
+use layout::field;
+use layout::fill;
+use layout::pow2;
+use layout::put;
+use layout::read_slot;
+use lookup::Located;
+use lookup::Spot;
+use lookup::locate;
+use lookup::order_of;
+use marks::climb;
+use model::Covered;
+ghost use Prim.Native.Nat.{ℕ, suc, _+_, _<_, _≤_, min};
+ghost use mathlib.Core.Path.{_≡_};
+ghost use mathlib.Core.Bool.{Bool, true, false};
+ghost use mathlib.Core.List.{List};
+ghost use lib.ListN.{getD};
+ghost use Rattle.blocks.specs.Lists.{any};
+ghost use Rattle.model.specs.Model;
+ghost use Rattle.model.specs.Model.{within, covering, covered};
+ghost use Rattle.model.specs.declared.Entry.{Entry};
+ghost use Rattle.tree.specs.Tree.{slots, tierOrder, height};
+ghost use Rattle.layout.specs.Words.{place, poolWords, nodeWords, lastField, slotField};
+ghost use Rattle.layout.specs.Places.{Places, numberIn, prune, render};
+ghost use Rattle.layout.specs.Fill.{filled};
+ghost use Rattle.layout.specs.WellFormed.{WellFormed, InUse, num};
+ghost use Rattle.lookup.specs.Views.{Holds};
+ghost use Rattle.erase.specs.Freed.{Freed, Raised, Unlinked, Spares};
+ghost use Rattle.erase.specs.Tall.{Tall, Tower, Headed, Dropped};
+ghost use Rattle.erase.specs.Leaving.{Unmarked, Cut, Cutting, Leaves, Erasing};
+
+// What an erase took out, with its marks as they were; and the number below which every node is in use.
+pub struct Erased {
+    pub entry: Covered,
+    pub low: u64,
+}
+
+// The lesser of two numbers.
+fn least(a: u64, b: u64) -> u64
+    ensures { λ r. ⌜ r ≡ min a b ⌝ }
+{
+    if a < b {
+        return a;
+    }
+    b
+}
+
+// Whether the slots of node n from slot o on are empty.
+fn vacant(pool: &[u64], n: u64, o: u64) -> bool
+    requires { do ⌜ place n lastField < (← ⟦pool.len()⟧) ⌝ }
+    ensures { λ r. ⌜ (r ≡ true → (j : ℕ) → o ≤ j → j < slots →
+        getD (now (pool .entry)) (place n (slotField + j)) 0 ≡ 0) ⌝ }
+    ensures { λ r. ⌜ (r ≡ false → ((j : ℕ) → o ≤ j → j < slots →
+        getD (now (pool .entry)) (place n (slotField + j)) 0 ≡ 0) → ⊥) ⌝ }
+{
+    let mut j = o;
+    while j < SLOTS {
+        if field(pool, n, SLOT_FIELD + j) != 0 {
+            return false;
+        }
+        j = j + 1;
+    }
+    true
+}
+
+// FREEING A NODE
+
+// All words of node n become 0.
+fn free_node(pool: &mut [u64], n: u64)
+    requires { do ⌜ place n lastField < (← ⟦pool.len()⟧) ⌝ }
+    ensures { λ _. ⌜ now (pool .exit) ≡ filled (now (pool .entry)) (poolWords n) 0 nodeWords ⌝ }
+{
+    fill(pool, ANCHOR_WORDS + NODE_WORDS * n, 0, NODE_WORDS);
+}
+
+// Frees the head n; the head's word becomes x.
+fn free_head(pool: &mut [u64], n: u64, x: u64)
+    requires { do ⌜ place n lastField < (← ⟦pool.len()⟧) ⌝ }
+    ensures { λ _. ⌜ Freed (now (pool .entry)) (now (pool .exit)) n x ⌝ }
+{
+    free_node(pool, n);
+    pool[HEAD_WORD] = x;
+}
+
+// Frees the head n, and makes node m below it, whose word is x, the head.
+fn raise(pool: &mut [u64], n: u64, m: u64, x: u64)
+    requires { do ⌜ place n lastField < (← ⟦pool.len()⟧) ⌝ }
+    requires { do ⌜ place m lastField < (← ⟦pool.len()⟧) ⌝ }
+    ensures { λ _. ⌜ Raised (now (pool .entry)) (now (pool .exit)) n m x ⌝ }
+{
+    put(pool, m, OWNER_FIELD, 0);
+    free_head(pool, n, x);
+}
+
+// Frees node n, and empties slot o of node m, which leads to it.
+fn unlink(pool: &mut [u64], n: u64, m: u64, o: u64)
+    requires { do ⌜ place n lastField < (← ⟦pool.len()⟧) ⌝ }
+    requires { do ⌜ place m lastField < (← ⟦pool.len()⟧) ⌝ }
+    requires { ⌜ o < slots ⌝ }
+    ensures { λ _. ⌜ Unlinked (now (pool .entry)) (now (pool .exit)) n m o ⌝ }
+{
+    put(pool, m, SLOT_FIELD + o, 0);
+    free_node(pool, n);
+}
+
+// SHRINKING THE HEAD
+
+// The head n, of tier h, gives way to what its slot 0 holds, if that is all it has: a node, or, at shift 0, an entry.
+fn drop_head(pool: &mut [u64], n: u64, h: u64) -> bool
+    requires { ⌜ 1 ≤ h ⌝ }
+    requires { ⌜ Headed h n (now pool) ⌝ }
+    ensures { λ r. ⌜ ((k : ℕ) (l : List Entry) (os : Places) → Tall k h l os (now (pool .entry)) →
+        any (within (tierOrder h) 0) l ≡ true → n ≡ numberIn os h 0 → Dropped r k h l os (now (pool .exit))) ⌝ }
+    ensures { λ r. ⌜ ((low : ℕ) → (r ≡ true → low ≤ n) → Spares low (now (pool .entry)) (now (pool .exit))) ⌝ }
+{
+    if !vacant(pool, n, 1) {
+        return false;
+    }
+    let x = field(pool, n, SLOT_FIELD + 0);
+    let k = read_slot(x);
+    match k {
+        Slot::Child(m) => {
+            raise(pool, n, m, x);
+            true
+        }
+        Slot::Held => {
+            if h != 1 {
+                return false;
+            }
+            free_head(pool, n, x);
+            true
+        }
+        Slot::Empty => false,
+        Slot::Sibling(_) => false,
+    }
+}
+
+// Shrinks the head, of tier top, to what the list needs; the number below which every node is in use.
+fn shrink(pool: &mut [u64], top: u64, low: u64) -> u64
+    requires { ⌜ Tower top (now pool) ⌝ }
+    ensures { λ r. ⌜ r ≤ low ⌝ }
+    ensures { λ r. ⌜ Spares r (now (pool .entry)) (now (pool .exit)) ⌝ }
+    ensures { λ _. ⌜ ((k : ℕ) (l : List Entry) (os : Places) → Tall k top l os (now (pool .entry)) →
+        now (pool .exit) ≡ render l (prune l os) k) ⌝ }
+{
+    let mut h = top;
+    let mut floor = low;
+    while h > 0 {
+        let k = read_slot(pool[HEAD_WORD]);
+        match k {
+            Slot::Child(n) => {
+                if !drop_head(pool, n, h) {
+                    return floor;
+                }
+                floor = least(floor, n);
+                h = h - 1;
+            }
+            Slot::Held => {
+                return floor;
+            }
+            Slot::Empty => {
+                return floor;
+            }
+            Slot::Sibling(_) => {
+                return floor;
+            }
+        }
+    }
+    floor
+}
+
+// TAKING THE ENTRY OUT
+
+// Empties the slots of the entry that covers i.
+fn cut_run(pool: &mut [u64], i: u64, at: Spot)
+    requires { ⌜ Leaves i (at .node) (at .tier) (at .slot) (at .top) (now pool) ⌝ }
+    ensures { λ _. ⌜ ((s : WellFormed (now (pool .entry))) →
+        Holds (s .list) (num s) i (at .node) (at .tier) (at .slot) → Unmarked (s .list) i →
+        Cut s i (at .tier) (at .node) (now (pool .exit))) ⌝ }
+    ensures { λ _. ⌜ ((low : ℕ) → Spares low (now (pool .entry)) (now (pool .exit))) ⌝ }
+{
+    let n = at.node;
+    let o = at.slot;
+    let k = order_of(pool, n, o);
+    let c = pow2(k);
+    fill(pool, ANCHOR_WORDS + NODE_WORDS * n + (SLOT_FIELD + o), 0, c);
+}
+
+// Frees node first, which lost the entry that covered i, and those over it, as far as they are empty; the number below
+// which every node is in use.
+fn prune_up(pool: &mut [u64], i: u64, first: u64, tier: u64, low: u64) -> u64
+    requires { ⌜ Cutting i tier first (now pool) ⌝ }
+    ensures { λ r. ⌜ r ≤ low ⌝ }
+    ensures { λ r. ⌜ Spares r (now (pool .entry)) (now (pool .exit)) ⌝ }
+    ensures { λ _. ⌜ ((ws : List ℕ) (s : WellFormed ws) → Cut s i tier first (now (pool .entry)) →
+        Tall (s .n) (height (s .list)) (Model.erase (s .list) i) (s .places) (now (pool .exit))) ⌝ }
+{
+    let mut n = first;
+    let mut v = tier;
+    let mut floor = low;
+    loop {
+        if !vacant(pool, n, 0) {
+            return floor;
+        }
+        floor = least(floor, n);
+        let p = field(pool, n, OWNER_FIELD);
+        if p == 0 {
+            free_head(pool, n, 0);
+            return floor;
+        }
+        let m = (p - 1) / SLOTS;
+        unlink(pool, n, m, (p - 1) % SLOTS);
+        n = m;
+        v = v + 1;
+    }
+}
+
+// Takes out the entry that covers i, which has no marks.
+fn cut(pool: &mut [u64], i: u64, at: Spot, low: u64) -> u64
+    requires { ⌜ Leaves i (at .node) (at .tier) (at .slot) (at .top) (now pool) ⌝ }
+    ensures { λ r. ⌜ r ≤ low ⌝ }
+    ensures { λ r. ⌜ Spares r (now (pool .entry)) (now (pool .exit)) ⌝ }
+    ensures { λ _. ⌜ ((s : WellFormed (now (pool .entry))) →
+        Holds (s .list) (num s) i (at .node) (at .tier) (at .slot) → Unmarked (s .list) i →
+        height (s .list) ≡ at .top →
+        now (pool .exit) ≡ render (Model.erase (s .list) i) (prune (Model.erase (s .list) i) (s .places)) (s .n)) ⌝ }
+{
+    cut_run(pool, i, at);
+    let n = at.node;
+    let v = at.tier;
+    let top = at.top;
+    let floor = prune_up(pool, i, n, v, low);
+    shrink(pool, top, floor)
+}
+
+// Takes out the entry that covers i and stands at a spot: its marks off first, so that then no mark word changes.
+fn remove(pool: &mut [u64], i: u64, at: Spot, low: u64) -> u64
+    requires { ⌜ InUse low (now pool) ⌝ }
+    requires { ⌜ Erasing i (at .node) (at .tier) (at .slot) (at .top) (now pool) ⌝ }
+    ensures { λ r. ⌜ InUse r (now (pool .exit)) ⌝ }
+    ensures { λ _. ⌜ ((s : WellFormed (now (pool .entry))) →
+        Holds (s .list) (num s) i (at .node) (at .tier) (at .slot) → height (s .list) ≡ at .top →
+        now (pool .exit) ≡ render (Model.erase (s .list) i) (prune (Model.erase (s .list) i) (s .places)) (s .n)) ⌝ }
+{
+    climb(pool, i, at, 0, false);
+    climb(pool, i, at, 1, false);
+    climb(pool, i, at, 2, false);
+    cut(pool, i, at, low)
+}
+
+// Takes out the entry that covers i; what it was, and the number below which every node is in use.
+pub fn erase(pool: &mut [u64], i: u64, low: u64) -> Erased
+    requires { ⌜ WellFormed (now pool) ⌝ }
+    requires { ⌜ InUse low (now pool) ⌝ }
+    ensures { λ r. ⌜ ((s : WellFormed (now (pool .entry))) → r .entry ≡ covered (covering (s .list) i)) ⌝ }
+    ensures { λ _. ⌜ ((s : WellFormed (now (pool .entry))) →
+        now (pool .exit) ≡ render (Model.erase (s .list) i) (prune (Model.erase (s .list) i) (s .places)) (s .n)) ⌝ }
+    ensures { λ r. ⌜ InUse (r .low) (now (pool .exit)) ⌝ }
+{
+    let k = locate(pool, i);
+    match k {
+        Located::Uncovered(_) => Erased {
+            entry: Covered::Nothing,
+            low: low,
+        },
+        Located::AtHead(e) => {
+            pool[HEAD_WORD] = 0;
+            pool[MARKS_WORD] = 0;
+            Erased {
+                entry: Covered::By(e),
+                low: low,
+            }
+        }
+        Located::InNode(e, at, _) => {
+            let floor = remove(pool, i, at, low);
+            Erased {
+                entry: Covered::By(e),
+                low: floor,
+            }
+        }
+    }
+}

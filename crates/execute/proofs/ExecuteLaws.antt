@@ -1,0 +1,137 @@
+-- A command keeps a state: the list stays valid, and every node of its tree stands at one number.
+use Prim.Native.Nat.{ℕ, suc, _+_, _-_, _^_, _≤_, _<_}
+use mathlib.Core.Path.{_≡_, refl, sym, ap, subst, _∙_}
+use mathlib.Core.Bool.{Bool, true, false, not}
+use mathlib.Core.List.{List, [], _∷_}
+use mathlib.Core.Option.{Option, none, some}
+use native.Mathlib.Omega.{arith}
+use lib.Dec.{leb, ltb, eqb, T}
+use lib.ListN.{length}
+use borrow.Author.Tests.{ltb-true, ltb-false, leb-true, leb-false, lt-ltb, le-ltb}
+use Rattle.blocks.specs.Choice.{pick}
+use Rattle.blocks.specs.Lists.{All, end, also}
+use Rattle.blocks.proofs.BoolLaws.{byT}
+use Rattle.model.specs.declared.Entry.{Entry}
+use Rattle.model.specs.Model.{
+  Valid,
+  storable,
+  maxOrder,
+  markCount,
+  covers,
+  covering,
+  store,
+  erase,
+  remark,
+  withMark,
+}
+use Rattle.model.proofs.ValidLaws.{store-valid, erase-valid, erase-clear, erase-none}
+use Rattle.tree.specs.Tree.{nodes, newNodes, needed}
+use Rattle.tree.proofs.ChangeLaws.{clear-new}
+use Rattle.tree.proofs.RelabelLaws.{new-nodes-map}
+use Rattle.layout.specs.Places.{Places, Placed, freeCount, newPlaces}
+use Rattle.layout.proofs.PlacesLaws.{placed-new, blank-places}
+use Rattle.layout.proofs.StayLaws.{none-new}
+use Rattle.lookup.specs.Find.{anyMark}
+use Rattle.marks.proofs.RemarkLaws.{sorted-remark}
+use Rattle.batch.specs.declared.Command.{Command}
+use Rattle.batch.specs.declared.Command.the-variants.{Store, Load, Erase, Mark, Unmark, Find}
+use Rattle.batch.specs.Reply.{replyTag}
+use Rattle.batch.specs.Fits.{Fits}
+use Rattle.execute.specs.Execute.{Executed, execute, short, refuse, replyOf, tooFewNodes}
+use Rattle.execute.specs.State.{State, next, states}
+
+-- COMMANDS THAT ONLY READ leave the list
+pub load-list : (n : ℕ) (l : List Entry) (i : ℕ) → execute n l (Load i) .list ≡ l
+unfolding execute
+load-list n l i = refl
+
+pub find-list : (n : ℕ) (l : List Entry) (a z f k : ℕ) → execute n l (Find a z f k) .list ≡ l
+unfolding execute
+find-list n l a z f k =
+    byT (ltb anyMark f) (λ t. rw t)
+    (λ t. byT (ltb z a) (λ u. rw (t, u)) (λ u. byT (eqb k 0) (λ w. rw (t, u, w)) (λ w. rw (t, u, w))))
+
+-- EVERY COMMAND
+-- what holds of a list after a change of it
+pub record Keeps (n : ℕ) (l l′ : List Entry) : Type 0 where
+  pub valid : Valid l′
+  pub enough : needed l l′ ≤ n - length (nodes l)
+
+-- a change that needs no node
+no-node : (n : ℕ) (l l′ : List Entry) → Valid l′ → newNodes l l′ ≡ [] → Keeps n l l′
+no-node n l l′ v e =
+    let z : needed l l′ ≡ 0 = ap length e in record { valid = v; enough = omega arith }
+
+pub stays : (n : ℕ) {l : List Entry} → Valid l → Keeps n l l
+stays n {l} v = no-node n l l v (none-new l)
+
+pub erase-new : {l : List Entry} (i : ℕ) → Valid l → newNodes l (erase l i) ≡ []
+erase-new {l} i v = go (covering l i) refl
+  where
+    go : (o : Option Entry) → covering l i ≡ o → newNodes l (erase l i) ≡ []
+    go none q = rw (erase-none i q) (none-new l)
+    go (some e) q = rw (erase-clear i v q) (clear-new i (e .order) l)
+
+pub remark-new : (l : List Entry) (i m : ℕ) (b : Bool) → newNodes l (remark l i m b) ≡ []
+remark-new l i m b = new-nodes-map (withMark i m b) (λ x. refl) (λ x. refl) l
+
+marked : (n : ℕ) {l : List Entry} (i m : ℕ) (b : Bool) → m < markCount → Valid l → Keeps n l (remark l i m b)
+marked n {l} i m b h v = no-node n l (remark l i m b) (sorted-remark i m b h v) (remark-new l i m b)
+
+is-true : (b : Bool) → not b ≡ false → T b
+is-true true e = tt
+is-true false e = subst T e tt
+
+module _ (n : ℕ) (l : List Entry) (v : Valid l) where
+  stored : (i k w : ℕ) → i < 2 ^ 64 → w < 2 ^ 64 → Keeps n l (execute n l (Store i k w) .list)
+  unfolding execute
+  stored i k w i< w< =
+      byT (ltb maxOrder k) (λ t. rw t (stays n v))
+      (λ t. byT (not (storable w)) (λ s. rw (t, s) (stays n v))
+      (λ s. byT (short n l (store l i k w)) (λ d. rw (t, s, d) (stays n v))
+      (λ d. rw (t, s, d)
+      (record { valid = store-valid i k w v i< (ltb-false _ _ t) (is-true (storable w) s) w<; enough = ltb-false _ _ d }))))
+
+  -- every command
+  pub execute-keeps : (c : Command) → Fits c → Keeps n l (execute n l c .list)
+  unfolding execute
+  execute-keeps (Store i k w) f = stored i k w (f .0) (f .1)
+  execute-keeps (Load i) f = stays n v
+  execute-keeps (Erase i) f = no-node n l (erase l i) (erase-valid i v) (erase-new i v)
+  execute-keeps (Mark i m) f =
+      byT (leb markCount m) (λ t. rw t (stays n v)) (λ t. rw t (marked n i m true (leb-false _ _ t) v))
+  execute-keeps (Unmark i m) f =
+      byT (leb markCount m) (λ t. rw t (stays n v)) (λ t. rw t (marked n i m false (leb-false _ _ t) v))
+  execute-keeps (Find a z f k) _ = rw (find-list n l a z f k) (stays n v)
+
+-- STATES
+pub record Kept (n : ℕ) (s : State) : Type 0 where
+  pub valid : Valid (s .list)
+  pub placed : Placed n (s .list) (s .places)
+
+pub next-kept : {n : ℕ} {s : State} (c : Command) → Fits c → Kept n s → Kept n (next n s c)
+next-kept {n} {s} c f k =
+    let h : Keeps n (s .list) (execute n (s .list) c .list) = execute-keeps n (s .list) (k .valid) c f in
+    record {
+      valid = h .valid;
+      placed =
+          placed-new n (s .list) (s .places) (k .placed) (execute n (s .list) c .list)
+          (omega (arith, h .enough, blank-places n (s .list) (s .places) (k .placed)));
+    }
+
+pub states-kept : {n : ℕ} {s : State} {cs : List Command} → All Fits cs → Kept n s → Kept n (states n s cs)
+states-kept end k = k
+states-kept (also {x = c} f a) k = states-kept a (next-kept c f k)
+
+-- SHORTAGE IS EXACT: a store that nothing else refuses answers 11 exactly if it needs more nodes than are free
+module _ (n : ℕ) (l : List Entry) (i k w : ℕ) (k≤ : k ≤ maxOrder) (st : storable w ≡ true) where
+  pub short-11 : n - length (nodes l) < needed l (store l i k w) →
+      execute n l (Store i k w) ≡ refuse l (replyTag (Store i k w)) tooFewNodes
+  unfolding execute
+  short-11 h = rw (le-ltb maxOrder k k≤, st, lt-ltb (n - length (nodes l)) (needed l (store l i k w)) h)
+
+  pub enough-0 : needed l (store l i k w) ≤ n - length (nodes l) →
+      execute n l (Store i k w)
+      ≡ record { reply = replyOf (replyTag (Store i k w)) 0 (covering (store l i k w) i); list = store l i k w }
+  unfolding execute
+  enough-0 h = rw (le-ltb maxOrder k k≤, st, le-ltb (n - length (nodes l)) (needed l (store l i k w)) h)

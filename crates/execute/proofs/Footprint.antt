@@ -1,0 +1,188 @@
+-- The footprint of every command: a word outside its part has the same value after it as before.
+use Prim.Native.Nat.{ℕ, suc, _-_, _^_, _≤_, _<_}
+use mathlib.Core.Path.{_≡_, refl, sym, ap, subst, _∙_}
+use mathlib.Core.Bool.{Bool, true, false, not}
+use mathlib.Core.Logic.{_⊎_, inl, inr}
+use mathlib.Core.List.{List, [], _∷_, map}
+use mathlib.Core.Option.{Option, none, some}
+use native.Mathlib.Omega.{arith}
+use lib.Dec.{leb, ltb, eqb}
+use lib.ListN.{length}
+use borrow.Author.Tests.{leb-true, leb-false, ltb-false, le-leb, lt-leb, eqb-true, eq-eqb}
+use Rattle.blocks.specs.Choice.{pick, both}
+use Rattle.blocks.specs.Lists.{any, All, end, also}
+use Rattle.blocks.specs.Blocks.{block}
+use Rattle.blocks.proofs.BoolLaws.{byT, clash}
+use Rattle.blocks.proofs.ListLaws.{first-yes, first-no, each}
+use Rattle.model.specs.declared.Entry.{Entry}
+use Rattle.model.specs.Model.{
+  Valid,
+  storable,
+  maxOrder,
+  markCount,
+  covers,
+  covering,
+  over,
+  withWord,
+  withMark,
+  store,
+  storeNew,
+  newEntry,
+  erase,
+  remark,
+  clear,
+}
+use Rattle.model.proofs.ValidLaws.{room, room-some, erase-clear, erase-none}
+use Rattle.tree.proofs.ReadLaws.{over-some, over-none}
+use Rattle.tree.proofs.RelabelLaws.{mapO, covering-map}
+use Rattle.tree.proofs.StoreLaws.{store-covering}
+use Rattle.layout.specs.Places.{Places, newPlaces, wordAt}
+use Rattle.layout.proofs.StayLaws.{same-places}
+use Rattle.batch.specs.declared.Command.{Command}
+use Rattle.batch.specs.declared.Command.the-variants.{Store, Load, Erase, Mark, Unmark, Find}
+use Rattle.execute.specs.Execute.{execute, replyOf, short}
+use Rattle.execute.specs.State.{State, next}
+use Rattle.execute.specs.Part.{Range, rangeOf, addressed, changing, inPart, mayWrite}
+use Rattle.execute.proofs.ExecuteLaws.{Kept, load-list, find-list}
+use Rattle.execute.proofs.LocalLaws.{Agree, agree-store, agree-clear, agree-map, agree-move}
+use Rattle.execute.proofs.PartLaws.{word-same}
+
+-- a command leaves the list, or is done and changes it within the range that it addresses
+abbrev Within : ℕ → List Entry → Command → Type 0
+Within n l c =
+    (execute n l c .list ≡ l)
+    ⊎ ((changing c ≡ true) × (execute n l c .reply .answer ≡ 0)
+    × Agree (addressed l c .index) (addressed l c .order) l (execute n l c .list))
+
+answer-0 : (t : ℕ) (o : Option Entry) {e : Entry} → o ≡ some e → replyOf t 0 o .answer ≡ 0
+answer-0 t o q = rw q
+
+module _ (n : ℕ) (l : List Entry) (v : Valid l) where
+  -- MARKS
+  module _ (i m : ℕ) (b : Bool) where
+    map-none : {s : List Entry} → All (λ x. covers i x ≡ false) s → map (withMark i m b) s ≡ s
+    map-none end = refl
+    map-none (also {x} {l = s} h a) = rw h (ap (λ (t : List Entry). x ∷ t) (map-none a))
+
+    kept : (x : Entry) → covers i x ≡ false → withMark i m b x ≡ x
+    kept x t = rw t
+
+    covering-marked : {e : Entry} → covering l i ≡ some e → covering (remark l i m b) i ≡ some (withMark i m b e)
+    covering-marked q = covering-map (withMark i m b) (λ x. refl) (λ x. refl) i l ∙ ap (mapO (withMark i m b)) q
+
+    agree-mark : {e : Entry} → covering l i ≡ some e → Agree (e .base) (e .order) l (remark l i m b)
+    agree-mark q = agree-map (withMark i m b) (λ x. refl) (λ x. refl) i kept v q
+
+  mark-within : (i m : ℕ) → Within n l (Mark i m)
+  unfolding execute
+  mark-within i m = byT (leb markCount m) (λ t. inl (rw t)) (λ t. go t (covering l i) refl)
+    where
+      go : leb markCount m ≡ false → (o : Option Entry) → covering l i ≡ o → Within n l (Mark i m)
+      go t none q = inl (rw t (map-none i m true (first-no (covers i) l q)))
+      go t (some e) q =
+          inr (
+            refl,
+            rw t (answer-0 132 _ (covering-marked i m true q)),
+            rw (t, q, le-leb 0 (e .order) (omega arith))
+                (agree-mark i m true q),
+          )
+
+  unmark-within : (i m : ℕ) → Within n l (Unmark i m)
+  unfolding execute
+  unmark-within i m = byT (leb markCount m) (λ t. inl (rw t)) (λ t. go t (covering l i) refl)
+    where
+      go : leb markCount m ≡ false → (o : Option Entry) → covering l i ≡ o → Within n l (Unmark i m)
+      go t none q = inl (rw t (map-none i m false (first-no (covers i) l q)))
+      go t (some e) q =
+          inr (
+            refl,
+            rw t (answer-0 133 _ (covering-marked i m false q)),
+            rw (t, q, le-leb 0 (e .order) (omega arith))
+                (agree-mark i m false q),
+          )
+
+  -- ERASE
+  erase-within : (i : ℕ) → Within n l (Erase i)
+  unfolding execute
+  erase-within i = go (covering l i) refl
+    where
+      go : (o : Option Entry) → covering l i ≡ o → Within n l (Erase i)
+      go none q = inl (erase-none i q)
+      go (some e) q =
+          inr (
+            refl,
+            answer-0 131 (covering l i) q,
+            rw (q, le-leb 0 (e .order) (omega arith), erase-clear i v q)
+                (agree-move i (e .base) (e .order) (eqb-true _ _ (first-yes (covers i) (each l (λ x m. m)) q .0))
+                (agree-clear i (e .order) l (room-some i v q))),
+          )
+
+  -- STORE
+  module _ (i k w : ℕ) where
+    replaced : {e : Entry} → covering l i ≡ some e → any (over i k) l ≡ true →
+        (replyOf 129 0 (covering (store l i k w) i) .answer ≡ 0)
+        × Agree (rangeOf (record { index = i; order = k }) (covering l i) .index)
+        (rangeOf (record { index = i; order = k }) (covering l i) .order) l (store l i k w)
+    replaced {e} q t =
+        let h : leb k (e .order) ≡ true = sym (over-some l i k e v q) ∙ t in
+        rw (t, q, h) (
+          answer-0 129 _
+              (covering-map (withWord i w) (λ x. refl) (λ x. refl) i l ∙ ap (mapO (withWord i w)) q),
+          agree-map (withWord i w) (λ x. refl) (λ x. refl) i (λ x z. rw z) v q,
+        )
+
+    fresh : (o : Option Entry) → covering l i ≡ o → any (over i k) l ≡ false →
+        (replyOf 129 0 (covering (store l i k w) i) .answer ≡ 0)
+        × Agree (rangeOf (record { index = i; order = k }) o .index) (rangeOf (record { index = i; order = k }) o .order) l
+        (store l i k w)
+    fresh o q t =
+        let r = room l i k t in
+        rw (t, range o q)
+        (answer-0 129 _ (store-covering i k w l r i refl), agree-store i k w l r)
+      where
+        range : (o : Option Entry) → covering l i ≡ o →
+            rangeOf (record { index = i; order = k }) o ≡ record { index = i; order = k }
+        range none q = refl
+        range (some e) q = rw (sym (over-some l i k e v q) ∙ t)
+
+    done : (replyOf 129 0 (covering (store l i k w) i) .answer ≡ 0)
+        × Agree (rangeOf (record { index = i; order = k }) (covering l i) .index)
+        (rangeOf (record { index = i; order = k }) (covering l i) .order) l (store l i k w)
+    done = byT (any (over i k) l) (λ t. found (covering l i) refl t) (λ t. fresh (covering l i) refl t)
+      where
+        found : (o : Option Entry) → covering l i ≡ o → any (over i k) l ≡ true →
+            (replyOf 129 0 (covering (store l i k w) i) .answer ≡ 0)
+            × Agree (rangeOf (record { index = i; order = k }) (covering l i) .index)
+            (rangeOf (record { index = i; order = k }) (covering l i) .order) l (store l i k w)
+        found none q t = absurd (clash t (over-none l i k q))
+        found (some e) q t = replaced q t
+
+    store-within : Within n l (Store i k w)
+    unfolding execute
+    store-within =
+        byT (ltb maxOrder k) (λ t. inl (rw t))
+        (λ t. byT (not (storable w)) (λ s. inl (rw (t, s)))
+        (λ s. byT (short n l (store l i k w)) (λ d. inl (rw (t, s, d)))
+        (λ d. inr (refl, rw (t, s, d) (done .0), rw (t, s, d) (done .1)))))
+
+  within : (c : Command) → Within n l c
+  within (Store i k w) = store-within i k w
+  within (Load i) = inl (load-list n l i)
+  within (Erase i) = erase-within i
+  within (Mark i m) = mark-within i m
+  within (Unmark i m) = unmark-within i m
+  within (Find a z f k) = inl (find-list n l a z f k)
+
+-- "A word outside a command's part has the same value after it as before."
+pub footprint : (n : ℕ) (s : State) → Kept n s → (c : Command) (w : ℕ) → mayWrite n s c w ≡ false →
+    wordAt (next n s c .list) (next n s c .places) n w ≡ wordAt (s .list) (s .places) n w
+footprint n s k c w z = go (within n (s .list) (k .valid) c)
+  where
+    go : Within n (s .list) c →
+        wordAt (next n s c .list) (next n s c .places) n w ≡ wordAt (s .list) (s .places) n w
+    go (inl e) =
+        ap (λ (l : List Entry). wordAt l (newPlaces (s .list) l (s .places)) n w) e
+        ∙ ap (λ (os : Places). wordAt (s .list) os n w) (same-places (s .list) (k .placed))
+    go (inr (t, a, ag)) =
+        word-same n s k (addressed (s .list) c) (execute n (s .list) c .list) ag w
+        (rw (t, eq-eqb (execute n (s .list) c .reply .answer) 0 a) at z)

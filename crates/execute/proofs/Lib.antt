@@ -1,0 +1,5 @@
+pub mod ExecuteLaws
+pub mod ReplyLaws
+pub mod LocalLaws
+pub mod PartLaws
+pub mod Footprint

@@ -1,0 +1,134 @@
+-- Document 01, "The part a command may write": "A word outside a command's part has the same value after it as before."
+use Prim.Native.Nat.{ℕ, zero, suc, _+_, _*_, _-_, _/_, _%_, _^_, _≤_, _<_}
+use mathlib.Core.Path.{_≡_, refl, sym, ap, subst, _∙_}
+use mathlib.Core.Bool.{Bool, true, false, not}
+use mathlib.Core.Logic.{_≢_}
+use mathlib.Core.List.{List, [], _∷_, map}
+use mathlib.Core.Option.{Option, none, some}
+use native.Mathlib.Omega.{arith}
+use lib.Dec.{leb, ltb, eqb}
+use lib.ListN.{getD}
+use borrow.Author.Tests.{leb-true, leb-false, ltb-false, le-leb, lt-leb, eqb-true, eqb-false, eq-eqb, ne-eqb}
+use Rattle.blocks.specs.Choice.{pick, both, either}
+use Rattle.blocks.specs.Lists.{any, In}
+use Rattle.blocks.specs.Blocks.{block}
+use Rattle.blocks.proofs.BoolLaws.{byT, clash, is-false, both-l, both-r}
+use Rattle.blocks.proofs.ListLaws.{first-yes, each}
+use Rattle.blocks.proofs.BlockLaws.{block-up, block-at}
+use Rattle.model.specs.declared.Entry.{Entry}
+use Rattle.model.specs.Model.{
+  Valid,
+  storable,
+  maxOrder,
+  markCount,
+  covers,
+  covering,
+  over,
+  withWord,
+  withMark,
+  store,
+  storeNew,
+  erase,
+  remark,
+  clear,
+}
+use Rattle.model.proofs.RangeLaws.{Apart, InRun}
+use Rattle.model.proofs.ValidLaws.{room, room-some, erase-clear}
+use Rattle.tree.specs.Tree.{tierOrder, height, has, Node}
+use Rattle.tree.proofs.ReadLaws.{over-some, over-none}
+use Rattle.layout.specs.Words.{anchorWords, nodeWords, fieldAt, field}
+use Rattle.layout.specs.Places.{Places, Placed, numberIn, newPlaces, allocate, keepIf, prune, wordAt}
+use Rattle.layout.proofs.NumberLaws.{prune-get, fill-stays, keep-some, in-standing}
+use Rattle.lookup.proofs.WordLaws.{has-tier}
+use Rattle.execute.specs.State.{State}
+use Rattle.execute.specs.Part.{Range, rangeOf, meetsRange, isHead, nodePart, inPart}
+use Rattle.execute.proofs.ExecuteLaws.{Kept}
+use Rattle.execute.proofs.LocalLaws.{Agree, agree-store, agree-clear, agree-map, agree-move, field-agree}
+
+-- A BLOCK THAT DOES NOT MEET THE RANGE lies apart from it
+pub apart-range : (r : Range) (p : Node) → meetsRange r p ≡ false →
+    Apart (r .index) (r .order) (tierOrder (p .tier)) (p .number)
+apart-range r p t y e q =
+    byT (leb (tierOrder (p .tier)) (r .order)) (λ s. wide (leb-true _ _ s) (rw s at t))
+    (λ s. narrow (leb-false _ _ s) (rw s at t))
+  where
+    wide : tierOrder (p .tier) ≤ r .order →
+        eqb (block (r .order) (p .number * 2 ^ tierOrder (p .tier))) (block (r .order) (r .index)) ≡ false → ⊥
+    wide h f =
+        eqb-false _ _ f
+        (block-up {j = tierOrder (p .tier)} {k = r .order} (p .number * 2 ^ tierOrder (p .tier)) y h
+        (block-at (tierOrder (p .tier)) (p .number) ∙ sym e)
+        ∙ q)
+
+    narrow : r .order < tierOrder (p .tier) →
+        eqb (block (tierOrder (p .tier)) (r .index)) (p .number) ≡ false → ⊥
+    narrow h f =
+        eqb-false _ _ f
+        (sym (block-up {j = r .order} {k = tierOrder (p .tier)} y (r .index) (omega arith) q) ∙ e)
+
+either-no-l : (a b : Bool) → either a b ≡ false → a ≡ false
+either-no-l true b t = t
+either-no-l false b t = refl
+
+either-no-r : (a b : Bool) → either a b ≡ false → b ≡ false
+either-no-r true b t = absurd (clash refl t)
+either-no-r false b t = t
+
+-- A WORD OUTSIDE THE PART, where the list changes only within the range
+module _ (n : ℕ) (s : State) (kp : Kept n s) (r : Range) (l′ : List Entry)
+    (ag : Agree (r .index) (r .order) (s .list) l′) where
+  -- what stands at a number after the command stood there, or the number was free
+  stood : (m : ℕ) {p q : Node} → getD (s .places) m none ≡ some p →
+      getD (newPlaces (s .list) l′ (s .places)) m none ≡ some q → (p ≡ q) × (has l′ (q .tier) (q .number) ≡ true)
+  stood m {p} {q} e g =
+      let a : Places = allocate (s .places) _ in
+      let k : keepIf l′ (getD a m none) ≡ some q = sym (prune-get l′ a m) ∙ g in
+      let (b, t) = keep-some l′ (getD a m none) q k in
+      let c : getD a m none ≡ some p = fill-stays (s .places) _ m p e in
+      (cc, t)
+
+  same-node : (p : Node) (f : ℕ) → f < nodeWords → has (s .list) (p .tier) (p .number) ≡ true →
+      has l′ (p .tier) (p .number) ≡ true → p .tier ≢ height (s .list) → p .tier ≢ height l′ → meetsRange r p ≡ false →
+      field l′ (numberIn (newPlaces (s .list) l′ (s .places))) (p .tier) (p .number) f
+      ≡ field (s .list) (numberIn (s .places)) (p .tier) (p .number) f
+  same-node p f lt t t′ h h′ z = go (p .tier) refl
+    where
+      go : (u : ℕ) → p .tier ≡ u →
+          field l′ (numberIn (newPlaces (s .list) l′ (s .places))) (p .tier) (p .number) f
+          ≡ field (s .list) (numberIn (s .places)) (p .tier) (p .number) f
+      go zero e = absurd (omega (arith, has-tier (s .list) (p .tier) (p .number) t .0))
+      go (suc v) e =
+          let F : ℕ → Type 0 = λ u.
+          field l′ (numberIn (newPlaces (s .list) l′ (s .places))) u (p .number) f
+          ≡ field (s .list) (numberIn (s .places)) u (p .number) f in
+          subst F (sym e)
+          (field-agree (r .index) (r .order) ag n (kp .placed) v (p .number)
+          (subst (λ (u : ℕ). has (s .list) u (p .number) ≡ true) e t)
+          (subst (λ (u : ℕ). has l′ u (p .number) ≡ true) e t′) (λ x. h (e ∙ x)) (λ x. h′ (e ∙ x))
+          (subst (λ (u : ℕ). Apart (r .index) (r .order) (tierOrder u) (p .number)) e (apart-range r p z)) f lt)
+
+  node-same : (m f : ℕ) → f < nodeWords → (o o′ : Option Node) → getD (s .places) m none ≡ o →
+      getD (newPlaces (s .list) l′ (s .places)) m none ≡ o′ → nodePart (s .list) l′ r o o′ ≡ false →
+      fieldAt l′ (numberIn (newPlaces (s .list) l′ (s .places))) o′ f ≡ fieldAt (s .list) (numberIn (s .places)) o f
+  node-same m f lt none none e e′ z = refl
+  node-same m f lt none (some q) e e′ z = absurd (clash refl z)
+  node-same m f lt (some p) none e e′ z = absurd (clash refl z)
+  node-same m f lt (some p) (some q) e e′ z =
+      let (d, t′) = stood m e e′ in
+      let t : has (s .list) (p .tier) (p .number) ≡ true = kp .placed .sound p (in-standing p (s .places) m e) in
+      let z₁ : isHead (s .list) p ≡ false = either-no-l (isHead (s .list) p) _ z in
+      let z₂ : either (isHead l′ q) (meetsRange r p) ≡ false = either-no-r (isHead (s .list) p) _ z in
+      let z₃ : isHead l′ q ≡ false = either-no-l (isHead l′ q) (meetsRange r p) z₂ in
+      let z₄ : meetsRange r p ≡ false = either-no-r (isHead l′ q) (meetsRange r p) z₂ in
+      subst (λ (x : Node). fieldAt l′ (numberIn (newPlaces (s .list) l′ (s .places))) (some x) f
+      ≡ fieldAt (s .list) (numberIn (s .places)) (some p) f) d
+      (same-node p f lt t (subst (λ (x : Node). has l′ (x .tier) (x .number) ≡ true) (sym d) t′) (eqb-false _ _ z₁)
+      (eqb-false _ _ (subst (λ (x : Node). isHead l′ x ≡ false) (sym d) z₃)) z₄)
+
+  pub word-same : (w : ℕ) →
+      inPart s (record { list = l′; places = newPlaces (s .list) l′ (s .places) }) r w ≡ false →
+      wordAt l′ (newPlaces (s .list) l′ (s .places)) n w ≡ wordAt (s .list) (s .places) n w
+  word-same w z =
+      byT (ltb w anchorWords) (λ t. absurd (clash refl (rw t at z)))
+      (λ t. rw t (node-same ((w - anchorWords) / nodeWords) ((w - anchorWords) % nodeWords) (omega arith) _ _ refl refl
+      (rw t at z)))

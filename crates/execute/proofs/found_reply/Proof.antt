@@ -1,0 +1,50 @@
+use mathlib.Core.Path.{sym, ap, _∙_}
+use Rattle.execute.specs.Execute.{finding}
+use borrow.Author.Needs.{needs}
+use Rattle.execute.proofs.found_reply.Statement.{statement}
+use Rattle.execute.proofs.found_reply.Tie as tie
+use Rattle.execute.proofs.found_reply.Reads as reads
+use Rattle.execute.proofs.found_reply.Lts as lts
+use Rattle.execute.proofs.answered.Reads as answered-reads
+use Rattle.execute.proofs.answered_by.Reads as answered-by-reads
+
+enum-known-x : tie.Need-enum-known-x
+enum-known-x c = search needs
+
+answered-by-requires : tie.Need-answered-by-requires
+answered-by-requires c κs = search needs
+
+enum-known-x-2 : tie.Need-enum-known-x-2
+enum-known-x-2 c = search needs
+
+answered-requires : tie.Need-answered-requires
+answered-requires c κs = search needs
+
+enum-known-x-3 : tie.Need-enum-known-x-3
+enum-known-x-3 c = search needs
+
+answered-requires-2 : tie.Need-answered-requires-2
+answered-requires-2 c κs = search needs
+
+returns : tie.Need-returns
+returns c = c .answered-by .ensures ∙ sym (ap (finding 134) (c .before .before .x .given .1))
+
+returns-2 : tie.Need-returns-2
+returns-2 c = c .answered .ensures ∙ sym (ap (finding 134) (c .before .before .x2 .given .1))
+
+returns-3 : tie.Need-returns-3
+returns-3 c = c .answered2 .ensures ∙ sym (ap (finding 134) (c .before .before .x3 .given .1))
+
+pub found-reply-spec : {M : Type 1} → statement M
+found-reply-spec =
+    tie.close
+    (tie.spec
+    enum-known-x
+    answered-by-requires
+    enum-known-x-2
+    answered-requires
+    enum-known-x-3
+    answered-requires-2
+    returns
+    returns-2
+    returns-3)

@@ -1,0 +1,15 @@
+use mathlib.Core.Path.{_≡_}
+use borrow.Author.Tests.{eq-eqb, ne-eqb}
+use Rattle.execute.proofs.is_storable.Statement.{statement}
+use Rattle.execute.proofs.is_storable.Tie as tie
+use Rattle.execute.proofs.is_storable.Reads as reads
+use Rattle.execute.proofs.is_storable.Lts as lts
+
+returns : tie.Need-returns
+returns c = rw (c .if1 .taken)
+
+returns-2 : tie.Need-returns-2
+returns-2 c = rw (ne-eqb _ 0 (c .if1 .left))
+
+pub is-storable-spec : {M : Type 1} → statement M
+is-storable-spec = tie.close (tie.spec returns returns-2)

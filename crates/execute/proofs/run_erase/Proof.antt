@@ -1,0 +1,28 @@
+use mathlib.Core.Path.{ap, _∙_}
+use Rattle.execute.specs.Contracts.{coveredReply}
+use Rattle.execute.proofs.ReplyLaws.{erases}
+use borrow.Author.Needs.{needs}
+use Rattle.execute.proofs.run_erase.Statement.{statement}
+use Rattle.execute.proofs.run_erase.Tie as tie
+use Rattle.execute.proofs.run_erase.Reads as reads
+use Rattle.execute.proofs.run_erase.Lts as lts
+use Rattle.erase.proofs.erase.Reads as erase-reads
+use Rattle.execute.proofs.covered_reply.Reads as covered-reply-reads
+
+erase-requires : tie.Need-erase-requires
+erase-requires c κs = search needs
+
+covered-reply-requires : tie.Need-covered-reply-requires
+covered-reply-requires c κs = search needs
+
+same-length : tie.Need-same-length
+same-length c = search needs
+
+returns : tie.Need-returns
+returns c = (
+  (λ s. erases s _ (c .covered-reply .ensures ∙ ap (coveredReply 131) (c .before .before .before .erase .ensures .0 s)) (c .before .before .before .erase .ensures .1 .0 s)),
+  c .before .before .before .erase .ensures .1 .1,
+)
+
+pub run-erase-spec : {M : Type 1} → statement M
+run-erase-spec = tie.close (tie.spec erase-requires covered-reply-requires same-length returns)

@@ -1,0 +1,24 @@
+use mathlib.Core.Path.{sym, ap, _∙_}
+use Rattle.execute.specs.Execute.{Executed}
+use Rattle.execute.specs.Contracts.{loadedReply}
+use Rattle.execute.proofs.ReplyLaws.{load-runs}
+use borrow.Author.Needs.{needs}
+use Rattle.execute.proofs.run_load.Statement.{statement}
+use Rattle.execute.proofs.run_load.Tie as tie
+use Rattle.execute.proofs.run_load.Reads as reads
+use Rattle.execute.proofs.run_load.Lts as lts
+use Rattle.execute.proofs.loaded_reply.Reads as loaded-reply-reads
+use Rattle.lookup.proofs.load.Reads as load-reads
+
+load-requires : tie.Need-load-requires
+load-requires c κs = search needs
+
+loaded-reply-requires : tie.Need-loaded-reply-requires
+loaded-reply-requires c κs = search needs
+
+returns : tie.Need-returns
+returns c = λ s. c .loaded-reply .ensures ∙ ap (loadedReply 130) (c .before .load .ensures s)
+    ∙ sym (ap (λ (x : Executed). x .reply) (load-runs (s .n) (s .list) _))
+
+pub run-load-spec : {M : Type 1} → statement M
+run-load-spec = tie.close (tie.spec load-requires loaded-reply-requires returns)

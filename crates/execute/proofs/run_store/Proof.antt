@@ -1,0 +1,70 @@
+use mathlib.Core.Path.{_≡_, sym, subst, _∙_}
+use mathlib.Core.Bool.{true, false, not}
+use lib.Dec.{T}
+use Rattle.batch.specs.declared.Command.the-variants.{Store}
+use Rattle.execute.proofs.ReplyLaws.{leaves, store-order, store-word, stores, failed, passed}
+use borrow.Author.Needs.{needs}
+use Rattle.execute.proofs.run_store.Statement.{statement}
+use Rattle.execute.proofs.run_store.Tie as tie
+use Rattle.execute.proofs.run_store.Reads as reads
+use Rattle.execute.proofs.run_store.Lts as lts
+use Rattle.execute.proofs.answered.Reads as answered-reads
+use Rattle.execute.proofs.is_storable.Reads as is-storable-reads
+use Rattle.execute.proofs.stored_reply.Reads as stored-reply-reads
+use Rattle.store.proofs.store.Reads as store-reads
+
+answered-requires : tie.Need-answered-requires
+answered-requires c κs = search needs
+
+returns : tie.Need-returns
+returns c = ((λ s. leaves s (Store _ _ _) (store-order (s .n) (s .list) _ _ _ (c .before .if1 .taken)) (c .answered .ensures)), c .before .before .before .pre .1)
+
+is-storable-requires : tie.Need-is-storable-requires
+is-storable-requires c κs = search needs
+
+answered-requires-2 : tie.Need-answered-requires-2
+answered-requires-2 c κs = search needs
+
+returns-2 : tie.Need-returns-2
+returns-2 c = (
+  (λ s. leaves s (Store _ _ _)
+      (store-word (s .n) (s .list) _ _ _ (c .before .before .before .if1 .left) (failed _ (c .before .before .is-storable .ensures) (c .before .if2 .taken)))
+      (c .answered2 .ensures)),
+  c .before .before .before .before .before .pre .1,
+)
+
+store-requires : tie.Need-store-requires
+store-requires c κs = (
+  c .before .before .before .before .before .pre .0,
+  (
+    c .before .before .before .if1 .left,
+    (subst T (sym (passed _ (c .before .before .is-storable .ensures) (c .before .if2 .left))) tt, c .before .before .before .before .before .pre .1),
+  ),
+)
+
+stored-reply-requires : tie.Need-stored-reply-requires
+stored-reply-requires c κs = search needs
+
+same-length : tie.Need-same-length
+same-length c = search needs
+
+returns-3 : tie.Need-returns-3
+returns-3 c = (
+  (λ s. stores s _ _ _ (c .before .before .before .before .before .before .before .if1 .left) (passed _ (c .before .before .before .before .before .before .is-storable .ensures) (c .before .before .before .before .before .if2 .left))
+      (c .before .before .before .store .ensures .0 s) (c .stored-reply .ensures)),
+  c .before .before .before .store .ensures .1,
+)
+
+pub run-store-spec : {M : Type 1} → statement M
+run-store-spec =
+    tie.close
+    (tie.spec
+    answered-requires
+    returns
+    is-storable-requires
+    answered-requires-2
+    returns-2
+    store-requires
+    stored-reply-requires
+    same-length
+    returns-3)

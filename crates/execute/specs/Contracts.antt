@@ -1,0 +1,50 @@
+-- What the functions of this crate promise.
+use Prim.Native.Nat.{ℕ}
+use mathlib.Core.Path.{_≡_}
+use mathlib.Core.List.{List}
+use Rattle.model.specs.declared.Entry.{Entry}
+use Rattle.model.specs.declared.Covered.{Covered}
+use Rattle.model.specs.declared.Covered.the-variants.{Nothing, By}
+use Rattle.layout.specs.Places.{newPlaces, render}
+use Rattle.layout.specs.WellFormed.{WellFormed}
+use Rattle.lookup.specs.declared.Loaded.{Loaded}
+use Rattle.lookup.specs.declared.Loaded.the-variants.{Absent, Present}
+use Rattle.batch.specs.declared.Command.{Command}
+use Rattle.batch.specs.declared.Reply.{Reply}
+use Rattle.batch.specs.Reply.{answered, answeredBy}
+use Rattle.store.specs.declared.Stored.{Stored}
+use Rattle.store.specs.declared.Stored.the-variants.{Done, Short}
+use Rattle.execute.specs.Execute.{Executed, absent, tooFewNodes, execute}
+use Rattle.execute.specs.State.{State, next}
+
+-- the reply by what covers the index
+abbrev pub coveredReply : ℕ → Covered → Reply
+coveredReply t Nothing = answered t absent 0 0
+coveredReply t (By e) = answeredBy t e 0
+
+-- the reply by what a load finds
+abbrev pub loadedReply : ℕ → Loaded → Reply
+loadedReply t (Absent d) = answered t absent 0 d
+loadedReply t (Present e d) = answeredBy t e d
+
+-- the reply by what a store comes to
+abbrev pub storedReply : ℕ → Stored → Reply
+storedReply t (Done e) = answeredBy t e 0
+storedReply t Short = answered t tooFewNodes 0 0
+
+-- a well-formed pool as a state
+abbrev pub stateOf : {ws : List ℕ} → WellFormed ws → State
+stateOf s = record { list = s .list; places = s .places }
+
+-- the reply of a command on a well-formed pool
+abbrev pub replyTo : {ws : List ℕ} → WellFormed ws → Command → Reply
+replyTo s c = execute (s .n) (s .list) c .reply
+
+-- the words that it leaves
+abbrev pub wordsTo : {ws : List ℕ} → WellFormed ws → Command → List ℕ
+wordsTo s c = let t = next (s .n) (stateOf s) c in render (t .list) (t .places) (s .n)
+
+-- the reply and the words after a command
+pub record Executes {ws : List ℕ} (s : WellFormed ws) (c : Command) (r : Reply) (ws′ : List ℕ) : Type 0 where
+  pub reply-is : r ≡ replyTo s c
+  pub words-are : ws′ ≡ wordsTo s c

@@ -1,0 +1,107 @@
+-- One command on the model: its reply and the list that it leaves (document 01, "When the kit says no", "The plain list
+-- of demand 3"). It reads no word of the pool.
+use Prim.Native.Nat.{ℕ, _-_}
+use mathlib.Core.Bool.{Bool, true, false, not}
+use mathlib.Core.List.{List}
+use mathlib.Core.Option.{Option, none, some}
+use lib.Dec.{leb, ltb, eqb}
+use lib.ListN.{length}
+use Rattle.blocks.specs.Choice.{pick}
+use Rattle.model.specs.declared.Entry.{Entry}
+use Rattle.model.specs.Model.{storable, maxOrder, markCount, covering, store, erase, remark}
+use Rattle.tree.specs.Tree.{nodes, needed}
+use Rattle.lookup.specs.declared.Outcome.{Outcome}
+use Rattle.lookup.specs.declared.Outcome.the-variants.{Found, Ended, Paused}
+use Rattle.lookup.specs.Load.{depth}
+use Rattle.lookup.specs.Find.{anyMark, find}
+use Rattle.batch.specs.declared.Command.{Command}
+use Rattle.batch.specs.declared.Command.the-variants.{Store, Load, Erase, Mark, Unmark, Find}
+use Rattle.batch.specs.declared.Reply.{Reply}
+use Rattle.batch.specs.Reply.{replyTag, answered, answeredBy}
+
+-- THE ANSWERS that stand in a reply
+abbrev pub orderAbove : ℕ
+orderAbove = 5
+
+abbrev pub notStorable : ℕ
+notStorable = 6
+
+abbrev pub markAbove : ℕ
+markAbove = 7
+
+abbrev pub firstAbove : ℕ
+firstAbove = 8
+
+abbrev pub noBudget : ℕ
+noBudget = 9
+
+abbrev pub absent : ℕ
+absent = 10
+
+abbrev pub tooFewNodes : ℕ
+tooFewNodes = 11
+
+abbrev pub findEnded : ℕ
+findEnded = 12
+
+abbrev pub findPaused : ℕ
+findPaused = 13
+
+-- what a command comes to
+pub record Executed : Type 0 where
+  pub reply : Reply
+  pub list : List Entry
+
+-- "Load, find and every command that the table answers with a number other than 0 leave it."
+abbrev pub leave : List Entry → Reply → Executed
+leave l r = record { reply = r; list = l }
+
+abbrev pub refuse : List Entry → (tag answer : ℕ) → Executed
+refuse l t a = leave l (answered t a 0 0)
+
+-- "give the entry as it then stands, with its base": what covers i in a list
+abbrev pub replyOf : (tag count : ℕ) → Option Entry → Reply
+replyOf t n none = answered t absent 0 n
+replyOf t n (some e) = answeredBy t e n
+
+-- "Needed: nodes of the new tree whose block had none before. Blank: before the command, so N less the nodes of the old
+-- tree."
+abbrev pub short : ℕ → List Entry → List Entry → Bool
+short n l l′ = ltb (n - length (nodes l)) (needed l l′)
+
+-- "that is answer 11 and the old list stays. Otherwise the new one stands."
+abbrev pub storing : ℕ → (tag : ℕ) → List Entry → ℕ → List Entry → Executed
+storing n t l i l′ =
+    pick (short n l l′) (refuse l t tooFewNodes) (record { reply = replyOf t 0 (covering l′ i); list = l′ })
+
+-- "Erase takes out the entry covering the index": "erase gives the entry removed"
+abbrev pub erasing : (tag : ℕ) → List Entry → ℕ → Executed
+erasing t l i = record { reply = replyOf t 0 (covering l i); list = erase l i }
+
+-- "Mark and unmark set or clear that entry's named mark."
+abbrev pub marking : (tag : ℕ) → List Entry → (i m : ℕ) → Bool → Executed
+marking t l i m b = record { reply = replyOf t 0 (covering (remark l i m b) i); list = remark l i m b }
+
+-- "A paused find puts its position in index."
+abbrev pub finding : (tag : ℕ) → Outcome → Reply
+finding t (Found e n) = answeredBy t e n
+finding t (Ended n) = answered t findEnded 0 n
+finding t (Paused p n) = answered t findPaused p n
+
+-- "Lowest number first."
+module _ (n : ℕ) (l : List Entry) where
+  abbrev pub executeAs : (tag : ℕ) → Command → Executed
+  executeAs t (Store i k w) =
+      pick (ltb maxOrder k) (refuse l t orderAbove)
+      (pick (not (storable w)) (refuse l t notStorable) (storing n t l i (store l i k w)))
+  executeAs t (Load i) = leave l (replyOf t (depth l i) (covering l i))
+  executeAs t (Erase i) = erasing t l i
+  executeAs t (Mark i m) = pick (leb markCount m) (refuse l t markAbove) (marking t l i m true)
+  executeAs t (Unmark i m) = pick (leb markCount m) (refuse l t markAbove) (marking t l i m false)
+  executeAs t (Find a z f k) =
+      pick (ltb anyMark f) (refuse l t markAbove)
+      (pick (ltb z a) (refuse l t firstAbove)
+      (pick (eqb k 0) (refuse l t noBudget) (leave l (finding t (find l a z f k)))))
+
+  unfoldable pub execute : Command → Executed
+  execute c = executeAs (replyTag c) c

@@ -1,0 +1,4 @@
+pub mod Execute
+pub mod State
+pub mod Part
+pub mod Contracts

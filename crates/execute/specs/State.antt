@@ -1,0 +1,23 @@
+-- A pool as the model sees it, and what commands make of it.
+use Prim.Native.Nat.{ℕ}
+use mathlib.Core.List.{List, [], _∷_}
+use Rattle.model.specs.declared.Entry.{Entry}
+use Rattle.layout.specs.Places.{Places, newPlaces}
+use Rattle.batch.specs.declared.Command.{Command}
+use Rattle.execute.specs.Execute.{execute}
+
+-- the list, and which node stands at each number
+pub record State : Type 0 where
+  pub list : List Entry
+  pub places : Places
+
+module _ (n : ℕ) where
+  -- one command: the list after it, and "New nodes are taken .."
+  abbrev pub next : State → Command → State
+  next s c =
+      let l = execute n (s .list) c .list in record { list = l; places = newPlaces (s .list) l (s .places) }
+
+  -- the commands in order, "each on the list that the last one left"
+  abbrev pub states : State → List Command → State
+  states s [] = s
+  states s (c ∷ cs) = states (next s c) cs

@@ -1,0 +1,262 @@
+// One command of a batch on a pool: its reply, and the pool's words after it.
+//
+// pool: the borrowed words, well-formed; low: every node below it is in use; tag: the reply's.
+use batch::Command;
+use batch::Reply;
+use lookup::Loaded;
+use lookup::Outcome;
+use model::Covered;
+use model::Entry;
+use store::Stored;
+ghost use mathlib.Core.Path.{_≡_};
+ghost use Prim.Native.Nat.{ℕ};
+ghost use Rattle.model.specs.Model.{storable};
+ghost use Rattle.layout.specs.WellFormed.{WellFormed, InUse};
+ghost use Rattle.batch.specs.Reply.{answered, answeredBy};
+ghost use Rattle.execute.specs.Execute.{finding};
+ghost use Rattle.execute.specs.Contracts.{coveredReply, loadedReply, storedReply, replyTo, Executes};
+
+// The answers that stand in a reply, and the reply's tags.
+const ORDER_ABOVE: u64 = 5;
+
+const NOT_STORABLE: u64 = 6;
+
+const MARK_ABOVE: u64 = 7;
+
+const FIRST_ABOVE: u64 = 8;
+
+const NO_BUDGET: u64 = 9;
+
+const ABSENT: u64 = 10;
+
+const TOO_FEW_NODES: u64 = 11;
+
+const FIND_ENDED: u64 = 12;
+
+const FIND_PAUSED: u64 = 13;
+
+const STORED: u64 = 129;
+
+const LOADED: u64 = 130;
+
+const ERASED: u64 = 131;
+
+const MARKED: u64 = 132;
+
+const UNMARKED: u64 = 133;
+
+const FOUND: u64 = 134;
+
+// The highest order of an entry, the number of marks, and the filter that takes any entry.
+const MAX_ORDER: u64 = 63;
+
+const MARKS: u64 = 3;
+
+const ANY_MARK: u64 = 3;
+
+// A command's reply, and the next command's `low`.
+pub struct Execution {
+    pub reply: Reply,
+    pub low: u64,
+}
+
+// An answer with an index and a count, all else 0.
+fn answered(tag: u64, answer: u64, index: u64, count: u64) -> Reply
+    ensures { λ r. ⌜ r ≡ answered tag answer index count ⌝ }
+{
+    Reply {
+        tag,
+        answer,
+        index,
+        order: 0,
+        word: 0,
+        marks: 0,
+        count,
+    }
+}
+
+// Done, with an entry and a count.
+fn answered_by(tag: u64, e: Entry, count: u64) -> Reply
+    ensures { λ r. ⌜ r ≡ answeredBy tag e count ⌝ }
+{
+    Reply {
+        tag,
+        answer: 0,
+        index: e.base,
+        order: e.order,
+        word: e.word,
+        marks: e.marks,
+        count,
+    }
+}
+
+fn covered_reply(tag: u64, c: Covered) -> Reply
+    ensures { λ r. ⌜ r ≡ coveredReply tag c ⌝ }
+{
+    match c {
+        Covered::Nothing => answered(tag, ABSENT, 0, 0),
+        Covered::By(e) => answered_by(tag, e, 0),
+    }
+}
+
+fn loaded_reply(x: Loaded) -> Reply
+    ensures { λ r. ⌜ r ≡ loadedReply 130 x ⌝ }
+{
+    match x {
+        Loaded::Absent(d) => answered(LOADED, ABSENT, 0, d),
+        Loaded::Present(e, d) => answered_by(LOADED, e, d),
+    }
+}
+
+fn found_reply(x: Outcome) -> Reply
+    ensures { λ r. ⌜ r ≡ finding 134 x ⌝ }
+{
+    match x {
+        Outcome::Found(e, n) => answered_by(FOUND, e, n),
+        Outcome::Ended(n) => answered(FOUND, FIND_ENDED, 0, n),
+        Outcome::Paused(p, n) => answered(FOUND, FIND_PAUSED, p, n),
+    }
+}
+
+fn stored_reply(x: Stored) -> Reply
+    ensures { λ r. ⌜ r ≡ storedReply 129 x ⌝ }
+{
+    match x {
+        Stored::Done(e) => answered_by(STORED, e, 0),
+        Stored::Short => answered(STORED, TOO_FEW_NODES, 0, 0),
+    }
+}
+
+// An entry's word: odd, or a multiple of 4 above 0.
+fn is_storable(word: u64) -> bool
+    ensures { λ r. ⌜ r ≡ storable word ⌝ }
+{
+    if word == 0 {
+        return false;
+    }
+    word % 4 != 2
+}
+
+fn run_load(pool: &[u64], index: u64) -> Reply
+    requires { ⌜ WellFormed (now pool) ⌝ }
+    ensures { λ r. ⌜ ((s : WellFormed (now (pool .entry))) → r ≡ replyTo s (Command.Load index)) ⌝ }
+{
+    loaded_reply(lookup::load(pool, index))
+}
+
+fn run_find(pool: &[u64], first: u64, last: u64, filter: u64, budget: u64) -> Reply
+    requires { ⌜ WellFormed (now pool) ⌝ }
+    ensures { λ r. ⌜ ((s : WellFormed (now (pool .entry))) → r ≡ replyTo s (Command.Find first last filter budget)) ⌝ }
+{
+    if filter > ANY_MARK {
+        return answered(FOUND, MARK_ABOVE, 0, 0);
+    }
+    if first > last {
+        return answered(FOUND, FIRST_ABOVE, 0, 0);
+    }
+    if budget == 0 {
+        return answered(FOUND, NO_BUDGET, 0, 0);
+    }
+    found_reply(lookup::find(pool, first, last, filter, budget))
+}
+
+fn run_mark(pool: &mut [u64], index: u64, mark: u64) -> Reply
+    requires { ⌜ WellFormed (now pool) ⌝ }
+    ensures { λ r. ⌜ ((s : WellFormed (now (pool .entry))) → Executes s (Command.Mark index mark) r (now (pool .exit))) ⌝ }
+    ensures { λ _. ⌜ ((low : ℕ) → InUse low (now (pool .entry)) → InUse low (now (pool .exit))) ⌝ }
+{
+    if mark >= MARKS {
+        return answered(MARKED, MARK_ABOVE, 0, 0);
+    }
+    let c = marks::set_mark(pool, index, mark, true);
+    covered_reply(MARKED, c)
+}
+
+fn run_unmark(pool: &mut [u64], index: u64, mark: u64) -> Reply
+    requires { ⌜ WellFormed (now pool) ⌝ }
+    ensures { λ r. ⌜ ((s : WellFormed (now (pool .entry))) → Executes s (Command.Unmark index mark) r (now (pool .exit))) ⌝ }
+    ensures { λ _. ⌜ ((low : ℕ) → InUse low (now (pool .entry)) → InUse low (now (pool .exit))) ⌝ }
+{
+    if mark >= MARKS {
+        return answered(UNMARKED, MARK_ABOVE, 0, 0);
+    }
+    let c = marks::set_mark(pool, index, mark, false);
+    covered_reply(UNMARKED, c)
+}
+
+fn run_erase(pool: &mut [u64], index: u64, low: u64) -> Execution
+    requires { ⌜ WellFormed (now pool) ⌝ }
+    requires { ⌜ InUse low (now pool) ⌝ }
+    ensures { λ r. ⌜ ((s : WellFormed (now (pool .entry))) → Executes s (Command.Erase index) (r .reply) (now (pool .exit))) ⌝ }
+    ensures { λ r. ⌜ InUse (r .low) (now (pool .exit)) ⌝ }
+{
+    let e = erase::erase(pool, index, low);
+    let c = e.entry;
+    let next = e.low;
+    Execution {
+        reply: covered_reply(ERASED, c),
+        low: next,
+    }
+}
+
+fn run_store(pool: &mut [u64], index: u64, order: u64, word: u64, low: u64) -> Execution
+    requires { ⌜ WellFormed (now pool) ⌝ }
+    requires { ⌜ InUse low (now pool) ⌝ }
+    ensures { λ r. ⌜ ((s : WellFormed (now (pool .entry))) →
+        Executes s (Command.Store index order word) (r .reply) (now (pool .exit))) ⌝ }
+    ensures { λ r. ⌜ InUse (r .low) (now (pool .exit)) ⌝ }
+{
+    if order > MAX_ORDER {
+        return Execution {
+            reply: answered(STORED, ORDER_ABOVE, 0, 0),
+            low: low,
+        };
+    }
+    if !is_storable(word) {
+        return Execution {
+            reply: answered(STORED, NOT_STORABLE, 0, 0),
+            low: low,
+        };
+    }
+    let r = store::store(pool, index, order, word, low);
+    let outcome = r.outcome;
+    let next = r.low;
+    Execution {
+        reply: stored_reply(outcome),
+        low: next,
+    }
+}
+
+// One command: its reply, and the number below which every node is in use.
+pub fn execute(pool: &mut [u64], c: Command, low: u64) -> Execution
+    requires { ⌜ WellFormed (now pool) ⌝ }
+    requires { ⌜ InUse low (now pool) ⌝ }
+    ensures { λ r. ⌜ ((s : WellFormed (now (pool .entry))) → Executes s c (r .reply) (now (pool .exit))) ⌝ }
+    ensures { λ r. ⌜ InUse (r .low) (now (pool .exit)) ⌝ }
+{
+    match c {
+        Command::Store { index, order, word } => run_store(pool, index, order, word, low),
+        Command::Load { index } => Execution {
+            reply: run_load(pool, index),
+            low: low,
+        },
+        Command::Erase { index } => run_erase(pool, index, low),
+        Command::Mark { index, mark } => Execution {
+            reply: run_mark(pool, index, mark),
+            low: low,
+        },
+        Command::Unmark { index, mark } => Execution {
+            reply: run_unmark(pool, index, mark),
+            low: low,
+        },
+        Command::Find {
+            first,
+            last,
+            filter,
+            budget,
+        } => Execution {
+            reply: run_find(pool, first, last, filter, budget),
+            low: low,
+        },
+    }
+}

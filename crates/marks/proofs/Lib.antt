@@ -1,0 +1,4 @@
+pub mod BitSetLaws
+pub mod MarkLaws
+pub mod HybridLaws
+pub mod RemarkLaws

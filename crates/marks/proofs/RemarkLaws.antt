@@ -1,0 +1,157 @@
+-- A pool with a mark changed: still well-formed, and what set_mark answers.
+use Prim.Native.Nat.{ℕ, suc, _<_}
+use mathlib.Core.Path.{_≡_, refl, sym, ap, ap₂, subst, _∙_}
+use mathlib.Core.Bool.{Bool, true, false}
+use mathlib.Core.List.{List, [], _∷_}
+use mathlib.Core.Option.{none, some}
+use native.Mathlib.Omega.{arith}
+use lib.Dec.{eqb}
+use lib.ListN.{getD, set}
+use borrow.Author.Tests.{eq-eqb, ne-eqb}
+use Rattle.blocks.specs.Choice.{pick}
+use Rattle.blocks.specs.Blocks.{block, bitsTo, setBit}
+use Rattle.blocks.proofs.BoolLaws.{byT}
+use Rattle.blocks.specs.Lists.{All, there, end, also}
+use Rattle.blocks.proofs.ListLaws.{first-yes, each, first-no}
+use Rattle.blocks.proofs.BitLaws.{bits-lt}
+use Rattle.model.specs.declared.Entry.{Entry}
+use Rattle.model.specs.Model.{
+  Sorted,
+  done,
+  more,
+  covers,
+  covering,
+  hasMark,
+  withMark,
+  remark,
+  erase,
+  covered,
+  markCount,
+}
+use Rattle.model.specs.declared.Covered.the-variants.{Nothing, By}
+use Rattle.tree.specs.Tree.{height, Node, tierOrder}
+use Rattle.tree.proofs.RelabelLaws.{mapO, covering-map, has-map, new-nodes-map}
+use Rattle.tree.specs.Slots.{Numbering}
+use Rattle.layout.specs.Places.{Places, Placed, render, prune, newPlaces, allocate}
+use Rattle.layout.specs.WellFormed.{WellFormed}
+use Rattle.layout.proofs.NumberLaws.{prune-same, allocate-none}
+use Rattle.lookup.specs.Views.{Holds}
+use Rattle.marks.proofs.BitSetLaws.{set-bits, marks-bits}
+use Rattle.marks.proofs.HybridLaws.{hybrid-start, hybrid-end}
+use Rattle.marks.proofs.MarkLaws.{mark-entry}
+use Rattle.layout.specs.Words.{marksWord}
+
+-- A MARK CHANGED: still a list, at the same places
+set-small : (w m : ℕ) (b : Bool) → w < 8 → m < markCount → setBit m b w < 8
+set-small w m b h lt =
+    let e : Entry = record { base = 0; order = 0; word = 0; marks = w } in
+    let g : ℕ → Bool = λ j. pick (eqb j m) b (hasMark j e) in
+    let t : b ≡ pick (eqb m m) b (hasMark m e) = rw (eq-eqb m m refl) in
+    let p : setBit m (g m) (bitsTo (λ j. hasMark j e) 3) ≡ bitsTo g 3 = set-bits (λ j. hasMark j e) g m 3 lt
+    (λ j _ ne. sym (rw (ne-eqb j m ne))) in
+    let q : setBit m b w ≡ bitsTo g 3 = ap₂ (λ (t : Bool) (x : ℕ). setBit m t x) t (sym (marks-bits e h)) ∙ p in
+    subst (λ (x : ℕ). x < 8) (sym q) (bits-lt g 3)
+
+pub sorted-remark : (i m : ℕ) (b : Bool) → m < markCount → {n : ℕ} {l : List Entry} → Sorted n l →
+    Sorted n (remark l i m b)
+sorted-remark i m b lt done = done
+sorted-remark i m b lt (more {e} h ok s) = more {e = withMark i m b e} h (record {
+  order-le = ok .order-le;
+  aligned = ok .aligned;
+  in-range = ok .in-range;
+  word-ok = ok .word-ok;
+  word-fits = ok .word-fits;
+  marks-fit = byT (covers i e) (λ t. rw t (set-small (e .marks) m b (ok .marks-fit) lt)) (λ t. rw t (ok .marks-fit));
+}) (sorted-remark i m b lt s)
+
+module _ (i m : ℕ) (b : Bool) where
+  pub fb : (x : Entry) → withMark i m b x .base ≡ x .base
+  fb x = refl
+
+  pub fo : (x : Entry) → withMark i m b x .order ≡ x .order
+  fo x = refl
+
+  abbrev pub formed-remark : m < markCount → {ws ws′ : List ℕ} (s : WellFormed ws) →
+      ws′ ≡ render (remark (s .list) i m b) (s .places) (s .n) → WellFormed ws′
+  formed-remark lt s e = record {
+    n = s .n;
+    list = remark (s .list) i m b;
+    places = s .places;
+    least = s .least;
+    most = s .most;
+    valid = sorted-remark i m b lt (s .valid);
+    placed = record {
+      size = s .placed .size;
+      sound = λ p k. has-map (withMark i m b) fb fo (p .tier) (p .number) (s .list) ∙ s .placed .sound p k;
+      full = λ p t. s .placed .full p (sym (has-map (withMark i m b) fb fo (p .tier) (p .number) (s .list)) ∙ t);
+      once = s .placed .once;
+    };
+    words-are = e;
+  }
+
+  pub erase-remark : (l : List Entry) → erase (remark l i m b) i ≡ erase l i
+  erase-remark [] = refl
+  erase-remark (x ∷ l) = byT (covers i x) (λ t. rw t (erase-remark l))
+      (λ t. rw t (ap (λ (r : List Entry). x ∷ r) (erase-remark l)))
+
+-- NOTHING THERE, AND AN ENTRY AS HEAD
+pub remark-none : (l : List Entry) (i m : ℕ) (b : Bool) → covering l i ≡ none → remark l i m b ≡ l
+remark-none l i m b q = go (first-no (covers i) l q)
+  where
+    go : {s : List Entry} → All (λ x. covers i x ≡ false) s → remark s i m b ≡ s
+    go end = refl
+    go (also {x} {l = s} f a) = ap₂ _∷_ (off x f) (go a)
+      where
+        off : (x : Entry) → covers i x ≡ false → withMark i m b x ≡ x
+        off x t = rw t refl
+
+pub words-none : {ws : List ℕ} (s : WellFormed ws) (i m : ℕ) (b : Bool) → covering (s .list) i ≡ none →
+    ws ≡ render (remark (s .list) i m b) (s .places) (s .n)
+words-none s i m b q = s .words-are ∙ ap (λ (l : List Entry). render l (s .places) (s .n))
+    (sym (remark-none (s .list) i m b q))
+
+-- an entry as head
+pub bare-mark : {ws : List ℕ} (s : WellFormed ws) (i m : ℕ) (b : Bool) → m < markCount → (e : Entry) →
+    covering (s .list) i ≡ some e → height (s .list) ≡ 0 →
+    set ws marksWord (setBit m b (getD ws marksWord 0)) ≡ render (remark (s .list) i m b) (s .places) (s .n)
+bare-mark s i m b m< e q z =
+    hybrid-end s i m m< b e q (hybrid-start s i m m< b e q 0 (omega arith)) (sym z) b
+    (sym (mark-entry (s .list) (s .valid) i e q m m< b 0 (omega arith)))
+
+-- the entry stays where it is
+pub holds-remark : {l : List Entry} {ν : Numbering} {n v o : ℕ} (i m : ℕ) (b : Bool) → Holds l ν i n v o →
+    Holds (remark l i m b) ν i n v o
+holds-remark {l} {v} i m b h = record {
+  entry = withMark i m b (h .entry);
+  covering-is = covering-map (withMark i m b) (λ x. refl) (λ x. refl) i l ∙ ap (mapO (withMark i m b))
+      (h .covering-is);
+  low = h .low;
+  high = h .high;
+  at-node = record {
+    there = has-map (withMark i m b) (λ x. refl) (λ x. refl) (suc v) (block (tierOrder (suc v)) (h .entry .base)) l ∙
+        h .at-node .there;
+    number = h .at-node .number;
+  };
+  slot-is = h .slot-is;
+}
+
+-- no node is new, and none goes
+pub places-remark : {n : ℕ} {l : List Entry} {os : Places} (i m : ℕ) (b : Bool) → Placed n l os →
+    newPlaces l (remark l i m b) os ≡ os
+places-remark {l} {os} i m b pl =
+    ap (λ (ps : List Node). prune (remark l i m b) (allocate os ps))
+    (new-nodes-map (withMark i m b) (λ x. refl) (λ x. refl) l) ∙
+    (ap (prune (remark l i m b)) (allocate-none os) ∙
+    prune-same (remark l i m b) os (λ p k. has-map (withMark i m b) (λ x. refl) (λ x. refl) (p .tier) (p .number) l ∙
+    pl .sound p k))
+
+-- THE ANSWER
+module _ (l : List Entry) (i m : ℕ) (b : Bool) where
+  pub answer-none : covering l i ≡ none → Nothing ≡ covered (covering (remark l i m b) i)
+  answer-none q = sym (ap (λ (k : List Entry). covered (covering k i)) (remark-none l i m b q) ∙ ap covered q)
+
+  pub answer-some : {e r : Entry} → covering l i ≡ some e → (covers i e ≡ true → r ≡ withMark i m b e) →
+      By r ≡ covered (covering (remark l i m b) i)
+  answer-some {e} q f =
+      ap By (f (first-yes (covers i) (each l (λ x m. m)) q .0)) ∙
+      ap covered (sym (covering-map (withMark i m b) (λ x. refl) (λ x. refl) i l ∙ ap (mapO (withMark i m b)) q))

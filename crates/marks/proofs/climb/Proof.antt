@@ -1,0 +1,208 @@
+use Prim.Native.Nat.{ℕ, suc, _+_, _-_, _/_, _%_, _<_}
+use mathlib.Core.Path.{_≡_, sym, ap, _∙_}
+use mathlib.Core.List.{List}
+use mathlib.Core.Bool.{not}
+use native.Mathlib.Omega.{arith}
+use native.Mathlib.Numerals.{add-one}
+use lib.Dec.{eqb}
+use lib.ListN.{getD, set}
+use lib.Seq.{getD-set-same}
+use Rattle.blocks.specs.Blocks.{setBit}
+use Rattle.tree.specs.Tree.{slots, topTier}
+use Rattle.layout.specs.Words.{place, markField}
+use Rattle.layout.specs.WellFormed.{WellFormed, num}
+use Rattle.lookup.specs.Views.{Holds}
+use Rattle.marks.proofs.HybridLaws.{
+  Climbing,
+  Bounds,
+  climb-start,
+  climb-bounds,
+  climb-next,
+  climb-end,
+  climb-stop,
+}
+use Rattle.marks.proofs.climb.Statement.{statement}
+use Rattle.marks.proofs.climb.Tie as tie
+
+abbrev Inv-loop : tie.InvT-loop
+Inv-loop pool₀ i m on n₀ v₀ o₀ b₀ pool n v o b =
+    Bounds pool₀ pool n v o ×
+    ((s : WellFormed pool₀) → Holds (s .list) (num s) i n₀ v₀ o₀ → Climbing s i m on v n o b pool)
+
+abbrev μ-loop : tie.MeasureT-loop
+μ-loop pool₀ i m on n₀ v₀ o₀ b₀ pool n v o b = topTier - v
+
+loop-holds : tie.Need-loop-holds Inv-loop μ-loop
+loop-holds c = let h = c .before .pre .1 in
+    let m< = c .before .pre .0 in (
+      climb-bounds (h .formed) m< (climb-start (h .formed) m< {on = c .before .args .on} (h .holds)),
+      λ s k. climb-start s m< k,
+    )
+
+add-field : tie.Need-add-field Inv-loop μ-loop
+add-field c = omega arith
+
+field-requires : tie.Need-field-requires Inv-loop μ-loop
+field-requires c κs = omega arith
+
+with-bit-requires : tie.Need-with-bit-requires Inv-loop μ-loop
+with-bit-requires c κs = omega arith
+
+same-length : tie.Need-same-length Inv-loop μ-loop
+same-length c = c .before .before .before .before .loop .inv .0 .same
+
+returns : tie.Need-returns Inv-loop μ-loop
+returns c = λ s h.
+    climb-stop s (c .before .before .before .before .before .before .pre .0)
+    (c .before .before .before .before .loop .inv .1 s h)
+    (sym (c .before .with-bit .ensures ∙ ap (setBit (c .before .before .before .before .loop .o)
+    (c .before .before .before .before .loop .b)) (c .before .before .field .ensures)) ∙
+    (c .if1 .taken ∙ c .before .before .field .ensures))
+
+add-put : tie.Need-add-put Inv-loop μ-loop
+add-put c = omega arith
+
+put-requires : tie.Need-put-requires Inv-loop μ-loop
+put-requires c κs = omega arith
+
+nonzero-requires : tie.Need-nonzero-requires Inv-loop μ-loop
+nonzero-requires c κs = tt
+
+field-requires-2 : tie.Need-field-requires-2 Inv-loop μ-loop
+field-requires-2 c κs = let k = c .before .before .before .before .put .kept .0 in omega arith
+
+sub-n : tie.Need-sub-n Inv-loop μ-loop
+sub-n c = omega arith
+
+sub-o : tie.Need-sub-o Inv-loop μ-loop
+sub-o c = omega arith
+
+add-v : tie.Need-add-v Inv-loop μ-loop
+add-v c = omega arith
+
+-- where the mark word stands
+abbrev word-at : tie.After-field-arg2 Inv-loop μ-loop → ℕ
+word-at c = place (c .before .before .before .before .before .before .before .before .before .before .loop .n)
+    (markField + c .before .before .before .before .before .before .before .before .before .before .before .before
+    .args .m)
+
+-- the mark word after the store, and the bit that goes up
+stored : (c : tie.After-field-arg2 Inv-loop μ-loop) → c .before .before .before .before .put .last .0 ≡
+    set (c .before .before .before .before .before .before .before .before .before .before .loop .pool) (word-at c)
+    (setBit (c .before .before .before .before .before .before .before .before .before .before .loop .o)
+    (c .before .before .before .before .before .before .before .before .before .before .loop .b)
+    (getD (c .before .before .before .before .before .before .before .before .before .before .loop .pool)
+    (word-at c) 0))
+stored c =
+    c .before .before .before .before .put .ensures ∙
+    ap (set (c .before .before .before .before .before .before .before .before .before .before .loop .pool)
+    (word-at c))
+    (c .before .before .before .before .before .before .before .with-bit .ensures ∙ ap
+    (setBit (c .before .before .before .before .before .before .before .before .before .before .loop .o)
+    (c .before .before .before .before .before .before .before .before .before .before .loop .b))
+    (c .before .before .before .before .before .before .before .before .field .ensures))
+
+bit-of : (c : tie.After-field-arg2 Inv-loop μ-loop) →
+    c .before .nonzero .result ≡ not (eqb (getD (c .before .before .before .before .put .last .0) (word-at c) 0) 0)
+bit-of c =
+    let e : getD (c .before .before .before .before .put .last .0) (word-at c) 0 ≡ c .before .before .before .before
+    .before .before .before .with-bit .result =
+    ap (λ (w : List ℕ). getD w (word-at c) 0) (c .before .before .before .before .put .ensures) ∙
+    getD-set-same (c .before .before .before .before .before .before .before .before .before .before .loop .pool)
+    (word-at c) (c .before .before .before .before .before .before .before .with-bit .result) 0
+    (omega (
+      arith,
+      c .before .before .before .before .before .before .before .before .before .before .loop .inv .0
+          .node-in,
+    )) in
+    c .before .nonzero .ensures ∙ ap (λ (y : ℕ). not (eqb y 0)) (sym e)
+
+next : (c : tie.Else2 Inv-loop μ-loop) (s : WellFormed
+    (c .before .before .before .before .before .before .before .before .before .before .before .before .before .before
+    .args .pool .now)) →
+    Holds (s .list) (num s) (c .before .before .before .before .before .before .before .before .before .before .before
+    .before .before .before .args .i) (c .before .before .before .before .before .before .before .before .before
+    .before .before .before .before .before .args .at .node)
+    (c .before .before .before .before .before .before .before .before .before .before .before .before .before
+    .before .args .at .tier) (c .before .before .before .before .before .before .before .before .before .before
+    .before .before .before .before .args .at .slot) →
+    Climbing s (c .before .before .before .before .before .before .before .before .before .before .before .before
+    .before .before .args .i) (c .before .before .before .before .before .before .before .before .before .before
+    .before .before .before .before .args .m) (c .before .before .before .before .before .before .before .before
+    .before .before .before .before .before .before .args .on)
+    (suc (c .before .before .before .before .before .before .before .before .before .before .before .before .loop
+    .v))
+    ((c .before .field2 .result - 1) / slots) ((c .before .field2 .result - 1) % slots)
+    (c .before .before .before .nonzero .result) (c .before .before .before .before .before .before .put .last .0)
+next c s h =
+    climb-next s (c .before .before .before .before .before .before .before .before .before .before .before .before
+    .before .before .pre .0) (c .before .before .before .before .before .before .before .before .before .before
+    .before .before .loop .inv .1 s h) (stored (c .before .before)) (bit-of (c .before .before))
+    (c .before .field2 .ensures)
+    (c .if2 .left)
+
+bounds : (c : tie.Else2 Inv-loop μ-loop) →
+    Bounds (c .before .before .before .before .before .before .before .before .before .before .before .before .before
+    .before .args .pool .now) (c .before .before .before .before .before .before .put .last .0)
+    ((c .before .field2 .result - 1) / slots) (suc
+    (c .before .before .before .before .before .before .before .before .before .before .before .before .loop .v))
+    ((c .before .field2 .result - 1) % slots)
+bounds c = let h = c .before .before .before .before .before .before .before .before .before .before .before .before
+    .before .before .pre .1 in climb-bounds (h .formed)
+    (c .before .before .before .before .before .before .before .before .before .before .before .before .before .before
+    .pre .0) (next c (h .formed) (h .holds))
+
+loop-less : tie.Need-loop-less Inv-loop μ-loop
+loop-less c = omega (arith, bounds c .tier-le)
+
+loop-again : tie.Need-loop-again Inv-loop μ-loop
+loop-again c = rw add-one (bounds c, λ s h. next c s h)
+
+mark-anchor-requires : tie.Need-mark-anchor-requires Inv-loop μ-loop
+mark-anchor-requires c κs = let k = c .before .before .before .before .before .before .before .put .kept .0 in (
+  omega arith,
+  c .before .before .before .before .before .before .before .before .before .before .before .before
+      .before .before .before .pre .0,
+)
+
+same-length-2 : tie.Need-same-length-2 Inv-loop μ-loop
+same-length-2 c = c .before .before .mark-anchor .kept .0 ∙
+    (c .before .before .before .before .before .before .before .before .before .before .put .kept .0 ∙ c .before
+    .before .before .before .before .before .before .before .before .before .before .before .before .before .before
+    .before .loop .inv .0 .same)
+
+returns-2 : tie.Need-returns-2 Inv-loop μ-loop
+returns-2 c = λ s h.
+    c .before .before .mark-anchor .ensures ∙
+    climb-end s (c .before .before .before .before .before .before .before .before .before .before .before .before
+    .before .before .before .before .before .before .pre .0)
+    (c .before .before .before .before .before .before .before .before .before .before .before .before .before
+    .before .before .before .loop .inv .1 s h) (stored (c .before .before .before .before .before .before))
+    (bit-of (c .before .before .before .before .before .before))
+    (c .before .before .before .before .before .field2 .ensures)
+    (c .before .before .before .before .if2 .taken)
+
+pub climb-spec : {M : Type 1} → statement M
+climb-spec =
+    tie.close
+    (tie.spec
+    Inv-loop
+    μ-loop
+    loop-holds
+    add-field
+    field-requires
+    with-bit-requires
+    same-length
+    returns
+    add-put
+    put-requires
+    nonzero-requires
+    field-requires-2
+    sub-n
+    sub-o
+    add-v
+    loop-less
+    loop-again
+    mark-anchor-requires
+    same-length-2
+    returns-2)

@@ -1,0 +1,108 @@
+use native.Mathlib.Omega.{arith}
+use mathlib.Core.Path.{_∙_}
+use Rattle.lookup.proofs.WordLaws.{pool-length}
+use Rattle.lookup.proofs.HeadLaws.{at-nothing, at-head, at-spot}
+use Rattle.marks.proofs.RemarkLaws.{words-none, bare-mark, answer-none, answer-some}
+use borrow.Author.Needs.{needs}
+use Rattle.marks.proofs.set_mark.Statement.{statement}
+use Rattle.marks.proofs.set_mark.Tie as tie
+
+locate-requires : tie.Need-locate-requires
+locate-requires c κs = search needs
+
+enum-told : tie.Need-enum-told
+enum-told c = search needs
+
+enum-known-k : tie.Need-enum-known-k
+enum-known-k c = search needs
+
+mark-anchor-requires : tie.Need-mark-anchor-requires
+mark-anchor-requires c κs = (
+  omega (
+    arith,
+    pool-length
+        (c .before .before .before .before .before .before .before .pre .0),
+  ),
+  c .before .before .before .before .before .before .before .pre .1,
+)
+
+remarked-requires : tie.Need-remarked-requires
+remarked-requires c κs = search needs
+
+enum-known-k-2 : tie.Need-enum-known-k-2
+enum-known-k-2 c = search needs
+
+climb-requires : tie.Need-climb-requires
+climb-requires c κs = let s = c .before .before .before .before .before .before .before .pre .0 in (
+  c .before .before .before .before .before .before .before .pre .1,
+  record {
+    formed = s;
+    holds = at-spot _ _ _ (c .before .before .before .before .locate .ensures s)
+        (c .before .before .k2 .given .1) .1;
+  },
+)
+
+remarked-requires-2 : tie.Need-remarked-requires-2
+remarked-requires-2 c κs = search needs
+
+same-length : tie.Need-same-length
+same-length c = search needs
+
+returns : tie.Need-returns
+returns c = let a = c .before .before .before .before .before .args in (
+  (λ s. let (q, d) = at-nothing _ (c .before .before .locate .ensures s) (c .enum-told .given .1) in
+      answer-none (s .list) (a .i) (a .m) (a .on) q),
+  λ s. let (q, d) = at-nothing _ (c .before .before .locate .ensures s) (c .enum-told .given .1) in
+      words-none s (a .i) (a .m) (a .on) q,
+)
+
+same-length-2 : tie.Need-same-length-2
+same-length-2 c = search needs
+
+returns-2 : tie.Need-returns-2
+returns-2 c = let a = c .before .before .before .before .before .before .before .before .before .before .before .args
+    in (
+      (λ s. let (z, q) = at-head _ (c .before .before .before .before .before .before .before .before .locate .ensures
+          s)
+          (c .before .before .before .before .before .before .k .given .1) in
+          answer-some (s .list) (a .i) (a .m) (a .on) q (c .remarked .ensures (a .i))),
+      λ s. let (z, q) = at-head _ (c .before .before .before .before .before .before .before .before .locate .ensures
+          s)
+          (c .before .before .before .before .before .before .k .given .1) in
+          c .before .before .before .mark-anchor .ensures ∙ bare-mark s (a .i) (a .m) (a .on)
+          (c .before .before .before .before .before .before .before .before .before .before .before .pre .1) _ q z,
+    )
+
+same-length-3 : tie.Need-same-length-3
+same-length-3 c = search needs
+
+returns-3 : tie.Need-returns-3
+returns-3 c = let a = c .before .before .before .before .before .before .before .before .before .before .before .args
+    in (
+      (λ s. let (q, h, t, le, d) = at-spot _ _ _ (c .before .before .before .before .before .before .before .before
+          .locate .ensures s) (c .before .before .before .before .before .before .k2 .given .1) in
+          answer-some (s .list) (a .i) (a .m) (a .on) q (c .remarked2 .ensures (a .i))),
+      λ s. let (q, h, t, le, d) = at-spot _ _ _ (c .before .before .before .before .before .before .before .before
+          .locate
+          .ensures s) (c .before .before .before .before .before .before .k2 .given .1) in
+          c .before .before .before .climb .ensures s h,
+    )
+
+pub set-mark-spec : {M : Type 1} → statement M
+set-mark-spec =
+    tie.close
+    (tie.spec
+    locate-requires
+    enum-told
+    enum-known-k
+    mark-anchor-requires
+    remarked-requires
+    enum-known-k-2
+    climb-requires
+    remarked-requires-2
+    same-length
+    returns
+    same-length-2
+    returns-2
+    same-length-3
+    returns-3)

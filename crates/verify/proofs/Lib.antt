@@ -1,0 +1,4 @@
+pub mod VerdictLaws
+pub mod AnswerLaws
+pub mod EmptyLaws
+pub mod Example

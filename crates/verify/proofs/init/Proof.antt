@@ -1,0 +1,54 @@
+use native.Mathlib.Omega.{arith}
+use mathlib.Core.Path.{ap, _∙_}
+use Prim.Native.Nat.{ℕ}
+use mathlib.Core.List.{List}
+use lib.ListN.{length, set}
+use borrow.Author.Needs.{needs}
+use Rattle.verify.proofs.EmptyLaws.{init-done, init-refused, filled-length}
+use Rattle.verify.proofs.init.Statement.{statement}
+use Rattle.verify.proofs.init.Tie as tie
+
+nodes-in-requires : tie.Need-nodes-in-requires
+nodes-in-requires c κs = search needs
+
+same-length : tie.Need-same-length
+same-length c = search needs
+
+returns : tie.Need-returns
+returns c = init-refused (c .before .nodes-in .ensures .no-pool (c .if1 .taken))
+
+fill-requires : tie.Need-fill-requires
+fill-requires c κs = let s = c .before .before .nodes-in .ensures .sized (c .before .if1 .left) in
+    omega (arith, s .size)
+
+slice-write-pool : tie.Need-slice-write-pool
+slice-write-pool c =
+    let c4 = c .before .before .before .before in
+    let c5 = c4 .before in
+    let s = c5 .nodes-in .ensures .sized (c4 .if1 .left) in
+    omega (arith, ap length (c .before .before .fill .ensures) ∙ filled-length _ _, s .size)
+
+same-length-2 : tie.Need-same-length-2
+same-length-2 c = search needs
+
+returns-2 : tie.Need-returns-2
+returns-2 c =
+    let c4 = c .before .before .before .before in
+    let c5 = c4 .before in
+    let s = c5 .nodes-in .ensures .sized (c4 .if1 .left) in (
+      init-done s .0,
+      ap (λ (z : List ℕ). set z 0 (c5 .nodes-in .result)) (c .before .before .fill .ensures) ∙
+          init-done s .1,
+    )
+
+pub init-spec : {M : Type 1} → statement M
+init-spec =
+    tie.close
+    (tie.spec
+    nodes-in-requires
+    same-length
+    returns
+    fill-requires
+    slice-write-pool
+    same-length-2
+    returns-2)

@@ -1,0 +1,71 @@
+// The check of a pool, and its init.
+//
+// pool: the borrowed words, 4 + 69 n of them for n nodes.
+use layout::ANCHOR_WORDS;
+use layout::COUNT_WORD;
+use layout::MAX_NODES;
+use layout::NODE_WORDS;
+use layout::SPARE_WORD;
+use layout::fill;
+use scan::head_ok;
+use scan::nodes_ok;
+ghost use mathlib.Core.Path.{_≡_};
+ghost use Rattle.verify.specs.Answers.{Counts, checkAnswer, initAnswer, initWords};
+
+// The number of nodes, or 0 if the length is not that of a pool.
+fn nodes_in(pool: &[u64]) -> u64
+    ensures { λ r. ⌜ Counts (now (pool .entry)) r ⌝ }
+{
+    let len = pool.len() as u64;
+    if len < ANCHOR_WORDS {
+        return 0;
+    }
+    let n = (len - ANCHOR_WORDS) / NODE_WORDS;
+    if n > MAX_NODES {
+        return 0;
+    }
+    if (len - ANCHOR_WORDS) % NODE_WORDS != 0 {
+        return 0;
+    }
+    n
+}
+
+// 0 if the words are those that some list of entries prescribes, with its nodes at some numbers; 1 if the length is
+// not that of a pool; else 2.
+pub fn check(pool: &[u64]) -> u64
+    ensures { λ r. ⌜ r ≡ checkAnswer (now (pool .entry)) ⌝ }
+{
+    let n = nodes_in(pool);
+    if n == 0 {
+        return 1;
+    }
+    if pool[COUNT_WORD] != n {
+        return 2;
+    }
+    if pool[SPARE_WORD] != 0 {
+        return 2;
+    }
+    if !nodes_ok(pool) {
+        return 2;
+    }
+    if !head_ok(pool) {
+        return 2;
+    }
+    0
+}
+
+// Makes every node free and the list empty: word 0 is the number of nodes, every other word 0. If the length is not
+// that of a pool, the answer is 1 and nothing is written.
+pub fn init(pool: &mut [u64]) -> u64
+    ensures { λ r. ⌜ r ≡ initAnswer (now (pool .entry)) ⌝ }
+    ensures { λ _. ⌜ now (pool .exit) ≡ initWords (now (pool .entry)) ⌝ }
+{
+    let n = nodes_in(pool);
+    if n == 0 {
+        return 1;
+    }
+    let len = pool.len() as u64;
+    fill(pool, 0, 0, len);
+    pool[COUNT_WORD] = n;
+    0
+}

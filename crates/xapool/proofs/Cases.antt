@@ -1,0 +1,13 @@
+-- The starred cases of document 01 hold, by computation from the definitions.
+use mathlib.Core.Path.{_≡_, refl}
+use mathlib.Core.Bool.{true}
+use Rattle.tree.specs.Tree.{tall, has, slotMark}
+use Rattle.tree.specs.Slots.{slot}
+use Rattle.lookup.specs.Load.{depthTo}
+use Rattle.lookup.specs.Find.{stopTier, turnAt, step, findFrom}
+use Rattle.execute.specs.Execute.{execute}
+use Rattle.xapool.specs.Cases.{cases, casesHold}
+
+pub starred-cases : casesHold cases ≡ true
+unfolding tall has slotMark slot depthTo stopTier turnAt step findFrom execute cases
+starred-cases = refl

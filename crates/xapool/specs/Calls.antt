@@ -1,0 +1,76 @@
+-- The three calls (document 01, "When the kit says no"): the result, and every word and byte after the call.
+use Prim.Native.Nat.{ℕ, _*_}
+use mathlib.Core.List.{List, [], _∷_, _++_}
+use lib.Dec.{ltb, eqb}
+use lib.ListN.{length, drop}
+use Rattle.blocks.specs.Choice.{pick}
+use Rattle.model.specs.declared.Entry.{Entry}
+use Rattle.layout.specs.Places.{render}
+use Rattle.layout.specs.Decode.{listOf, placesOf}
+use Rattle.layout.specs.Decide.{nodeCount}
+use Rattle.verify.specs.Answers.{checkAnswer, initAnswer}
+use Rattle.batch.specs.declared.Command.{Command}
+use Rattle.batch.specs.Batch.{Parsed, Parsed.commands, Parsed.refused, parse}
+use Rattle.batch.specs.Reply.{replyBytes, encode}
+use Rattle.execute.specs.Execute.{execute}
+use Rattle.execute.specs.State.{State, states}
+pub use Rattle.xapool.specs.declared.Result.{Result}
+
+-- THE ANSWERS of a call; 1 and 2 are `checkAnswer`'s
+abbrev pub done : ℕ
+done = 0
+
+abbrev pub badRecord : ℕ
+badRecord = 3
+
+abbrev pub replyShort : ℕ
+replyShort = 4
+
+abbrev pub result : ℕ → ℕ → Result
+result a n = record { answer = a; number = n }
+
+-- what a call leaves: its result, the pool's words and the reply's bytes
+pub record Called : Type 0 where
+  pub result : Result
+  pub words : List ℕ
+  pub reply : List ℕ
+
+-- "1 to 4 refuse the call: pool and replies unaltered, nothing run."
+abbrev pub refuseCall : List ℕ → List ℕ → ℕ → ℕ → Called
+refuseCall ws rs a n = record { result = result a n; words = ws; reply = rs }
+
+-- INIT (document 01: blanking) and CHECK: "Blanking gives only 0 or 1, checking only 0, 1 or 2, number 0."
+abbrev pub initResult : List ℕ → Result
+initResult ws = result (initAnswer ws) 0
+
+abbrev pub checkResult : List ℕ → Result
+checkResult ws = result (checkAnswer ws) 0
+
+-- RUN
+module _ (n : ℕ) where
+  -- the replies in order, each of that moment's list
+  abbrev pub replies : List Entry → List Command → List ℕ
+  replies l [] = []
+  replies l (c ∷ cs) = encode (execute n l c .reply) ++ replies (execute n l c .list) cs
+
+  -- a batch that runs: "Reply bytes past the last reply stay."
+  abbrev pub running : State → List Command → List ℕ → Called
+  running s cs rs =
+      let t = states n s cs in
+      record {
+        result = result done (length cs);
+        words = render (t .list) (t .places) n;
+        reply = replies (s .list) cs ++ drop (replyBytes * length cs) rs;
+      }
+
+  -- "reply space under 24 bytes a command"
+  abbrev pub runParsed : List ℕ → List ℕ → Parsed → Called
+  runParsed ws rs (refused at) = refuseCall ws rs badRecord at
+  runParsed ws rs (commands cs) =
+      pick (ltb (length rs) (replyBytes * length cs)) (refuseCall ws rs replyShort (length cs))
+      (running (record { list = listOf ws; places = placesOf ws }) cs rs)
+
+-- "Lowest number first.": 1 and 2 are the check's
+unfoldable pub run : (pool batch reply : List ℕ) → Called
+run ws bs rs =
+    pick (eqb (checkAnswer ws) done) (runParsed (nodeCount ws) ws rs (parse bs)) (refuseCall ws rs (checkAnswer ws) 0)

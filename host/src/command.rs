@@ -1,0 +1,208 @@
+//! A command and its record in a batch.
+
+use crate::word::Word;
+use std::fmt;
+
+pub const MOST_ORDER: u8 = 63;
+
+/// The filter of a find that takes any entry; 0, 1 and 2 take entries with that mark.
+pub const FIND_ANY: u8 = 3;
+
+/// The kinds of command, by the tag of their record.
+#[derive(Clone, Copy, Debug, PartialEq, Eq, Hash)]
+#[repr(u8)]
+pub enum Tag {
+    Store = 1,
+    Load = 2,
+    Erase = 3,
+    Mark = 4,
+    Unmark = 5,
+    Find = 6,
+}
+
+impl Tag {
+    pub const ALL: [Tag; 6] =
+        [Tag::Store, Tag::Load, Tag::Erase, Tag::Mark, Tag::Unmark, Tag::Find];
+
+    pub fn from_byte(byte: u8) -> Option<Tag> {
+        Tag::ALL.get(usize::from(byte.checked_sub(1)?)).copied()
+    }
+
+    pub fn byte(self) -> u8 {
+        self as u8
+    }
+
+    /// The bytes of the fields of this command.
+    pub fn field_bytes(self) -> u8 {
+        match self {
+            Tag::Store => 17,
+            Tag::Load | Tag::Erase => 8,
+            Tag::Mark | Tag::Unmark => 9,
+            Tag::Find => 19,
+        }
+    }
+
+    /// The bytes of the whole record.
+    pub fn record_bytes(self) -> usize {
+        3 + usize::from(self.field_bytes())
+    }
+}
+
+impl fmt::Display for Tag {
+    fn fmt(&self, f: &mut fmt::Formatter) -> fmt::Result {
+        f.write_str(match self {
+            Tag::Store => "store",
+            Tag::Load => "load",
+            Tag::Erase => "erase",
+            Tag::Mark => "mark",
+            Tag::Unmark => "unmark",
+            Tag::Find => "find",
+        })
+    }
+}
+
+/// A command. Fields of any size can be sent; the library refuses those out of range in the reply
+/// (order above 63, a word that is no entry, mark above 2, filter above 3).
+#[derive(Clone, Copy, Debug, PartialEq, Eq, Hash)]
+pub enum Command {
+    /// One entry over the 2^order indices around the index.
+    Store {
+        index: u64,
+        order: u8,
+        word: Word,
+    },
+    Load {
+        index: u64,
+    },
+    Erase {
+        index: u64,
+    },
+    Mark {
+        index: u64,
+        mark: u8,
+    },
+    Unmark {
+        index: u64,
+        mark: u8,
+    },
+    /// The first entry that meets first to last; `filter` is a mark or [`FIND_ANY`].
+    Find {
+        first: u64,
+        last: u64,
+        filter: u8,
+        budget: u16,
+    },
+}
+
+impl Command {
+    pub fn tag(self) -> Tag {
+        match self {
+            Command::Store { .. } => Tag::Store,
+            Command::Load { .. } => Tag::Load,
+            Command::Erase { .. } => Tag::Erase,
+            Command::Mark { .. } => Tag::Mark,
+            Command::Unmark { .. } => Tag::Unmark,
+            Command::Find { .. } => Tag::Find,
+        }
+    }
+
+    /// Writes the record at the end of a batch.
+    pub fn write(self, batch: &mut Vec<u8>) {
+        batch.extend([self.tag().byte(), 0, self.tag().field_bytes()]);
+        match self {
+            Command::Store { index, order, word } => {
+                batch.extend(index.to_be_bytes());
+                batch.push(order);
+                batch.extend(word.0.to_be_bytes());
+            }
+            Command::Load { index } | Command::Erase { index } => {
+                batch.extend(index.to_be_bytes());
+            }
+            Command::Mark { index, mark } | Command::Unmark { index, mark } => {
+                batch.extend(index.to_be_bytes());
+                batch.push(mark);
+            }
+            Command::Find { first, last, filter, budget } => {
+                batch.extend(first.to_be_bytes());
+                batch.extend(last.to_be_bytes());
+                batch.push(filter);
+                batch.extend(budget.to_be_bytes());
+            }
+        }
+    }
+
+    /// The command whose record stands at the start of the bytes; none if it is cut, of unknown
+    /// tag or of wrong length.
+    pub fn read(bytes: &[u8]) -> Option<Command> {
+        let tag = Tag::from_byte(*bytes.first()?)?;
+        if bytes.get(1..3)? != [0, tag.field_bytes()] {
+            return None;
+        }
+        let fields = bytes.get(3..tag.record_bytes())?;
+        let index = number(fields, 0)?;
+        Some(match tag {
+            Tag::Store => {
+                Command::Store { index, order: *fields.get(8)?, word: Word(number(fields, 9)?) }
+            }
+            Tag::Load => Command::Load { index },
+            Tag::Erase => Command::Erase { index },
+            Tag::Mark => Command::Mark { index, mark: *fields.get(8)? },
+            Tag::Unmark => Command::Unmark { index, mark: *fields.get(8)? },
+            Tag::Find => Command::Find {
+                first: index,
+                last: number(fields, 8)?,
+                filter: *fields.get(16)?,
+                budget: short(fields, 17)?,
+            },
+        })
+    }
+}
+
+/// The big-endian number of 8 bytes at this place.
+pub(crate) fn number(bytes: &[u8], place: usize) -> Option<u64> {
+    let part = bytes.get(place..)?.first_chunk::<8>()?;
+    Some(u64::from_be_bytes(*part))
+}
+
+/// The big-endian number of 2 bytes at this place.
+pub(crate) fn short(bytes: &[u8], place: usize) -> Option<u16> {
+    let part = bytes.get(place..)?.first_chunk::<2>()?;
+    Some(u16::from_be_bytes(*part))
+}
+
+/// An index as text; the last one is `max`.
+pub(crate) struct Index(pub u64);
+
+impl fmt::Display for Index {
+    fn fmt(&self, f: &mut fmt::Formatter) -> fmt::Result {
+        match self.0 {
+            u64::MAX => f.write_str("max"),
+            index => write!(f, "{index}"),
+        }
+    }
+}
+
+/// As xabatch reads it: `store 64 order 0 value 2`.
+impl fmt::Display for Command {
+    fn fmt(&self, f: &mut fmt::Formatter) -> fmt::Result {
+        let tag = self.tag();
+        match *self {
+            Command::Store { index, order, word } => {
+                write!(f, "{tag} {} order {order} {word}", Index(index))
+            }
+            Command::Load { index } | Command::Erase { index } => {
+                write!(f, "{tag} {}", Index(index))
+            }
+            Command::Mark { index, mark } | Command::Unmark { index, mark } => {
+                write!(f, "{tag} {} mark {mark}", Index(index))
+            }
+            Command::Find { first, last, filter, budget } => {
+                write!(f, "{tag} {}..{} ", Index(first), Index(last))?;
+                match filter {
+                    FIND_ANY => write!(f, "any budget {budget}"),
+                    mark => write!(f, "mark {mark} budget {budget}"),
+                }
+            }
+        }
+    }
+}

@@ -1,0 +1,49 @@
+//! The three calls of `libxapool.a` over slices. The only `unsafe` code of this crate.
+
+/// What a call gives: the answer, and a number that depends on it.
+#[repr(C)]
+#[derive(Clone, Copy, Debug, PartialEq, Eq)]
+pub struct RawResult {
+    pub answer: u64,
+    pub number: u64,
+}
+
+extern "C" {
+    fn xapool_init(pool: *mut u64, pool_words: usize) -> RawResult;
+    fn xapool_check(pool: *const u64, pool_words: usize) -> RawResult;
+    fn xapool_run(
+        pool: *mut u64,
+        pool_words: usize,
+        batch: *const u8,
+        batch_bytes: usize,
+        reply: *mut u8,
+        reply_bytes: usize,
+    ) -> RawResult;
+}
+
+/// Makes the words an empty pool, whatever stood there.
+pub fn init(pool: &mut [u64]) -> RawResult {
+    // SAFETY: the pointer and the length are those of a slice borrowed for the call.
+    unsafe { xapool_init(pool.as_mut_ptr(), pool.len()) }
+}
+
+/// Whether the words are those of a pool.
+pub fn check(pool: &[u64]) -> RawResult {
+    // SAFETY: as in `init`; the call only reads.
+    unsafe { xapool_check(pool.as_ptr(), pool.len()) }
+}
+
+/// Runs a batch on a pool; the replies go into `reply`.
+pub fn run(pool: &mut [u64], batch: &[u8], reply: &mut [u8]) -> RawResult {
+    // SAFETY: three slices borrowed for the call; the two that are written are borrowed alone.
+    unsafe {
+        xapool_run(
+            pool.as_mut_ptr(),
+            pool.len(),
+            batch.as_ptr(),
+            batch.len(),
+            reply.as_mut_ptr(),
+            reply.len(),
+        )
+    }
+}

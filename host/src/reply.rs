@@ -1,0 +1,247 @@
+//! Replies: 24 bytes for each command; and the record of a refused call.
+
+use crate::answer::Answer;
+use crate::command::{number, short, Index, Tag};
+use crate::word::Word;
+use std::fmt;
+
+pub const REPLY_BYTES: usize = 24;
+const REPLY_FIELDS: u16 = 21;
+const REPLY_TAG: u8 = 128;
+const REFUSAL_TAG: u8 = 255;
+const REFUSAL_BYTES: usize = 6;
+const REFUSAL_FIELDS: u16 = 3;
+
+/// The marks of an entry as their byte: mark m is worth 2^m.
+#[derive(Clone, Copy, Debug, Default, PartialEq, Eq)]
+pub struct Marks(pub u8);
+
+impl Marks {
+    pub fn has(self, mark: u8) -> bool {
+        mark < 8 && self.0 >> mark & 1 == 1
+    }
+}
+
+/// The marks there are, as `0,2`; `-` for none.
+impl fmt::Display for Marks {
+    fn fmt(&self, f: &mut fmt::Formatter) -> fmt::Result {
+        let names: Vec<String> =
+            (0..8).filter(|mark| self.has(*mark)).map(|mark| mark.to_string()).collect();
+        f.write_str(if names.is_empty() { "-".into() } else { names.join(",") }.as_str())
+    }
+}
+
+/// An entry as a reply gives it.
+#[derive(Clone, Copy, Debug, PartialEq, Eq)]
+pub struct Entry {
+    pub base: u64,
+    pub order: u8,
+    pub word: Word,
+    pub marks: Marks,
+}
+
+/// A reply as it stands in its 24 bytes; what a command does not give is zero.
+#[derive(Clone, Copy, Debug, PartialEq, Eq)]
+pub struct Reply {
+    pub tag: Tag,
+    pub answer: Answer,
+    pub index: u64,
+    pub order: u8,
+    pub word: Word,
+    pub marks: Marks,
+    /// Load: how many nodes' blocks contain the index. Find: its steps. Else 0.
+    pub count: u16,
+}
+
+impl Reply {
+    /// The reply at the start of the bytes; none if they do not begin with one.
+    pub fn read(bytes: &[u8]) -> Option<Reply> {
+        let tag = Tag::from_byte(bytes.first()?.checked_sub(REPLY_TAG)?)?;
+        if short(bytes, 1)? != REPLY_FIELDS {
+            return None;
+        }
+        Some(Reply {
+            tag,
+            answer: Answer::from_number(u64::from(*bytes.get(3)?))?,
+            index: number(bytes, 4)?,
+            order: *bytes.get(12)?,
+            word: Word(number(bytes, 13)?),
+            marks: Marks(*bytes.get(21)?),
+            count: short(bytes, 22)?,
+        })
+    }
+
+    pub fn bytes(self) -> [u8; REPLY_BYTES] {
+        let mut bytes = [0; REPLY_BYTES];
+        bytes[0] = self.tag.byte() + REPLY_TAG;
+        bytes[1..3].copy_from_slice(&REPLY_FIELDS.to_be_bytes());
+        bytes[3] = self.answer.number();
+        bytes[4..12].copy_from_slice(&self.index.to_be_bytes());
+        bytes[12] = self.order;
+        bytes[13..21].copy_from_slice(&self.word.0.to_be_bytes());
+        bytes[21] = self.marks.0;
+        bytes[22..24].copy_from_slice(&self.count.to_be_bytes());
+        bytes
+    }
+
+    /// The entry it gives, where the answer is `Done`.
+    pub fn entry(self) -> Option<Entry> {
+        let Reply { index, order, word, marks, .. } = self;
+        (self.answer == Answer::Done).then_some(Entry { base: index, order, word, marks })
+    }
+
+    /// Where a paused find goes on.
+    pub fn paused_at(self) -> Option<u64> {
+        (self.answer == Answer::Paused).then_some(self.index)
+    }
+}
+
+/// As xabatch writes it: `load: done, 64 order 0 value 2 marks -, count 2`.
+impl fmt::Display for Reply {
+    fn fmt(&self, f: &mut fmt::Formatter) -> fmt::Result {
+        write!(f, "{}: {}", self.tag, self.answer)?;
+        if let Some(Entry { base, order, word, marks }) = self.entry() {
+            write!(f, ", {} order {order} {word} marks {marks}", Index(base))?;
+        }
+        if let Some(position) = self.paused_at() {
+            write!(f, " at {}", Index(position))?;
+        }
+        if matches!(self.tag, Tag::Load | Tag::Find) {
+            write!(f, ", count {}", self.count)?;
+        }
+        Ok(())
+    }
+}
+
+/// The replies to one batch, in the order of its commands.
+#[derive(Clone, Debug, Default, PartialEq, Eq)]
+pub struct Replies {
+    replies: Vec<Reply>,
+}
+
+impl Replies {
+    pub(crate) fn read(bytes: &[u8]) -> Result<Replies, BadRecord> {
+        let mut replies = Vec::with_capacity(bytes.len() / REPLY_BYTES);
+        for (number, part) in bytes.chunks(REPLY_BYTES).enumerate() {
+            let place = number * REPLY_BYTES;
+            replies.push(Reply::read(part).ok_or(BadRecord { place })?);
+        }
+        Ok(Replies { replies })
+    }
+
+    pub fn iter(&self) -> std::slice::Iter<'_, Reply> {
+        self.replies.iter()
+    }
+
+    pub fn as_slice(&self) -> &[Reply] {
+        &self.replies
+    }
+
+    pub fn len(&self) -> usize {
+        self.replies.len()
+    }
+
+    pub fn is_empty(&self) -> bool {
+        self.replies.is_empty()
+    }
+}
+
+impl<'a> IntoIterator for &'a Replies {
+    type Item = &'a Reply;
+    type IntoIter = std::slice::Iter<'a, Reply>;
+
+    fn into_iter(self) -> Self::IntoIter {
+        self.iter()
+    }
+}
+
+impl IntoIterator for Replies {
+    type Item = Reply;
+    type IntoIter = std::vec::IntoIter<Reply>;
+
+    fn into_iter(self) -> Self::IntoIter {
+        self.replies.into_iter()
+    }
+}
+
+/// A record in what the program tamburish writes.
+#[derive(Clone, Copy, Debug, PartialEq, Eq)]
+pub enum Record {
+    Reply(Reply),
+    /// The call was refused: FF 0003, the answer, a two-byte number.
+    Refused {
+        answer: Answer,
+        number: u16,
+    },
+}
+
+impl fmt::Display for Record {
+    fn fmt(&self, f: &mut fmt::Formatter) -> fmt::Result {
+        match self {
+            Record::Reply(reply) => reply.fmt(f),
+            Record::Refused { answer, number } => {
+                write!(f, "refused: {answer}, number {number}")
+            }
+        }
+    }
+}
+
+/// Bytes that are neither a reply nor a refused call, with their place.
+#[derive(Clone, Copy, Debug, PartialEq, Eq)]
+pub struct BadRecord {
+    pub place: usize,
+}
+
+impl fmt::Display for BadRecord {
+    fn fmt(&self, f: &mut fmt::Formatter) -> fmt::Result {
+        write!(f, "byte {}: neither a reply nor a refused call", self.place)
+    }
+}
+
+impl std::error::Error for BadRecord {}
+
+/// The records in a row of bytes; it ends after the first that is bad.
+#[derive(Clone, Debug)]
+pub struct Records<'a> {
+    bytes: &'a [u8],
+    place: usize,
+}
+
+impl<'a> Records<'a> {
+    pub fn of(bytes: &'a [u8]) -> Records<'a> {
+        Records { bytes, place: 0 }
+    }
+
+    /// The bytes not yet read.
+    pub fn rest(&self) -> &'a [u8] {
+        self.bytes.get(self.place..).unwrap_or_default()
+    }
+}
+
+fn read_record(bytes: &[u8]) -> Option<(Record, usize)> {
+    if *bytes.first()? != REFUSAL_TAG {
+        return Some((Record::Reply(Reply::read(bytes)?), REPLY_BYTES));
+    }
+    let answer = Answer::from_number(u64::from(*bytes.get(3)?))?;
+    let known = short(bytes, 1)? == REFUSAL_FIELDS && (1..=4).contains(&answer.number());
+    known.then_some((Record::Refused { answer, number: short(bytes, 4)? }, REFUSAL_BYTES))
+}
+
+impl Iterator for Records<'_> {
+    type Item = Result<Record, BadRecord>;
+
+    fn next(&mut self) -> Option<Self::Item> {
+        let rest = self.bytes.get(self.place..).filter(|rest| !rest.is_empty())?;
+        let place = self.place;
+        match read_record(rest) {
+            Some((record, size)) => {
+                self.place += size;
+                Some(Ok(record))
+            }
+            None => {
+                self.place = self.bytes.len();
+                Some(Err(BadRecord { place }))
+            }
+        }
+    }
+}

@@ -1,0 +1,101 @@
+//! The subcommand `lists SEED COUNT MAXLEN`: random command lists with all that comes of them.
+//!
+//! Each list runs from a fresh pool. Numbers are decimal, one space between fields; REPLY is the
+//! 24 reply bytes as 48 lower-case hex digits. One list is these lines, in this order:
+//!
+//! ```text
+//! list N                                       the pool has N nodes (1 to 24)
+//! store INDEX ORDER WORD REPLY needed COUNT    the fields are good: nodes needed (answer 0 or 11)
+//! store INDEX ORDER WORD REPLY                 the fields are refused (answer 5 or 6)
+//! load INDEX REPLY
+//! erase INDEX REPLY
+//! mark INDEX MARK REPLY
+//! unmark INDEX MARK REPLY
+//! find FIRST LAST FILTER BUDGET REPLY
+//!                                              (one such line a command, 1 to MAXLEN of them)
+//! entry BASE ORDER WORD MARKS                  the list after the commands, in index order
+//! place NUMBER SHIFT BLOCK                     node NUMBER is in use for this shift and block
+//! place NUMBER free                            (one place line for each of 0 to N - 1)
+//! word PLACE VALUE                             every nonzero word of the pool, places ascending
+//! end
+//! ```
+
+use crate::awkward::Commands;
+use crate::batch::Command;
+use crate::command::{execute, needed, Done};
+use crate::pool::State;
+use crate::random::Random;
+use std::io::{Result, Write};
+
+const MOST_NODES: u64 = 24;
+
+pub fn print(out: &mut impl Write, seed: u64, count: u64, most: u64) -> Result<()> {
+    let mut random = Random::new(seed);
+    for _ in 0..count {
+        let nodes = 1 + random.below(MOST_NODES) as usize;
+        let length = 1 + random.below(most.max(1));
+        let mut commands = Commands::new(Random::new(random.word()));
+        print_list(out, &mut commands, nodes, length)?;
+    }
+    Ok(())
+}
+
+fn print_list(
+    out: &mut impl Write,
+    commands: &mut Commands,
+    nodes: usize,
+    length: u64,
+) -> Result<()> {
+    writeln!(out, "list {nodes}")?;
+    let mut state = State::empty(nodes);
+    for _ in 0..length {
+        let command = commands.command();
+        let done = execute(&state, command);
+        print_command(out, &state, command, &done)?;
+        state = done.state;
+    }
+    print_state(out, &state)?;
+    writeln!(out, "end")
+}
+
+fn print_command(out: &mut impl Write, state: &State, command: Command, done: &Done) -> Result<()> {
+    write!(out, "{} ", fields(command))?;
+    for byte in done.reply.bytes() {
+        write!(out, "{byte:02x}")?;
+    }
+    if let Command::Store { index, order, word } = command {
+        if let Some(count) = needed(state, index, order, word) {
+            write!(out, " needed {count}")?;
+        }
+    }
+    writeln!(out)
+}
+
+fn fields(command: Command) -> String {
+    match command {
+        Command::Store { index, order, word } => format!("store {index} {order} {word}"),
+        Command::Load { index } => format!("load {index}"),
+        Command::Erase { index } => format!("erase {index}"),
+        Command::Mark { index, mark } => format!("mark {index} {mark}"),
+        Command::Unmark { index, mark } => format!("unmark {index} {mark}"),
+        Command::Find { first, last, filter, budget } => {
+            format!("find {first} {last} {filter} {budget}")
+        }
+    }
+}
+
+fn print_state(out: &mut impl Write, state: &State) -> Result<()> {
+    for entry in &state.list {
+        writeln!(out, "entry {} {} {} {}", entry.base, entry.order, entry.word, entry.marks)?;
+    }
+    for (number, place) in state.places.iter().enumerate() {
+        match place {
+            Some(node) => writeln!(out, "place {number} {} {}", node.shift, node.block)?,
+            None => writeln!(out, "place {number} free")?,
+        }
+    }
+    for (place, word) in state.words().iter().enumerate().filter(|(_, word)| **word != 0) {
+        writeln!(out, "word {place} {word}")?;
+    }
+    Ok(())
+}

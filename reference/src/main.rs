@@ -1,0 +1,67 @@
+//! The program: one batch from standard input on a fresh pool of 40 nodes; also `lists`.
+
+use reference::answers::DONE;
+use reference::batch::{MOST_BATCH_BYTES, REPLY_BYTES};
+use reference::calls::{init, run, Outcome};
+use reference::lists;
+use reference::pool::pool_length;
+use std::io::{self, BufWriter, Read, Write};
+use std::process::ExitCode;
+
+const NODES: usize = 40;
+
+/// The shortest record has 11 bytes, so a batch has no more commands than this.
+const MOST_COMMANDS: usize = MOST_BATCH_BYTES / 11;
+
+fn main() -> ExitCode {
+    let arguments: Vec<String> = std::env::args().skip(1).collect();
+    let written = match arguments.as_slice() {
+        [] => run_program(),
+        [name, seed, count, most] if name == "lists" => print_lists([seed, count, most]),
+        _ => Err(io::Error::other("usage: reference [lists SEED COUNT MAXLEN]")),
+    };
+    match written {
+        Ok(()) => ExitCode::SUCCESS,
+        Err(error) => {
+            eprintln!("reference: {error}");
+            ExitCode::FAILURE
+        }
+    }
+}
+
+/// Standard input to its end. Only one byte more than a batch may have is kept: with it the batch
+/// is too long, whatever follows.
+fn read_batch() -> io::Result<Vec<u8>> {
+    let mut batch = Vec::new();
+    io::stdin().take(MOST_BATCH_BYTES as u64 + 1).read_to_end(&mut batch)?;
+    io::copy(&mut io::stdin(), &mut io::sink())?;
+    Ok(batch)
+}
+
+fn run_program() -> io::Result<()> {
+    let batch = read_batch()?;
+    let mut pool = vec![0; pool_length(NODES)];
+    init(&mut pool);
+    let mut reply = vec![0; REPLY_BYTES * MOST_COMMANDS];
+    let outcome = run(&mut pool, &batch, &mut reply);
+    if outcome.answer == u64::from(DONE) {
+        reply.truncate(REPLY_BYTES * outcome.number as usize);
+    } else {
+        reply = refusal(outcome);
+    }
+    io::stdout().write_all(&reply)
+}
+
+/// A call refusal: tag 255, length 3, answer, two-byte place.
+fn refusal(outcome: Outcome) -> Vec<u8> {
+    let place = (outcome.number as u16).to_be_bytes();
+    vec![255, 0, 3, outcome.answer as u8, place[0], place[1]]
+}
+
+fn print_lists(arguments: [&String; 3]) -> io::Result<()> {
+    let numbers: Result<Vec<u64>, _> = arguments.iter().map(|text| text.parse()).collect();
+    let numbers = numbers.map_err(io::Error::other)?;
+    let mut out = BufWriter::new(io::stdout());
+    lists::print(&mut out, numbers[0], numbers[1], numbers[2])?;
+    out.flush()
+}

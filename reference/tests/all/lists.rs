@@ -1,0 +1,52 @@
+//! The lines that `lists` prints: their shape, and that the same seed prints the same.
+
+use reference::lists::print;
+
+fn printed(seed: u64) -> String {
+    let mut out = Vec::new();
+    print(&mut out, seed, 50, 12).expect("a vector takes all");
+    String::from_utf8(out).expect("plain text")
+}
+
+/// How many fields follow the first word of a line; a place has its own form.
+fn fields(name: &str) -> &'static [usize] {
+    match name {
+        "end" => &[0],
+        "list" => &[1],
+        "store" => &[4, 6],
+        "load" | "erase" | "word" => &[2],
+        "mark" | "unmark" => &[3],
+        "find" => &[5],
+        "entry" => &[4],
+        "place" => &[2, 3],
+        _ => &[],
+    }
+}
+
+#[test]
+fn the_same_seed_prints_the_same() {
+    assert_eq!(printed(5), printed(5));
+    assert_ne!(printed(5), printed(6));
+}
+
+#[test]
+fn the_shape_of_the_lines() {
+    let text = printed(1);
+    for line in text.lines() {
+        let words: Vec<&str> = line.split(' ').collect();
+        assert!(fields(words[0]).contains(&(words.len() - 1)), "{line}");
+    }
+    assert_eq!(text.lines().filter(|line| line.starts_with("list ")).count(), 50);
+    assert_eq!(text.lines().filter(|line| *line == "end").count(), 50);
+}
+
+#[test]
+fn one_place_line_for_each_node() {
+    let text = printed(2);
+    for list in text.split_terminator("end\n") {
+        let count: usize = list.lines().next().expect("a first line")[5..].parse().expect("N");
+        let places = list.lines().filter(|line| line.starts_with("place "));
+        assert_eq!(places.count(), count);
+        assert!(list.contains(&format!("word 0 {count}\n")));
+    }
+}

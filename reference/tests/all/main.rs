@@ -1,0 +1,14 @@
+//! All tests of the reference program. Expected values come from document 01.
+
+mod cases;
+mod cells;
+mod damaged;
+mod finds;
+mod helpers;
+mod invariants;
+mod lists;
+mod mistakes;
+mod parts;
+mod program;
+mod random;
+mod refusals;

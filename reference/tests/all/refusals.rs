@@ -1,0 +1,208 @@
+//! Refused calls and refused fields: exact answers and places, lowest number first.
+
+use crate::helpers::*;
+use reference::batch::Command;
+use reference::calls::{check, init, run, Outcome};
+
+/// Runs a batch that must be refused: neither pool nor reply is altered.
+fn refused(words: &[u64], batch: &[u8], reply_space: usize) -> Outcome {
+    let mut pool = words.to_vec();
+    let mut reply = vec![UNTOUCHED; reply_space];
+    let outcome = run(&mut pool, batch, &mut reply);
+    assert_eq!(pool, words);
+    assert_eq!(reply, vec![UNTOUCHED; reply_space]);
+    outcome
+}
+
+fn load() -> Vec<u8> {
+    bytes_of(Command::Load { index: 0 })
+}
+
+#[test]
+fn pool_lengths() {
+    for length in [0, 1, 4, 5, 72, 74, 141, 143, 69_003, 69_005, 69_073] {
+        let words = vec![0; length];
+        assert_eq!(init(&mut words.clone()), outcome(1, 0), "length {length}");
+        assert_eq!(check(&words), outcome(1, 0), "length {length}");
+        assert_eq!(refused(&words, &[9], 0), outcome(1, 0), "length {length}");
+    }
+    for count in [1, 2, 3, 999, 1000] {
+        let mut words = vec![JUNK; 4 + 69 * count];
+        assert_eq!(init(&mut words), outcome(0, 0));
+        assert_eq!(check(&words), outcome(0, 0));
+    }
+}
+
+#[test]
+fn a_wrong_length_comes_before_wrong_words() {
+    assert_eq!(check(&[JUNK; 74]), outcome(1, 0));
+    assert_eq!(refused(&[JUNK; 74], &[9], 0), outcome(1, 0));
+}
+
+#[test]
+fn wrong_words_come_before_a_bad_batch() {
+    assert_eq!(refused(&[JUNK; 73], &[], 0), outcome(2, 0));
+    assert_eq!(refused(&[JUNK; 73], &[9], 0), outcome(2, 0));
+    assert_eq!(refused(&[JUNK; 73], &[0; 9000], 0), outcome(2, 0));
+    assert_eq!(refused(&[0; 73], &load(), 0), outcome(2, 0));
+}
+
+#[test]
+fn an_empty_batch_has_no_replies() {
+    let mut pool = case_3(3);
+    let before = pool.words.clone();
+    assert_eq!(pool.run(&[], 0), []);
+    assert_eq!(pool.words, before);
+}
+
+#[test]
+fn cut_records() {
+    let pool = Pool::fresh(1);
+    let commands = [
+        Command::Store { index: 1, order: 0, word: 3 },
+        Command::Load { index: 1 },
+        Command::Erase { index: 1 },
+        Command::Mark { index: 1, mark: 0 },
+        Command::Unmark { index: 1, mark: 0 },
+        Command::Find { first: 0, last: 9, filter: 3, budget: 1 },
+    ];
+    for command in commands {
+        let record = bytes_of(command);
+        for cut in 1..record.len() {
+            let batch = [&load()[..], &load()[..], &record[..cut]].concat();
+            assert_eq!(refused(&pool.words, &batch, 240), outcome(3, 22), "{command:?} {cut}");
+        }
+        let batch = [&load()[..], &record[..], &[record[0]]].concat();
+        let place = 11 + record.len() as u64;
+        assert_eq!(refused(&pool.words, &batch, 240), outcome(3, place));
+    }
+}
+
+#[test]
+fn unknown_tags() {
+    let pool = Pool::fresh(1);
+    for tag in (0..=255).filter(|tag| !(1..=6).contains(tag)) {
+        let mut record = load();
+        record[0] = tag;
+        assert_eq!(refused(&pool.words, &record, 240), outcome(3, 0), "tag {tag}");
+        let batch = [load(), record, load()].concat();
+        assert_eq!(refused(&pool.words, &batch, 240), outcome(3, 11), "tag {tag}");
+    }
+}
+
+#[test]
+fn wrong_lengths() {
+    let pool = Pool::fresh(1);
+    for (tag, right) in [(1u8, 17), (2, 8), (3, 8), (4, 9), (5, 9), (6, 19)] {
+        for length in (0..600u16).filter(|length| *length != right) {
+            let [high, low] = length.to_be_bytes();
+            let mut batch = load();
+            batch.extend([tag, high, low]);
+            batch.resize(batch.len() + length as usize, 0);
+            assert_eq!(refused(&pool.words, &batch, 240), outcome(3, 11), "{tag} {length}");
+        }
+    }
+}
+
+#[test]
+fn the_first_bad_record_decides() {
+    let pool = Pool::fresh(1);
+    let batch = [&load()[..], &[7, 0, 0], &[2, 0, 9]].concat();
+    assert_eq!(refused(&pool.words, &batch, 0), outcome(3, 11));
+}
+
+#[test]
+fn too_long_whatever_its_bytes() {
+    let pool = Pool::fresh(1);
+    for length in [8193, 8194, 20_000, 100_000] {
+        assert_eq!(refused(&pool.words, &vec![0; length], 0), outcome(3, 8192));
+    }
+    assert_eq!(refused(&pool.words, &[0; 8192], 0), outcome(3, 0));
+}
+
+#[test]
+fn reply_space() {
+    let pool = Pool::fresh(1);
+    let batch = load().repeat(5);
+    for space in [0, 24, 119] {
+        assert_eq!(refused(&pool.words, &batch, space), outcome(4, 5));
+    }
+    let mut words = pool.words.clone();
+    assert_eq!(run(&mut words, &batch, &mut [0; 120]), outcome(0, 5));
+    let bad_end = [batch, vec![2]].concat();
+    assert_eq!(refused(&pool.words, &bad_end, 0), outcome(3, 55));
+}
+
+#[test]
+fn store_fields_lowest_number_first() {
+    let mut pool = Pool::fresh(1);
+    for order in [64, 65, 128, 255] {
+        pool.expect_store(0, order, 3, only(5));
+        pool.expect_store(0, order, 2, only(5));
+    }
+    for word in [0, 2, 6, 4098, LAST - 1] {
+        pool.expect_store(LAST, 0, word, only(6));
+        pool.expect_store(0, 63, word, only(6));
+    }
+    pool.expect_store(LAST, 0, 1, only(11));
+    pool.assert_words(&[]);
+    for word in [1, 3, 4, 8, LAST, LAST - 3, 1 << 63] {
+        pool.expect_store(0, 0, word, gives(0, 0, word, 0));
+    }
+}
+
+#[test]
+fn mark_fields_lowest_number_first() {
+    let mut pool = case_2(1);
+    for mark in [3, 4, 128, 255] {
+        pool.expect_mark(0, mark, only(7));
+        pool.expect_unmark(0, mark, only(7));
+        pool.expect_mark(5, mark, only(7));
+        pool.expect_unmark(5, mark, only(7));
+    }
+    pool.expect_mark(5, 2, only(10));
+    pool.expect_unmark(5, 2, only(10));
+    pool.expect_erase(5, only(10));
+    pool.assert_words(&[(1, 3)]);
+}
+
+#[test]
+fn find_fields_lowest_number_first() {
+    let mut pool = case_2(1);
+    let mut expect = |first, last, filter, budget, answer| {
+        pool.expect(Command::Find { first, last, filter, budget }, only(answer));
+    };
+    expect(1, 0, 4, 0, 7);
+    expect(0, 0, 255, 1, 7);
+    expect(1, 0, 3, 0, 8);
+    expect(LAST, LAST - 1, 0, 1, 8);
+    expect(0, 0, 3, 0, 9);
+}
+
+#[test]
+fn marking_twice_and_unmarking_twice_are_done() {
+    let mut pool = case_2(1);
+    pool.expect_unmark(0, 1, gives(0, 0, 3, 0));
+    pool.expect_mark(0, 1, gives(0, 0, 3, 2));
+    pool.expect_mark(0, 1, gives(0, 0, 3, 2));
+    pool.assert_words(&[(1, 3), (2, 2)]);
+    pool.expect_erase(0, gives(0, 0, 3, 2));
+    pool.assert_words(&[]);
+}
+
+#[test]
+fn a_refused_command_does_not_stop_the_next() {
+    let commands = [
+        Command::Store { index: 0, order: 64, word: 3 },
+        Command::Store { index: 0, order: 0, word: 3 },
+        Command::Load { index: 1 },
+        Command::Load { index: 0 },
+    ];
+    let mut pool = Pool::fresh(1);
+    let replies = pool.run(&batch_of(&commands), 4);
+    let said = [only(5), gives(0, 0, 3, 0), only(10), gives(0, 0, 3, 0)];
+    let tags = [1, 1, 2, 2];
+    let expected: Vec<u8> = said.iter().zip(tags).flat_map(|(s, tag)| s.bytes(tag)).collect();
+    assert_eq!(replies, expected);
+    pool.assert_words(&[(1, 3)]);
+}

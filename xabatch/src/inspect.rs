@@ -1,0 +1,332 @@
+//! Reads the words of a pool into a tree, and lists what is wrong with them.
+//!
+//! There are no findings exactly if the pool is well-formed; the library's own check is the
+//! judge, and the tests hold this one to it.
+
+use std::fmt;
+use xapool_host::{node_count, Marks, Word};
+
+const SLOTS: usize = 64;
+const WIDEST_SHIFT: u64 = 60;
+const NODE_OFFSET: u64 = 1024;
+const NODE_WORDS: usize = 69;
+
+/// Something wrong, with the place of the word.
+#[derive(Clone, Debug, PartialEq, Eq)]
+pub struct Finding {
+    pub place: usize,
+    pub message: String,
+}
+
+impl fmt::Display for Finding {
+    fn fmt(&self, f: &mut fmt::Formatter) -> fmt::Result {
+        write!(f, "word {}: {}", self.place, self.message)
+    }
+}
+
+/// A node as the walk from the head met it.
+#[derive(Clone, Debug, PartialEq, Eq)]
+pub struct Node {
+    pub number: usize,
+    pub shift: u64,
+    /// The first index of its block.
+    pub start: u128,
+    pub slots: Vec<Slot>,
+    /// Mark m is worth 2^m if its mark word is not 0.
+    pub marks: Marks,
+}
+
+/// The slots that are not empty.
+#[derive(Clone, Debug, PartialEq, Eq)]
+pub enum Slot {
+    Entry {
+        slot: usize,
+        run: usize,
+        word: Word,
+        marks: Marks,
+    },
+    Node {
+        slot: usize,
+        marks: Marks,
+        child: Node,
+    },
+    /// A word that no slot may hold here.
+    Bad {
+        slot: usize,
+        word: u64,
+    },
+}
+
+#[derive(Clone, Debug, PartialEq, Eq)]
+pub enum Head {
+    Empty,
+    Entry(Word),
+    Node(Node),
+    Bad(u64),
+}
+
+/// All that was read. `nodes` is none if no pool has so many words.
+#[derive(Clone, Debug, PartialEq, Eq)]
+pub struct Report {
+    pub words: usize,
+    pub nodes: Option<usize>,
+    pub head: Head,
+    pub marks: u64,
+    pub in_use: usize,
+    pub findings: Vec<Finding>,
+}
+
+pub fn inspect(words: &[u64]) -> Report {
+    let nodes = node_count(words.len());
+    let seen = vec![false; nodes.unwrap_or(0)];
+    let mut walk = Walk { words, seen, findings: Vec::new() };
+    let mut head = Head::Empty;
+    match nodes {
+        Some(count) => {
+            head = walk.head();
+            walk.anchor(count, &head);
+            walk.unreached();
+        }
+        None => {
+            let message = format!("{} words, not 4 + 69 N with N from 1 to 1,000", words.len());
+            walk.find(0, message);
+        }
+    }
+    walk.findings.sort_by_key(|finding| finding.place);
+    let in_use = walk.seen.iter().filter(|seen| **seen).count();
+    let marks = walk.word(2);
+    Report { words: words.len(), nodes, head, marks, in_use, findings: walk.findings }
+}
+
+struct Walk<'a> {
+    words: &'a [u64],
+    seen: Vec<bool>,
+    findings: Vec<Finding>,
+}
+
+fn node_place(number: usize) -> usize {
+    4 + NODE_WORDS * number
+}
+
+fn slot_place(number: usize, slot: usize) -> usize {
+    node_place(number) + 5 + slot
+}
+
+fn sibling_word(slot: usize) -> u64 {
+    4 * slot as u64 + 2
+}
+
+impl Walk<'_> {
+    fn word(&self, place: usize) -> u64 {
+        self.words.get(place).copied().unwrap_or(0)
+    }
+
+    fn find(&mut self, place: usize, message: String) {
+        self.findings.push(Finding { place, message });
+    }
+
+    fn expect(&mut self, place: usize, name: &str, expected: u64) {
+        let found = self.word(place);
+        if found != expected {
+            self.find(place, format!("{name} is {found}, expected {expected}"));
+        }
+    }
+
+    /// The number in a node's word, if the pool has that node.
+    fn node_number(&self, word: u64) -> Option<usize> {
+        let number = (word / 4).checked_sub(NODE_OFFSET)?;
+        let number = usize::try_from(number).ok()?;
+        (word % 4 == 2 && number < self.seen.len()).then_some(number)
+    }
+
+    fn head(&mut self) -> Head {
+        let head = self.word(1);
+        if head == 0 {
+            return Head::Empty;
+        }
+        if Word(head).is_entry() {
+            return Head::Entry(Word(head));
+        }
+        let Some(number) = self.node_number(head) else {
+            self.find(1, format!("the head {head:#x} is neither an entry nor a node of this pool"));
+            return Head::Bad(head);
+        };
+        let place = node_place(number);
+        let shift = self.word(place).wrapping_sub(1);
+        if shift > WIDEST_SHIFT || !shift.is_multiple_of(6) {
+            let found = self.word(place);
+            self.find(place, format!("shift + 1 of the head is {found}: no shift of a node"));
+            return Head::Bad(head);
+        }
+        let node = self.node(number, shift, 0, 0);
+        self.least_head(&node);
+        Head::Node(node)
+    }
+
+    /// A head is no wider than it must be.
+    fn least_head(&mut self, head: &Node) {
+        let place = node_place(head.number);
+        match head.slots[..] {
+            [Slot::Node { slot: 0, .. }] => {
+                self.find(place, "the head is too wide: all lies below its slot 0".into());
+            }
+            [Slot::Entry { slot: 0, run: 1, .. }] if head.shift == 0 => {
+                self.find(place, "the head is too wide: one entry at index 0 needs no node".into());
+            }
+            _ => {}
+        }
+    }
+
+    fn anchor(&mut self, count: usize, head: &Head) {
+        self.expect(0, "N", count as u64);
+        self.expect(3, "the fourth word", 0);
+        match head {
+            Head::Empty => self.expect(2, "the marks byte", 0),
+            Head::Node(node) => self.expect(2, "the marks byte", u64::from(node.marks.0)),
+            Head::Entry(_) if self.word(2) > 7 => {
+                let found = self.word(2);
+                self.find(2, format!("the marks byte is {found}, expected 0 to 7"));
+            }
+            _ => {}
+        }
+    }
+
+    /// Reads a node and all below. No node is read twice and the shift falls, so this ends.
+    fn node(&mut self, number: usize, shift: u64, start: u128, owner: u64) -> Node {
+        self.seen[number] = true;
+        let place = node_place(number);
+        self.expect(place, "shift + 1", shift + 1);
+        self.expect(place + 1, "the owner", owner);
+        let mut slots = Vec::new();
+        let mut slot = 0;
+        while slot < SLOTS {
+            let run = self.run(number, slot);
+            slots.extend(self.slot(number, shift, start, slot, run));
+            slot += run;
+        }
+        if slots.is_empty() {
+            self.find(place, format!("node {number} is empty"));
+        }
+        let marks = self.mark_words(number, &slots);
+        Node { number, shift, start, slots, marks }
+    }
+
+    /// How many slots the entry at this slot takes: itself and the siblings that follow.
+    fn run(&self, number: usize, slot: usize) -> usize {
+        let word = |slot| self.word(slot_place(number, slot));
+        if !Word(word(slot)).is_entry() {
+            return 1;
+        }
+        1 + (slot + 1..SLOTS).take_while(|next| word(*next) == sibling_word(slot)).count()
+    }
+
+    fn slot(
+        &mut self,
+        number: usize,
+        shift: u64,
+        start: u128,
+        slot: usize,
+        run: usize,
+    ) -> Option<Slot> {
+        let place = slot_place(number, slot);
+        let word = self.word(place);
+        if word == 0 {
+            return None;
+        }
+        let bad = Some(Slot::Bad { slot, word });
+        if shift == WIDEST_SHIFT && slot >= 16 {
+            self.find(place, format!("slot {slot} lies past 2^64 and is not 0"));
+            return bad;
+        }
+        if Word(word).is_entry() {
+            self.entry_run(place, shift, slot, run);
+            let marks = self.slot_marks(number, slot);
+            return Some(Slot::Entry { slot, run, word: Word(word), marks });
+        }
+        match self.child(word, shift) {
+            Ok(child) => {
+                let owner = 1 + (SLOTS * number + slot) as u64;
+                let child = self.node(child, shift - 6, start + ((slot as u128) << shift), owner);
+                Some(Slot::Node { slot, marks: self.slot_marks(number, slot), child })
+            }
+            Err(message) => {
+                self.find(place, format!("slot {slot}: {message}"));
+                bad
+            }
+        }
+    }
+
+    fn entry_run(&mut self, place: usize, shift: u64, slot: usize, run: usize) {
+        let aligned = run.is_power_of_two() && slot.is_multiple_of(run);
+        let order = shift + u64::from(run.ilog2());
+        if !aligned || run == SLOTS || order > 63 {
+            self.find(
+                place,
+                format!("the entry takes {run} slots from {slot}: no order has these"),
+            );
+        }
+    }
+
+    /// The number of the node that a slot's word leads to, or what is wrong with that word.
+    fn child(&self, word: u64, shift: u64) -> Result<usize, String> {
+        if word / 4 < SLOTS as u64 {
+            return Err(format!("a sibling of slot {} that follows no such entry", word / 4));
+        }
+        let Some(number) = self.node_number(word) else {
+            return Err(format!("{word:#x} is no word of a slot in this pool"));
+        };
+        if shift == 0 {
+            return Err(format!("node {number} below a node of shift 0"));
+        }
+        if self.seen[number] {
+            return Err(format!("node {number} is reached a second time"));
+        }
+        Ok(number)
+    }
+
+    fn slot_marks(&self, number: usize, slot: usize) -> Marks {
+        let place = node_place(number) + 2;
+        Marks((0..3).map(|mark| ((self.word(place + mark) >> slot & 1) as u8) << mark).sum())
+    }
+
+    /// Compares the three mark words with what the slots call for; gives the marks of the node.
+    fn mark_words(&mut self, number: usize, slots: &[Slot]) -> Marks {
+        let mut marks = 0;
+        for mark in 0..3 {
+            let place = node_place(number) + 2 + mark;
+            let found = self.word(place);
+            marks |= u8::from(found != 0) << mark;
+            let expected = slots.iter().fold(0, |bits, slot| bits | expected_bit(slot, mark as u8));
+            for slot in (0..SLOTS).filter(|slot| (found ^ expected) >> slot & 1 == 1) {
+                let is = if found >> slot & 1 == 1 { "set" } else { "clear" };
+                let other = if is == "set" { "clear" } else { "set" };
+                self.find(place, format!("mark {mark} of slot {slot} is {is}, expected {other}"));
+            }
+        }
+        Marks(marks)
+    }
+
+    /// Every node that the tree does not reach is all zeros.
+    fn unreached(&mut self) {
+        for number in 0..self.seen.len() {
+            let place = node_place(number);
+            let words = &self.words[place..place + NODE_WORDS];
+            let wrong = words.iter().filter(|word| **word != 0).count();
+            let first = words.iter().position(|word| *word != 0);
+            if let (false, Some(first)) = (self.seen[number], first) {
+                let message =
+                    format!("node {number} is in no slot, but {wrong} of its words are not 0");
+                self.find(place + first, message);
+            }
+        }
+    }
+}
+
+/// The bit of this slot in the word of a mark: an entry's own, whatever it is, or what lies below.
+fn expected_bit(slot: &Slot, mark: u8) -> u64 {
+    match slot {
+        Slot::Entry { slot, marks, .. } => u64::from(marks.has(mark)) << slot,
+        Slot::Node { slot, child, .. } => u64::from(child.marks.has(mark)) << slot,
+        Slot::Bad { .. } => 0,
+    }
+}
