@@ -7,7 +7,7 @@ use mathlib.Core.Option.{Option, none, some}
 use native.Mathlib.Omega.{arith}
 use native.Mathlib.Nat.{le-refl, div-one}
 use lib.Dec.{leb, ltb, eqb}
-use lib.ListN.{length, getD, length-set}
+use lib.ListN.{length, getD}
 use lib.Seq.{getD-set-same, getD-set-other}
 use borrow.Author.Tests.{
   leb-true,
@@ -37,6 +37,7 @@ use Rattle.tree.proofs.StoreLaws.{within-only}
 use Rattle.layout.specs.Words.{fieldAt, place, nodeWords, slotField, poolWords}
 use Rattle.layout.specs.Places.{Places, numberIn, Placed}
 use Rattle.layout.specs.Fill.{filled}
+use Rattle.layout.proofs.FillLaws.{length-filled}
 use Rattle.layout.proofs.NewNumberLaws.{stands-at}
 use Rattle.layout.proofs.NumberLaws.{nd, number-of, in-standing}
 use Rattle.layout.specs.declared.Slot.{Slot}
@@ -52,22 +53,13 @@ get-filled ws a x (suc d) p le =
     byT (eqb p (a + d))
     (λ t. let e : p ≡ a + d = eqb-true _ _ t in
     rw (le-leb a p (omega arith), lt-ltb p (a + suc d) (omega arith), e)
-    (getD-set-same (filled ws a x d) (a + d) x 0 (subst (λ (y : ℕ). a + d < y) (sym (long d)) (omega arith))))
+    (getD-set-same (filled ws a x d) (a + d) x 0 (subst (λ (y : ℕ). a + d < y) (sym (length-filled ws a x d)) (omega arith))))
     (λ t. let ne : p ≡ a + d → ⊥ = eqb-false _ _ t in
     getD-set-other (filled ws a x d) (a + d) p x 0 ne ∙
     (get-filled ws a x d p (omega arith) ∙ ap (λ (b : Bool). pick (both (leb a p) b) x (getD ws p 0))
     (iff (ltb p (a + d)) (ltb p (a + suc d)) (λ s. lt-ltb p (a + suc d)
     (let h : p < a + d = ltb-true _ _ s in omega arith))
     (λ s. lt-ltb p (a + d) (let h : p < a + suc d = ltb-true _ _ s in omega arith)))))
-  where
-    long : (d : ℕ) → length (filled ws a x d) ≡ length ws
-    long zero = refl
-    long (suc d) = simp length-set (long d)
-
-pub length-filled : (ws : List ℕ) (a x d : ℕ) → length (filled ws a x d) ≡ length ws
-unfolding filled
-length-filled ws a x zero = refl
-length-filled ws a x (suc d) = simp length-set (length-filled ws a x d)
 
 -- the nodes at the numbers that q says are 0 now, and the rest is as it was
 pub record Freed (n : ℕ) (q : ℕ → Bool) (ws ws′ : List ℕ) : Type 0 where

@@ -87,7 +87,7 @@ module _ (n : ℕ) (l : List Entry) (os : Places) (pl : Placed n l os) (valid : 
       (parent l′ (suc v) b (stays l valid i k w i< k≤ new (suc v) b t a) h′)))
       (λ d q c. let t₁ : has l v d ≡ true = has-in l v d (omega arith) c in
       kept n l os pl l′ enough v d t₁
-      (stays l valid i k w i< k≤ new v d t₁ (apart-slot i k w l room v b d a q)))
+      (stays l valid i k w i< k≤ new v d t₁ (apart-slot i k v b d a q)))
     where
       room : All (Room i k) l
       room = rooms l valid i k w i< k≤ new
