@@ -1,10 +1,10 @@
-// Planning a store: the tier of the new head, the nodes on the way, and the numbers of the new nodes. Nothing is written
-// in the pool.
+// Planning a store: the tier of the new head, the nodes on the way, and the numbers of the new nodes. Nothing is
+// written in the pool.
 //
 // pool: the borrowed words, well-formed; n: how many nodes it has, or the number of one; low: below it every node is in
-// use; index, order, word: what is stored; u, t: a tier; v: the tier of the slots that hold the entry; h, top: the tier
-// of the head before and after; d: the lowest tier of the path that is there; path, chain: the numbers of the nodes over
-// the index and over index 0, by tier; nums: free numbers, lowest first.
+// use; index, order, word: what is stored; u, t: a tier; v: the tier of the slots that hold the entry; h, top: the
+// tier of the head before and after; d: the lowest tier of the path that is there; path, chain: the numbers of the
+// nodes over the index and over index 0, by tier; nums: free numbers, lowest first.
 use layout::HEAD_WORD;
 use layout::NODE_OFFSET;
 use layout::SLOT_BITS;
@@ -40,8 +40,8 @@ pub struct Taken {
     pub next: u64,
 }
 
-// What planning comes to: too few nodes are free; numbers are chosen, and below the given one every node is in use then,
-// but for those that the store frees.
+// What planning comes to: too few nodes are free; numbers are chosen, and below the given one every node is in use
+// then, but for those that the store frees.
 pub enum Choice {
     TooFew,
     Chosen(u64),
@@ -94,7 +94,8 @@ fn take_free(pool: &[u64], nums: &mut [u64], n: u64, low: u64, need: u64) -> Tak
     requires { do ⌜ need ≤ (← ⟦nums.len()⟧) ⌝ }
     requires { ⌜ ((s : WellFormed (now pool)) → (n ≡ s .n) × (low ≤ n) ×
         ((m : ℕ) → m < low → getD (s .places) m none ≡ none → ⊥)) ⌝ }
-    ensures { λ r. ⌜ ((s : WellFormed (now (pool .entry))) → Found (s .places) need (now (nums .exit)) (r .count) (r .next)) ⌝ }
+    ensures { λ r. ⌜ ((s : WellFormed (now (pool .entry))) →
+        Found (s .places) need (now (nums .exit)) (r .count) (r .next)) ⌝ }
 {
     let mut m = low;
     let mut cnt = 0;
@@ -164,7 +165,8 @@ fn is_node(w: u64) -> bool
     w >= NODES_FROM
 }
 
-// The numbers of the nodes on the path, from the head, number first of tier h, down to tier v + 1 at most; the lowest tier there is.
+// The numbers of the nodes on the path, from the head, number first of tier h, down to tier v + 1 at most; returns the
+// lowest tier there is.
 fn walk(pool: &[u64], path: &mut [u64], index: u64, v: u64, h: u64, first: u64) -> u64
     requires { ⌜ WellFormed (now pool) ⌝ }
     requires { ⌜ (v < h) × (h ≤ topTier) × (topTier < length (now path)) ⌝ }
@@ -316,8 +318,10 @@ pub fn plan(
     head: u64,
 ) -> Choice
     requires { ⌜ WellFormed (now pool) ⌝ }
-    requires { ⌜ (order ≤ maxOrder) × (head ≡ getD (now pool) 1 0) × (topTier < length (now path)) × (topTier < length (now chain)) ⌝ }
-    requires { ⌜ ((s : WellFormed (now pool)) → Known (s .n) (s .list) (s .places) index order word n low h top head) ⌝ }
+    requires { ⌜ (order ≤ maxOrder) × (head ≡ getD (now pool) 1 0) ×
+        (topTier < length (now path)) × (topTier < length (now chain)) ⌝ }
+    requires { ⌜ ((s : WellFormed (now pool)) →
+        Known (s .n) (s .list) (s .places) index order word n low h top head) ⌝ }
     ensures { λ r. ⌜ ((s : WellFormed (now (pool .entry))) →
         Planned (s .list) (s .places) index order word (now (path .exit)) (now (chain .exit)) r) ⌝ }
 {

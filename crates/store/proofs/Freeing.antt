@@ -7,7 +7,7 @@ use mathlib.Core.Option.{Option, none, some}
 use native.Mathlib.Omega.{arith}
 use native.Mathlib.Nat.{le-refl, div-one}
 use lib.Dec.{leb, ltb, eqb}
-use lib.ListN.{length, getD, length-set}
+use lib.ListN.{length, getD}
 use lib.Seq.{getD-set-same, getD-set-other}
 use borrow.Author.Tests.{
   leb-true,
@@ -31,15 +31,15 @@ use Rattle.blocks.proofs.BlockLaws.{block-block}
 use Rattle.model.specs.declared.Entry.{Entry}
 use Rattle.model.specs.Model.{EntryOk, within}
 use Rattle.tree.specs.Tree.{has, height, Node, tierOrder, slots}
-use Rattle.tree.specs.Slots.{nodeWord, siblingWord, slot, nodeOffset}
+use Rattle.tree.specs.Slots.{slot}
 use Rattle.tree.proofs.SlotLaws.{tier-up}
 use Rattle.tree.proofs.StoreLaws.{within-only}
-use Rattle.tree.proofs.ReadLaws.{Seen, see, nothing, lower, entry, sibling, word-kind}
 use Rattle.layout.specs.Words.{fieldAt, place, nodeWords, slotField, poolWords}
 use Rattle.layout.specs.Places.{Places, numberIn, Placed}
 use Rattle.layout.specs.Fill.{filled}
+use Rattle.layout.proofs.FillLaws.{length-filled}
 use Rattle.layout.proofs.NewNumberLaws.{stands-at}
-use Rattle.layout.proofs.NumberLaws.{nd, number-at, number-of, in-standing}
+use Rattle.layout.proofs.NumberLaws.{nd, number-of, in-standing}
 use Rattle.layout.specs.declared.Slot.{Slot}
 use Rattle.layout.proofs.SlotWordLaws.{View, v-empty, v-held, v-sibling, v-child, view}
 use Rattle.store.specs.Writes.{freeBelow, freeSlot, freeSlots, freeTree}
@@ -47,27 +47,19 @@ use Rattle.store.specs.Writes.{freeBelow, freeSlot, freeSlots, freeTree}
 pub get-filled : (ws : List ℕ) (a x d p : ℕ) → a + d ≤ length ws →
     getD (filled ws a x d) p 0 ≡ pick (both (leb a p) (ltb p (a + d))) x (getD ws p 0)
 unfolding filled
-get-filled ws a x zero p le = byT (leb a p) (λ t. rw (t, le-ltb p (a + 0) (omega (arith, leb-true))) refl) (λ t. rw t)
+get-filled ws a x zero p le = byT (leb a p) (λ t. rw (t, le-ltb p (a + 0) (omega (arith, leb-true))) refl)
+    (λ t. rw t)
 get-filled ws a x (suc d) p le =
     byT (eqb p (a + d))
     (λ t. let e : p ≡ a + d = eqb-true _ _ t in
     rw (le-leb a p (omega arith), lt-ltb p (a + suc d) (omega arith), e)
-    (getD-set-same (filled ws a x d) (a + d) x 0 (subst (λ (y : ℕ). a + d < y) (sym (long d)) (omega arith))))
+    (getD-set-same (filled ws a x d) (a + d) x 0 (subst (λ (y : ℕ). a + d < y) (sym (length-filled ws a x d)) (omega arith))))
     (λ t. let ne : p ≡ a + d → ⊥ = eqb-false _ _ t in
     getD-set-other (filled ws a x d) (a + d) p x 0 ne ∙
     (get-filled ws a x d p (omega arith) ∙ ap (λ (b : Bool). pick (both (leb a p) b) x (getD ws p 0))
     (iff (ltb p (a + d)) (ltb p (a + suc d)) (λ s. lt-ltb p (a + suc d)
     (let h : p < a + d = ltb-true _ _ s in omega arith))
     (λ s. lt-ltb p (a + d) (let h : p < a + suc d = ltb-true _ _ s in omega arith)))))
-  where
-    long : (d : ℕ) → length (filled ws a x d) ≡ length ws
-    long zero = refl
-    long (suc d) = simp length-set (long d)
-
-pub length-filled : (ws : List ℕ) (a x d : ℕ) → length (filled ws a x d) ≡ length ws
-unfolding filled
-length-filled ws a x zero = refl
-length-filled ws a x (suc d) = simp length-set (length-filled ws a x d)
 
 -- the nodes at the numbers that q says are 0 now, and the rest is as it was
 pub record Freed (n : ℕ) (q : ℕ → Bool) (ws ws′ : List ℕ) : Type 0 where
@@ -105,12 +97,14 @@ pub freed-node : (n : ℕ) (ws : List ℕ) (a : ℕ) → length ws ≡ poolWords
     Freed n (λ m. eqb a m) ws (filled ws (poolWords a) 0 nodeWords)
 freed-node n ws a len lt = record {
   long = length-filled ws (poolWords a) 0 nodeWords;
-  anchor = λ i h. get-filled ws (poolWords a) 0 nodeWords i (omega arith) ∙ rw (lt-leb (poolWords a) i (omega arith));
+  anchor = λ i h. get-filled ws (poolWords a) 0 nodeWords i (omega arith) ∙ rw
+      (lt-leb (poolWords a) i (omega arith));
   words = λ m f p q. get-filled ws (poolWords a) 0 nodeWords (place m f) (omega arith) ∙ ap
       (λ (t : Bool). pick t 0 (getD ws (place m f) 0)) (inside m f q);
 }
   where
-    inside : (m f : ℕ) → f < nodeWords → both (leb (poolWords a) (place m f)) (ltb (place m f) (place a nodeWords)) ≡
+    inside : (m f : ℕ) → f < nodeWords → both (leb (poolWords a) (place m f)) (ltb (place m f) (place a nodeWords))
+        ≡
         eqb a m
     inside m f q =
         byT (eqb a m) (λ t. let e : a ≡ m = eqb-true _ _ t in
@@ -154,7 +148,8 @@ module _ (n : ℕ) (l : List Entry) (os : Places) (pl : Placed n l os) (ok : All
           let le : p .tier ≤ u = leb-true _ _ (both-l (leb (p .tier) u) _ s) in
           let q : block (tierOrder (u - p .tier)) (p .number) ≡ b = eqb-true _ _ (both-r (leb (p .tier) u) _ s) in
           let h : has l (p .tier) (p .number) ≡ true = pl .sound p (in-standing p os m e) in
-          let (x, k, w) = any-in (within (tierOrder (p .tier)) (p .number)) l (both-r (leb (p .tier) (height l)) _ h)
+          let (x, k, w) = any-in (within (tierOrder (p .tier)) (p .number)) l
+          (both-r (leb (p .tier) (height l)) _ h)
           in
           let lo : x .order < tierOrder (p .tier) = ltb-true _ _ (both-l (ltb (x .order) (tierOrder (p .tier))) _ w)
           in
@@ -236,7 +231,8 @@ module _ (n : ℕ) (l : List Entry) (os : Places) (pl : Placed n l os) (ok : All
         not-self c g = omega (
           arith,
           leb-true (suc u) u
-              (both-l (leb (suc u) u) _ (subst (λ (x : Option Node). below u c x ≡ true) (stands-at n l os pl (suc u) b t .1) g)),
+              (both-l (leb (suc u) u) _ (subst (λ (x : Option Node). below u c x ≡ true)
+              (stands-at n l os pl (suc u) b t .1) g)),
         )
 
   -- under (u + 1, b): under one of its slots, or the node itself
@@ -264,10 +260,12 @@ module _ (n : ℕ) (l : List Entry) (os : Places) (pl : Placed n l os) (ok : All
       to s = either-e (ups u (slots * b + 0) slots m) _ s
           (λ a. let (x, h, g) = ups-in u (slots * b + 0) slots m a in
           up (slots * b + 0 + x) (getD os m none) (omega arith) g)
-          (λ a. let z : under (suc u) b (numberIn os (suc u) b) ≡ true = rw (stands-at n l os pl (suc u) b t .1) self in
+          (λ a. let z : under (suc u) b (numberIn os (suc u) b) ≡ true = rw (stands-at n l os pl (suc u) b t .1)
+          self in
           subst (λ (y : ℕ). under (suc u) b y ≡ true) (eqb-true _ _ a) z)
 
-      back : under (suc u) b m ≡ true → either (ups u (slots * b + 0) slots m) (eqb (numberIn os (suc u) b) m) ≡ true
+      back : under (suc u) b m ≡ true → either (ups u (slots * b + 0) slots m) (eqb (numberIn os (suc u) b) m) ≡
+          true
       back s = go (getD os m none) refl s
         where
           go : (o : Option Node) → getD os m none ≡ o → below (suc u) b o ≡ true →
@@ -314,7 +312,8 @@ module _ (n : ℕ) (l : List Entry) (os : Places) (pl : Placed n l os) (ok : All
       rd : (x : ℕ) → x < slots → (numberIn os (suc u) b < n) ×
           (getD os (numberIn os (suc u) b) none ≡ some (nd (suc u) b)) →
           under (suc u) b (numberIn os (suc u) b) ≡ true →
-          getD ws (place (numberIn os (suc u) b) (slotField + (0 + x))) 0 ≡ slot l (numberIn os) u (slots * b + 0 + x)
+          getD ws (place (numberIn os (suc u) b) (slotField + (0 + x))) 0 ≡ slot l (numberIn os) u
+          (slots * b + 0 + x)
       rd x h at me =
           let e₁ : suc u - 1 ≡ u = omega arith in
           let e₂ : slots * b + (5 + (0 + x) - 5) ≡ slots * b + 0 + x = omega arith in

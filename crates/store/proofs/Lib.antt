@@ -11,3 +11,5 @@ pub mod HeadEntry
 pub mod SparedLaws
 pub mod Replaced
 pub mod Results
+pub mod StoreFootprint
+pub mod AfterLaws

@@ -8,7 +8,7 @@ use native.Mathlib.Omega.{arith}
 use native.Mathlib.Numerals.{add-one}
 use lib.Dec.{T}
 use borrow.Author.Tests.{le-leb, lt-leb}
-use lib.ListN.{length, getD, set}
+use lib.ListN.{getD, set}
 use lib.Seq.{getD-set-other}
 use Rattle.blocks.specs.Lists.{any, In}
 use Rattle.blocks.specs.Blocks.{block}
@@ -26,11 +26,11 @@ use Rattle.model.specs.Model.{
   store,
 }
 use Rattle.model.proofs.ValidLaws.{store-at-valid, store-valid, room}
-use Rattle.tree.specs.Tree.{slots, tierOrder, has, height, needed}
+use Rattle.tree.specs.Tree.{slots, tierOrder, height}
 use Rattle.tree.proofs.ReadLaws.{over-some}
 use Rattle.tree.proofs.StoreLaws.{store-covering}
 use Rattle.layout.specs.Words.{place, countWord, shiftField, slotField}
-use Rattle.layout.specs.Places.{numberIn, freeCount, newPlaces, render}
+use Rattle.layout.specs.Places.{numberIn, newPlaces}
 use Rattle.layout.specs.WellFormed.{WellFormed, InUse, num}
 use Rattle.layout.proofs.PlacesLaws.{placed-new}
 use Rattle.layout.proofs.RenderWordLaws.{render-anchor}
@@ -39,8 +39,8 @@ use Rattle.lookup.proofs.WordLaws.{pool-marks, node-at}
 use Rattle.plan.specs.Plan.{Known, Given}
 use Rattle.plan.proofs.AfterStore.{has-path}
 use Rattle.plan.proofs.FreeNumbers.{free-zero, zero-free}
-use Rattle.store.specs.Writes.{offset, span}
-use Rattle.store.specs.Stored.{Ready, Written, Holding, Stores, Stored, Done, Short}
+use Rattle.store.specs.Writes.{offset}
+use Rattle.store.specs.Stored.{Ready, Written, Stores, Stored, Done}
 use Rattle.store.proofs.HeadEntry.{flat-words, flat-entry, nothing-needed}
 use Rattle.store.proofs.Replaced.{replaced-head, replaced-node}
 use Rattle.store.proofs.RunLaws.{first-slot, base-slot, run-fits, span-some}

@@ -1,11 +1,10 @@
 -- Nodes that freeing leaves alone.
-use Prim.Native.Nat.{ℕ, zero, suc, _+_, _≤_, _<_, min}
+use Prim.Native.Nat.{ℕ, min}
 use mathlib.Core.Path.{_≡_, refl, subst, _∙_}
 use mathlib.Core.List.{List}
 use native.Mathlib.Omega.{arith}
-use lib.ListN.{getD}
-use lib.Seq.{getD-set-other}
 use Rattle.layout.specs.Fill.{filled}
+use Rattle.layout.proofs.FillLaws.{filled-before}
 use Rattle.layout.specs.Words.{place, poolWords, nodeWords, shiftField}
 use Rattle.store.specs.Writes.{Spared}
 
@@ -20,17 +19,11 @@ spared-then a b = let x = a .at-most in let y = b .at-most in record {
 }
 
 -- node n is zeroed
-fill-other : (ws : List ℕ) (a x d p : ℕ) → p < a → getD (filled ws a x d) p 0 ≡ getD ws p 0
-unfolding filled
-fill-other ws a x zero p h = refl
-fill-other ws a x (suc d) p h =
-    getD-set-other (filled ws a x d) (a + d) p x 0 (omega arith) ∙ fill-other ws a x d p h
-
 pub spared-node : {low r : ℕ} {ws ws′ : List ℕ} (n : ℕ) → Spared low r ws ws′ →
     Spared low (min r n) ws (filled ws′ (poolWords n) 0 nodeWords)
 spared-node {ws′} n a = let x = a .at-most in record {
   at-most = omega arith;
-  same = λ m h. fill-other ws′ (poolWords n) 0 nodeWords (place m shiftField) (omega arith) ∙ a .same m (omega arith);
+  same = λ m h. filled-before ws′ (poolWords n) 0 nodeWords (place m shiftField) (omega arith) ∙ a .same m (omega arith);
 }
 
 pub spared-zeroed : {low r q : ℕ} {ws ws′ ws″ : List ℕ} (n : ℕ) → Spared low r ws ws′ →

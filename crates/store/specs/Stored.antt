@@ -1,9 +1,9 @@
 -- What writing a new entry asks and leaves, and what a store comes to.
-use Prim.Native.Nat.{ℕ, _≤_, _<_}
+use Prim.Native.Nat.{ℕ, _≤_, _<_, max}
 use mathlib.Core.Path.{_≡_}
 use mathlib.Core.Bool.{false}
 use mathlib.Core.List.{List}
-use mathlib.Core.Option.{none, some}
+use mathlib.Core.Option.{Option, none, some}
 use lib.ListN.{length, getD}
 use Rattle.blocks.specs.Lists.{any}
 use Rattle.model.specs.declared.Entry.{Entry}
@@ -45,3 +45,8 @@ pub record Stores (n : ℕ) (l : List Entry) (os : Places) (l′ : List Entry) (
     Type 0 where
   pub done : needed l l′ ≤ freeCount os → Holding n l os l′ i ws′ r
   pub short : freeCount os < needed l l′ → (r ≡ Short) × (ws′ ≡ ws)
+
+-- the order of the addressed run: that of the entry over the index, if no smaller, else that of the new one
+abbrev pub addressed : ℕ → Option Entry → ℕ
+addressed k none = k
+addressed k (some e) = max k (e .order)

@@ -7,7 +7,7 @@ use lib.Dec.{ltb, eqb}
 use lib.ListN.{getD, set}
 use Rattle.blocks.specs.Choice.{pick}
 use Rattle.blocks.specs.Blocks.{block}
-use Rattle.tree.specs.Slots.{nodeWord, nodeOffset}
+use Rattle.tree.specs.Slots.{nodeWord}
 use Rattle.tree.specs.Tree.{tierOrder, slots}
 use Rattle.layout.specs.Words.{place, nodeWords, shiftWord, shiftField, ownerField, slotField, poolWords}
 use Rattle.layout.specs.Fill.{filled}

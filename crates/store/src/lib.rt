@@ -6,6 +6,7 @@
 // the head before and after; d: the lowest tier of the path that is there; path, chain: the numbers of the nodes over
 // the index and over index 0, by tier; a: the entry's node; o, c: its first slot and how many it takes.
 use layout::ANCHOR_WORDS;
+use layout::COUNT_WORD;
 use layout::HEAD_WORD;
 use layout::MARK_FIELD;
 use layout::MARKS_WORD;
@@ -538,7 +539,7 @@ fn store_new(pool: &mut [u64], index: u64, order: u64, word: u64, low: u64) -> S
         (storeNew (s .list) index order word) index (now (pool .entry)) (now (pool .exit)) (r .outcome)) ⌝ }
     ensures { λ r. ⌜ InUse (r .low) (now (pool .exit)) ⌝ }
 {
-    let n = pool[0];
+    let n = pool[COUNT_WORD];
     let h = height_of(pool);
     let top = top_of(h, index, order);
     if top == 0 {

@@ -16,7 +16,8 @@ store-new-requires c κs = let p = c .before .before .before .before .before .be
   p .0,
   (
     (p .1 .0, p .1 .1 .0, p .1 .1 .1),
-    λ s. over-none (s .list) _ _ (at-nothing _ (c .before .before .before .locate .ensures s) (c .before .enum-told .given .1) .0),
+    λ s. over-none (s .list) _ _ (at-nothing _ (c .before .before .before .locate .ensures s)
+        (c .before .enum-told .given .1) .0),
   ),
 )
 
@@ -24,8 +25,14 @@ enum-known-found : tie.Need-enum-known-found
 enum-known-found c = search needs
 
 store-at-head-requires : tie.Need-store-at-head-requires
-store-at-head-requires c κs = let p = c .before .before .before .before .before .before .before .pre in
-    (p .0, ((p .1 .0, p .1 .1 .0, p .1 .1 .1), λ s. at-head _ (c .before .before .before .before .locate .ensures s) (c .before .before .found .given .1)))
+store-at-head-requires c κs = let p = c .before .before .before .before .before .before .before .pre in (
+  p .0,
+  (
+    (p .1 .0, p .1 .1 .0, p .1 .1 .1),
+    λ s. at-head _ (c .before .before .before .before .locate .ensures s)
+        (c .before .before .found .given .1),
+  ),
+)
 
 enum-known-found-2 : tie.Need-enum-known-found-2
 enum-known-found-2 c = search needs
@@ -35,7 +42,8 @@ store-in-node-requires c κs = let p = c .before .before .before .before .before
   p .0,
   (
     (p .1 .0, p .1 .1 .0, p .1 .1 .1),
-    λ s. let (q, h, t, le, d) = at-spot _ _ _ (c .before .before .before .before .locate .ensures s) (c .before .before .found2 .given .1) in (q, h),
+    λ s. let (q, h, t, le, d) = at-spot _ _ _ (c .before .before .before .before .locate .ensures s)
+        (c .before .before .found2 .given .1) in (q, h),
   ),
 )
 
@@ -45,7 +53,9 @@ same-length c = search needs
 returns : tie.Need-returns
 returns c = let a = c .before .before .before .before .before .before .before .before .before .args in (
   λ s. as-new s (a .index) (a .order) (a .word) (over-none (s .list) _ _
-      (at-nothing _ (c .before .before .before .before .before .before .locate .ensures s) (c .before .before .before .before .enum-told .given .1) .0)) (c .before .before .store-new .ensures .0 s),
+      (at-nothing _ (c .before .before .before .before .before .before .locate .ensures s)
+      (c .before .before .before .before .enum-told .given .1) .0))
+      (c .before .before .store-new .ensures .0 s),
   c .before .before .store-new .ensures .1,
 )
 
