@@ -5,4 +5,3 @@ pub mod Pool
 pub mod Decode
 pub mod Fill
 pub mod Decide
-pub mod Footprint

@@ -11,5 +11,4 @@ pub mod HeadEntry
 pub mod SparedLaws
 pub mod Replaced
 pub mod Results
-pub mod StoreFootprint
 pub mod AfterLaws
