@@ -9,8 +9,11 @@ const POOL_WORDS: usize = 2764;
 const INPUT_BYTES: usize = 8193;
 // 24 bytes for each of the 744 commands that fit into 8,192 bytes, the shortest having 11.
 const OUTPUT_BYTES: usize = 17856;
+
 const MOST_COMMANDS: u64 = 744;
+
 const REPLY_BYTES: u64 = 24;
+
 const REFUSAL_BYTES: usize = 6;
 
 // The record of a refused call.
