@@ -10,7 +10,7 @@ use lib.ListN.{length}
 use borrow.Author.Tests.{ltb-true, ltb-false, leb-true, leb-false, lt-ltb, le-ltb}
 use Rattle.blocks.specs.Choice.{pick}
 use Rattle.blocks.specs.Lists.{All, end, also}
-use Rattle.blocks.proofs.BoolLaws.{byT}
+use Rattle.blocks.proofs.BoolLaws.{byT, not-false}
 use Rattle.model.specs.declared.Entry.{Entry}
 use Rattle.model.specs.Model.{
   Valid,
@@ -78,10 +78,6 @@ remark-new l i m b = new-nodes-map (withMark i m b) (λ x. refl) (λ x. refl) l
 marked : (n : ℕ) {l : List Entry} (i m : ℕ) (b : Bool) → m < markCount → Valid l → Keeps n l (remark l i m b)
 marked n {l} i m b h v = no-node n l (remark l i m b) (sorted-remark i m b h v) (remark-new l i m b)
 
-is-true : (b : Bool) → not b ≡ false → T b
-is-true true e = tt
-is-true false e = subst T e tt
-
 module _ (n : ℕ) (l : List Entry) (v : Valid l) where
   stored : (i k w : ℕ) → i < 2 ^ 64 → w < 2 ^ 64 → Keeps n l (execute n l (Store i k w) .list)
   unfolding execute
@@ -90,7 +86,7 @@ module _ (n : ℕ) (l : List Entry) (v : Valid l) where
       (λ t. byT (not (storable w)) (λ s. rw (t, s) (stays n v))
       (λ s. byT (short n l (store l i k w)) (λ d. rw (t, s, d) (stays n v))
       (λ d. rw (t, s, d)
-      (record { valid = store-valid i k w v i< (ltb-false _ _ t) (is-true (storable w) s) w<; enough = ltb-false _ _ d }))))
+      (record { valid = store-valid i k w v i< (ltb-false _ _ t) (subst T (sym (not-false (storable w) s)) tt) w<; enough = ltb-false _ _ d }))))
 
   -- every command
   pub execute-keeps : (c : Command) → Fits c → Keeps n l (execute n l c .list)

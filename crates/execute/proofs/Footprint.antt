@@ -36,7 +36,7 @@ use Rattle.model.proofs.ValidLaws.{room, room-some, erase-clear, erase-none}
 use Rattle.tree.proofs.ReadLaws.{over-some, over-none}
 use Rattle.tree.proofs.RelabelLaws.{mapO, covering-map}
 use Rattle.tree.proofs.StoreLaws.{store-covering}
-use Rattle.layout.specs.Places.{Places, newPlaces, wordAt}
+use Rattle.layout.specs.Places.{Places, newPlaces, wordAt, render}
 use Rattle.layout.proofs.StayLaws.{same-places}
 use Rattle.batch.specs.declared.Command.{Command}
 use Rattle.batch.specs.declared.Command.the-variants.{Store, Load, Erase, Mark, Unmark, Find}
@@ -46,6 +46,7 @@ use Rattle.execute.specs.Part.{Range, rangeOf, addressed, changing, inPa
 use Rattle.execute.proofs.ExecuteLaws.{Kept, load-list, find-list}
 use Rattle.execute.proofs.LocalLaws.{Agree, agree-store, agree-clear, agree-map, agree-move}
 use Rattle.execute.proofs.PartLaws.{word-same}
+use Rattle.execute.proofs.TableLaws.{covered-0}
 
 -- a command leaves the list, or is done and changes it within the range that it addresses
 abbrev Within : ℕ → List Entry → Command → Type 0
@@ -53,9 +54,6 @@ Within n l c =
     (execute n l c .list ≡ l)
     ⊎ ((changing c ≡ true) × (execute n l c .reply .answer ≡ 0)
     × Agree (addressed l c .index) (addressed l c .order) l (execute n l c .list))
-
-answer-0 : (t : ℕ) (o : Option Entry) {e : Entry} → o ≡ some e → replyOf t 0 o .answer ≡ 0
-answer-0 t o q = rw q
 
 module _ (n : ℕ) (l : List Entry) (v : Valid l) where
   -- MARKS
@@ -82,7 +80,7 @@ module _ (n : ℕ) (l : List Entry) (v : Valid l) where
       go t (some e) q =
           inr (
             refl,
-            rw t (answer-0 132 _ (covering-marked i m true q)),
+            rw t (covered-0 132 0 _ (covering-marked i m true q)),
             rw (t, q, le-leb 0 (e .order) (omega arith))
                 (agree-mark i m true q),
           )
@@ -96,7 +94,7 @@ module _ (n : ℕ) (l : List Entry) (v : Valid l) where
       go t (some e) q =
           inr (
             refl,
-            rw t (answer-0 133 _ (covering-marked i m false q)),
+            rw t (covered-0 133 0 _ (covering-marked i m false q)),
             rw (t, q, le-leb 0 (e .order) (omega arith))
                 (agree-mark i m false q),
           )
@@ -111,7 +109,7 @@ module _ (n : ℕ) (l : List Entry) (v : Valid l) where
       go (some e) q =
           inr (
             refl,
-            answer-0 131 (covering l i) q,
+            covered-0 131 0 (covering l i) q,
             rw (q, le-leb 0 (e .order) (omega arith), erase-clear i v q)
                 (agree-move i (e .base) (e .order) (eqb-true _ _ (first-yes (covers i) (each l (λ x m. m)) q .0))
                 (agree-clear i (e .order) l (room-some i v q))),
@@ -126,7 +124,7 @@ module _ (n : ℕ) (l : List Entry) (v : Valid l) where
     replaced {e} q t =
         let h : leb k (e .order) ≡ true = sym (over-some l i k e v q) ∙ t in
         rw (t, q, h) (
-          answer-0 129 _
+          covered-0 129 0 _
               (covering-map (withWord i w) (λ x. refl) (λ x. refl) i l ∙ ap (mapO (withWord i w)) q),
           agree-map (withWord i w) (λ x. refl) (λ x. refl) i (λ x z. rw z) v q,
         )
@@ -138,7 +136,7 @@ module _ (n : ℕ) (l : List Entry) (v : Valid l) where
     fresh o q t =
         let r = room l i k t in
         rw (t, range o q)
-        (answer-0 129 _ (store-covering i k w l r i refl), agree-store i k w l r)
+        (covered-0 129 0 _ (store-covering i k w l r i refl), agree-store i k w l r)
       where
         range : (o : Option Entry) → covering l i ≡ o →
             rangeOf (record { index = i; order = k }) o ≡ record { index = i; order = k }
@@ -186,3 +184,14 @@ footprint n s k c w z = go (within n (s .list) (k .valid) c)
     go (inr (t, a, ag)) =
         word-same n s k (addressed (s .list) c) (execute n (s .list) c .list) ag w
         (rw (t, eq-eqb (execute n (s .list) c .reply .answer) 0 a) at z)
+
+-- "every command that the table answers with a number other than 0" leaves the list, and so every word
+pub refused-leaves : (n : ℕ) (l : List Entry) → Valid l → (c : Command) → (execute n l c .reply .answer ≡ 0 → ⊥) →
+    execute n l c .list ≡ l
+refused-leaves n l v c f = elim (within n l v c) [ inl e ↦ e | inr w ↦ absurd (f (w .1)) ]
+
+pub refused-words : (n : ℕ) (s : State) → Kept n s → (c : Command) → (execute n (s .list) c .reply .answer ≡ 0 → ⊥) →
+    render (next n s c .list) (next n s c .places) n ≡ render (s .list) (s .places) n
+refused-words n s k c f =
+    ap (λ (l : List Entry). render l (newPlaces (s .list) l (s .places)) n) (refused-leaves n (s .list) (k .valid) c f)
+    ∙ ap (λ (os : Places). render (s .list) os n) (same-places (s .list) (k .placed))

@@ -3,3 +3,4 @@ pub mod ReplyLaws
 pub mod LocalLaws
 pub mod PartLaws
 pub mod Footprint
+pub mod TableLaws

@@ -1,7 +1,7 @@
 -- What each command comes to, test by test as the code has them.
 use Prim.Native.Nat.{ℕ, _-_, _≤_, _<_}
 use mathlib.Core.Path.{_≡_, refl, sym, ap, subst, _∙_}
-use mathlib.Core.Bool.{Bool, true, false, not}
+use mathlib.Core.Bool.{Bool, true, false}
 use mathlib.Core.Logic.{_≢_}
 use mathlib.Core.List.{List}
 use mathlib.Core.Option.{Option, none, some}
@@ -9,7 +9,7 @@ use native.Mathlib.Omega.{arith}
 use lib.ListN.{length}
 use lib.Dec.{leb, ltb, eqb}
 use borrow.Author.Tests.{leb-true, leb-false, lt-ltb, le-ltb, le-leb, lt-leb, eq-eqb, ne-eqb}
-use Rattle.blocks.proofs.BoolLaws.{byT, clash}
+use Rattle.blocks.proofs.BoolLaws.{byT}
 use Rattle.model.specs.declared.Entry.{Entry}
 use Rattle.model.specs.Model.{covering, covered, storable, maxOrder, store, erase, remark, markCount}
 use Rattle.tree.specs.Tree.{nodes, needed}
@@ -192,12 +192,3 @@ leaves-words s c {q} e r = leaves s c {r = replyTo s c} (λ i. record { reply = 
 pub by-command : {ws ws′ : List ℕ} (s : WellFormed ws) {c d : Command} {q : Reply} → c ≡ d → Executes s d q ws′ →
     Executes s c q ws′
 by-command {ws′ = ws′} s {q = q} e x = subst (λ (y : Command). Executes s y q ws′) (sym e) x
-
--- A TEST THAT FAILED OR PASSED, as the code has it
-pub failed : (b : Bool) {a : Bool} → b ≡ a → not b ≡ true → a ≡ false
-failed true e t = absurd (clash t refl)
-failed false e t = sym e
-
-pub passed : (b : Bool) {a : Bool} → b ≡ a → not b ≡ false → a ≡ true
-passed true e t = sym e
-passed false e t = absurd (clash refl t)

@@ -2,3 +2,4 @@ pub mod Cases
 pub mod RunningLaws
 pub mod DemandLaws
 pub mod CallLaws
+pub mod RefusalLaws

@@ -2,7 +2,8 @@ use mathlib.Core.Path.{_≡_, sym, subst, _∙_}
 use mathlib.Core.Bool.{true, false, not}
 use lib.Dec.{T}
 use Rattle.batch.specs.declared.Command.the-variants.{Store}
-use Rattle.execute.proofs.ReplyLaws.{leaves, store-order, store-word, stores, failed, passed}
+use Rattle.execute.proofs.ReplyLaws.{leaves, store-order, store-word, stores}
+use Rattle.blocks.proofs.BoolLaws.{not-true, not-false}
 use borrow.Author.Needs.{needs}
 use Rattle.execute.proofs.run_store.Statement.{statement}
 use Rattle.execute.proofs.run_store.Tie as tie
@@ -28,7 +29,7 @@ answered-requires-2 c κs = search needs
 returns-2 : tie.Need-returns-2
 returns-2 c = (
   (λ s. leaves s (Store _ _ _)
-      (store-word (s .n) (s .list) _ _ _ (c .before .before .before .if1 .left) (failed _ (c .before .before .is-storable .ensures) (c .before .if2 .taken)))
+      (store-word (s .n) (s .list) _ _ _ (c .before .before .before .if1 .left) (sym (c .before .before .is-storable .ensures) ∙ not-true _ (c .before .if2 .taken)))
       (c .answered2 .ensures)),
   c .before .before .before .before .before .pre .1,
 )
@@ -38,7 +39,7 @@ store-requires c κs = (
   c .before .before .before .before .before .pre .0,
   (
     c .before .before .before .if1 .left,
-    (subst T (sym (passed _ (c .before .before .is-storable .ensures) (c .before .if2 .left))) tt, c .before .before .before .before .before .pre .1),
+    (subst T (sym (sym (c .before .before .is-storable .ensures) ∙ not-false _ (c .before .if2 .left))) tt, c .before .before .before .before .before .pre .1),
   ),
 )
 
@@ -50,7 +51,7 @@ same-length c = search needs
 
 returns-3 : tie.Need-returns-3
 returns-3 c = (
-  (λ s. stores s _ _ _ (c .before .before .before .before .before .before .before .if1 .left) (passed _ (c .before .before .before .before .before .before .is-storable .ensures) (c .before .before .before .before .before .if2 .left))
+  (λ s. stores s _ _ _ (c .before .before .before .before .before .before .before .if1 .left) (sym (c .before .before .before .before .before .before .is-storable .ensures) ∙ not-false _ (c .before .before .before .before .before .if2 .left))
       (c .before .before .before .store .ensures .0 s) (c .stored-reply .ensures)),
   c .before .before .before .store .ensures .1,
 )
