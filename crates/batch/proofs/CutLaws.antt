@@ -67,7 +67,8 @@ module _ (s : List ℕ) (p : ℕ) (fits : p ≤ length s) where
       rw (number-cut at n (omega arith), getD-take p s (at + n) 0 (omega arith))
 
   -- commands before the cut
-  command-cut : (tag at : ℕ) → fieldBytes tag ≢ 0 → at + fieldBytes tag ≤ p → commandAt (take p s) tag at ≡ commandAt s tag at
+  command-cut : (tag at : ℕ) → fieldBytes tag ≢ 0 → at + fieldBytes tag ≤ p →
+      commandAt (take p s) tag at ≡ commandAt s tag at
   command-cut tag at f h =
       byT (eqb tag 1)
       (λ t. let h₁ : at + 17 ≤ p = rw t at h in
@@ -91,7 +92,8 @@ module _ (s : List ℕ) (p : ℕ) (fits : p ≤ length s) where
       (λ y. absurd (f (rw (t, u, v, w, x, y)))))))))
 
   -- a record that ends before the cut is read the same
-  read-before : (at : ℕ) {c : Command} {k : Cursor} → readAt s at ≡ Next c k → k .at ≤ p → Next c k ≡ readAt (take p s) at
+  read-before : (at : ℕ) {c : Command} {k : Cursor} → readAt s at ≡ Next c k → k .at ≤ p →
+      Next c k ≡ readAt (take p s) at
   read-before at {c} {k} e h =
       let r : WasRead s at c k = was-read s at e in
       let w : Whole s at = whole s at (r .whole) in
@@ -120,11 +122,13 @@ same-rest : (p : Parsed) {c d : Command} {ds : List Command} → consTo c p ≡ 
     (c ≡ d) × (p ≡ Parsed.commands ds)
 same-rest (Parsed.commands cs) e = let (a, b) = heads e in (a, ap Parsed.commands b)
   where
-    heads : {c d : Command} {xs ys : List Command} → Parsed.commands (c ∷ xs) ≡ Parsed.commands (d ∷ ys) → (c ≡ d) × (xs ≡ ys)
+    heads : {c d : Command} {xs ys : List Command} → Parsed.commands (c ∷ xs) ≡ Parsed.commands (d ∷ ys) →
+        (c ≡ d) × (xs ≡ ys)
     heads e = (cc, cc)
 same-rest (Parsed.refused at) e = absurd (not-refused e)
 
-pub cut-rest : (s : List ℕ) (at : ℕ) (cs ds : List Command) → at ≤ length s → restAt s at ≡ Parsed.commands (cs ++ ds) →
+pub cut-rest : (s : List ℕ) (at : ℕ) (cs ds : List Command) → at ≤ length s →
+    restAt s at ≡ Parsed.commands (cs ++ ds) →
     CutAt s at cs
 cut-rest s at [] ds h e = record {
   place = at;
@@ -138,7 +142,8 @@ cut-rest s at (c ∷ cs) ds h e = go (readAt s at) refl (λ next. cut-rest s nex
     nil q = let z : _≡_ {A = ℕ} 0 1 = cc in omega arith
 
     go : (r : Read) → readAt s at ≡ r →
-        ((next : ℕ) → next ≤ length s → restAt s next ≡ Parsed.commands (cs ++ ds) → CutAt s next cs) → CutAt s at (c ∷ cs)
+        ((next : ℕ) → next ≤ length s → restAt s next ≡ Parsed.commands (cs ++ ds) → CutAt s next cs) →
+        CutAt s at (c ∷ cs)
     go End g f = absurd (nil (sym (rest-end s at (sym g)) ∙ e))
     go Bad g f = absurd (not-refused (sym (rest-bad s at (sym g)) ∙ e))
     go (Next d k) g f =
@@ -159,5 +164,8 @@ pub cut : (s : List ℕ) (cs ds : List Command) → parse s ≡ Parsed.commands 
     (place : ℕ) × (parse (take place s) ≡ Parsed.commands cs)
 cut s cs ds e = byT (ltb maxBatch (length s)) (λ t. absurd (not-refused (sym (parse-long s (ltb-true _ _ t)) ∙ e)))
     (λ t. let h : length s ≤ maxBatch = ltb-false _ _ t in
-    let r : CutAt s 0 cs = cut-rest s 0 cs ds (omega arith) (sym (parse-rest s h) ∙ e) in
-    (r .place, parse-rest (take (r .place) s) (rw (cut-length s (r .place) (r .fits)) (omega (arith, r .fits))) ∙ r .rest-is))
+    let r : CutAt s 0 cs = cut-rest s 0 cs ds (omega arith) (sym (parse-rest s h) ∙ e) in (
+      r .place,
+      parse-rest (take (r .place) s) (rw (cut-length s (r .place) (r .fits)) (omega (arith, r .fits))) ∙ r
+          .rest-is,
+    ))

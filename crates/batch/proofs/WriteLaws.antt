@@ -16,7 +16,8 @@ write-shift s at n k [] = refl
 write-shift s at n k (b ∷ bs) =
     let e : at + n + k ≡ at + (n + k) = omega arith in
     let f : n + suc k ≡ suc (n + k) = omega arith in
-    rw e (write-shift (set s (at + (n + k)) b) at n (suc k) bs ∙ ap (λ (m : ℕ). writeFrom (set s (at + (n + k)) b) at m bs) f)
+    rw e (write-shift (set s (at + (n + k)) b) at n (suc k) bs ∙ ap
+    (λ (m : ℕ). writeFrom (set s (at + (n + k)) b) at m bs) f)
 
 -- a number first, then the rest
 write-number : (s : List ℕ) (at k n x : ℕ) (more : List ℕ) →
@@ -35,7 +36,8 @@ pub written : (s : List ℕ) {t : List ℕ} (at k n x : ℕ) (more : List ℕ) �
 written s {t} at k n x more e =
     write-number s at k n x more
     ∙ ap (λ (w : List ℕ). writeFrom w at (k + n) more)
-    (sym (e ∙ write-shift s at k 0 (bytesThen n x []) ∙ ap (λ (m : ℕ). writeFrom s at m (bytesThen n x [])) (add-zero k)))
+    (sym (e ∙ write-shift s at k 0 (bytesThen n x []) ∙ ap (λ (m : ℕ). writeFrom s at m (bytesThen n x []))
+    (add-zero k)))
 
 -- the eight numbers of a reply, one after the other
 pub reply-written : (s : List ℕ) {a b c d e f g h : List ℕ} (at : ℕ) (r : Reply) →

@@ -86,7 +86,10 @@ module _ (n : ℕ) (l : List Entry) (v : Valid l) where
       (λ t. byT (not (storable w)) (λ s. rw (t, s) (stays n v))
       (λ s. byT (short n l (store l i k w)) (λ d. rw (t, s, d) (stays n v))
       (λ d. rw (t, s, d)
-      (record { valid = store-valid i k w v i< (ltb-false _ _ t) (subst T (sym (not-false (storable w) s)) tt) w<; enough = ltb-false _ _ d }))))
+      (record {
+        valid = store-valid i k w v i< (ltb-false _ _ t) (subst T (sym (not-false (storable w) s)) tt) w<;
+        enough = ltb-false _ _ d;
+      }))))
 
   -- every command
   pub execute-keeps : (c : Command) → Fits c → Keeps n l (execute n l c .list)

@@ -131,7 +131,8 @@ module _ (n : ℕ) (l : List Entry) (v : Valid l) where
 
     fresh : (o : Option Entry) → covering l i ≡ o → any (over i k) l ≡ false →
         (replyOf 129 0 (covering (store l i k w) i) .answer ≡ 0)
-        × Agree (rangeOf (record { index = i; order = k }) o .index) (rangeOf (record { index = i; order = k }) o .order) l
+        × Agree (rangeOf (record { index = i; order = k }) o .index)
+        (rangeOf (record { index = i; order = k }) o .order) l
         (store l i k w)
     fresh o q t =
         let r = room l i k t in
@@ -193,5 +194,6 @@ refused-leaves n l v c f = elim (within n l v c) [ inl e ↦ e | inr w ↦ absur
 pub refused-words : (n : ℕ) (s : State) → Kept n s → (c : Command) → (execute n (s .list) c .reply .answer ≡ 0 → ⊥) →
     render (next n s c .list) (next n s c .places) n ≡ render (s .list) (s .places) n
 refused-words n s k c f =
-    ap (λ (l : List Entry). render l (newPlaces (s .list) l (s .places)) n) (refused-leaves n (s .list) (k .valid) c f)
+    ap (λ (l : List Entry). render l (newPlaces (s .list) l (s .places)) n)
+    (refused-leaves n (s .list) (k .valid) c f)
     ∙ ap (λ (os : Places). render (s .list) os n) (same-places (s .list) (k .placed))

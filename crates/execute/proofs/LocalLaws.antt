@@ -1,4 +1,5 @@
--- A change of the list within a range leaves the words of every node whose block lies apart from the range, unless it is
+-- A change of the list within a range leaves the words of every node whose block lies apart from the range, unless
+-- it is
 -- the head before or after.
 use Prim.Native.Nat.{ℕ, zero, suc, _+_, _*_, _-_, _/_, _%_, _^_, _≤_, _<_}
 use mathlib.Core.Path.{_≡_, refl, sym, ap, subst, _∙_}
@@ -38,7 +39,11 @@ pub record Agree (i k : ℕ) (l l′ : List Entry) : Type 0 where
 
 pub agree-clear : (i k : ℕ) (l : List Entry) → All (Room i k) l → Agree i k l (clear l i k)
 agree-clear i k l r =
-    record { any-same = λ p j c o a. clear-apart i k l p j c o a; covering-same = λ y f. clear-covering-not i k l r y f }
+    record {
+      any-same = λ p j c o a. clear-apart i k l p j c o a;
+      covering-same = λ y f. clear-covering-not i k l r y
+          f;
+    }
 
 pub agree-store : (i k w : ℕ) (l : List Entry) → All (Room i k) l → Agree i k l (storeNew l i k w)
 agree-store i k w l r = record {
@@ -123,7 +128,8 @@ module _ (i k : ℕ) {l l′ : List Entry} (ag : Agree i k l l′) where
     unfolding has
     below d q s =
         let s′ : any (within (tierOrder v) d) l′ ≡ true =
-        ag .any-same (within (tierOrder v) d) (tierOrder v) d (within-only (tierOrder v) d) (apart-slot i k v b d a q) ∙ s in
+        ag .any-same (within (tierOrder v) d) (tierOrder v) d (within-only (tierOrder v) d)
+        (apart-slot i k v b d a q) ∙ s in
         spot-stays n l os pl l′ (record { tier = v; number = d })
         (rw (le-leb v (height l) (omega (arith, low))) s) (rw (le-leb v (height l′) (omega (arith, low′))) s′)
 
@@ -131,7 +137,8 @@ module _ (i k : ℕ) {l l′ : List Entry} (ag : Agree i k l l′) where
         field l′ (numberIn (newPlaces l l′ os)) (suc v) b f ≡ field l (numberIn os) (suc v) b f
     field-agree =
         field-same l l′ (numberIn os) (numberIn (newPlaces l l′ os)) v b
-        (owner-same l l′ (numberIn os) (numberIn (newPlaces l l′ os)) (suc v) b (omega (arith, low)) (omega (arith, low′))
+        (owner-same l l′ (numberIn os) (numberIn (newPlaces l l′ os)) (suc v) b (omega (arith, low))
+        (omega (arith, low′))
         (spot-stays n l os pl l′ (record { tier = suc (suc v); number = b / slots })
         (parent l (suc v) b t (omega (arith, low))) (parent l′ (suc v) b t′ (omega (arith, low′)))))
         (λ m d _ q. mark-agree m v d (apart-slot i k v b d a q))

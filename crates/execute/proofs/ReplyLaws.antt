@@ -129,7 +129,8 @@ remarks s c t i m b e r w = record {
 }
 
 -- an erase
-pub erases : {ws ws′ : List ℕ} (s : WellFormed ws) (i : ℕ) {q : Reply} → q ≡ coveredReply 131 (covered (covering (s .list) i)) →
+pub erases : {ws ws′ : List ℕ} (s : WellFormed ws) (i : ℕ) {q : Reply} →
+    q ≡ coveredReply 131 (covered (covering (s .list) i)) →
     ws′ ≡ render (erase (s .list) i) (prune (erase (s .list) i) (s .places)) (s .n) → Executes s (Erase i) q ws′
 unfolding execute
 erases s i r w = record {
@@ -152,7 +153,8 @@ module _ (n : ℕ) (l : List Entry) (i k w : ℕ) where
 
 -- done, or short of nodes: exactly as the free nodes are enough
 pub stores : {ws ws′ : List ℕ} (s : WellFormed ws) (i k w : ℕ) {x : Stored} {q : Reply} → k ≤ maxOrder →
-    storable w ≡ true → Stores (s .n) (s .list) (s .places) (store (s .list) i k w) i ws ws′ x → q ≡ storedReply 129 x →
+    storable w ≡ true → Stores (s .n) (s .list) (s .places) (store (s .list) i k w) i ws ws′ x →
+    q ≡ storedReply 129 x →
     Executes s (Store i k w) q ws′
 stores {ws} {ws′} s i k w {x} {q} h t r e =
     byT (leb (needed (s .list) l′) (freeCount (s .places))) (λ d. full (leb-true _ _ d)) (λ d. less (leb-false _ _ d))

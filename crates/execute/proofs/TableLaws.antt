@@ -1,4 +1,5 @@
--- Document 01, "When the kit says no": each answer of a reply is given exactly when the table says, lowest number first.
+-- Document 01, "When the kit says no": each answer of a reply is given exactly when the table says, lowest number
+-- first.
 use Prim.Native.Nat.{ℕ, _-_, _≤_, _<_}
 use mathlib.Core.Path.{_≡_}
 use mathlib.Core.Logic.{_≢_}

@@ -9,7 +9,16 @@ use Rattle.blocks.specs.Choice.{pick, both}
 use Rattle.model.specs.Model.{markCount}
 use Rattle.tree.specs.Tree.{slots}
 use Rattle.tree.specs.Slots.{nodeOffset, siblingWord}
-use Rattle.layout.specs.Words.{countWord, headWord, marksWord, place, shiftField, ownerField, markField, slotField}
+use Rattle.layout.specs.Words.{
+  countWord,
+  headWord,
+  marksWord,
+  place,
+  shiftField,
+  ownerField,
+  markField,
+  slotField,
+}
 pub use Rattle.layout.specs.declared.Slot.{Slot}
 pub use Rattle.layout.specs.declared.Slot.the-variants.{Empty, Held, Sibling, Child}
 

@@ -1,4 +1,5 @@
--- The words of the pool (document 01, "Words of the pool"): the layout's constants, and each word of the anchor and of a node.
+-- The words of the pool (document 01, "Words of the pool"): the layout's constants, and each word of the anchor and
+-- of a node.
 use Prim.Native.Nat.{ℕ, suc, _+_, _*_, _-_, _/_, _%_}
 use mathlib.Core.List.{List}
 use mathlib.Core.Option.{Option, none, some}

@@ -1,4 +1,5 @@
-// The program: a pool of 40 nodes just initialised, one batch from standard input, its replies to standard output. A refused
+// The program: a pool of 40 nodes just initialised, one batch from standard input, its replies to standard output. A
+// refused
 // call is one record of six bytes: tag 255, length 3, the answer, and the place in two bytes.
 ghost use Prim.Native.Nat.{_≤_};
 ghost use lib.ListN.{length};

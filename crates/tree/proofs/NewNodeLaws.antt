@@ -1,4 +1,5 @@
--- The nodes that a store makes, tier by tier: one of block 0 above the old head, where anything stays, and one on the path.
+-- The nodes that a store makes, tier by tier: one of block 0 above the old head, where anything stays, and one on
+-- the path.
 use Prim.Native.Nat.{ℕ, zero, suc, _*_, _^_, _<_}
 use mathlib.Core.Path.{_≡_, refl, sym, ap, _∙_}
 use mathlib.Core.Bool.{Bool, true, false, not}

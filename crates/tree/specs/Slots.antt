@@ -1,4 +1,5 @@
--- What the slots of the tree hold, under a numbering of its nodes (document 01, "The tree a list prescribes", "Words of the pool").
+-- What the slots of the tree hold, under a numbering of its nodes (document 01, "The tree a list prescribes", "Words
+-- of the pool").
 use Prim.Native.Nat.{ℕ, _+_, _*_, _%_, _^_}
 use mathlib.Core.List.{List}
 use mathlib.Core.Option.{Option, none, some}

@@ -97,7 +97,8 @@ replies-length n l (c ∷ cs) =
     ∙ omega (arith, replies-length n (execute n l c .list) cs)
 
 -- there is room for all replies
-pub ahead : {bs : List ℕ} {k : ℕ} (rs : List ℕ) (r : Read bs k) → replyBytes * k ≤ length rs → Ahead bs 0 (length rs) 0
+pub ahead : {bs : List ℕ} {k : ℕ} (rs : List ℕ) (r : Read bs k) → replyBytes * k ≤ length rs →
+    Ahead bs 0 (length rs) 0
 ahead rs r h = record { rest = r .cs; rest-is = r .rest; room = omega (arith, r .count) }
 
 -- what a call leaves is what the definition says
@@ -113,7 +114,8 @@ comes-refused e = record {
   reply-is = sym (ap (λ (c : Called). c .reply) e);
 }
 
-pub ran : {ws bs rs ws′ rs′ : List ℕ} {k : ℕ} (e : checkAnswer ws ≡ done) (r : Read bs k) → replyBytes * k ≤ length rs →
+pub ran : {ws bs rs ws′ rs′ : List ℕ} {k : ℕ} (e : checkAnswer ws ≡ done) (r : Read bs k) →
+    replyBytes * k ≤ length rs →
     Ends (accepted ws e) (r .cs) 0 rs ws′ rs′ → Comes ws bs rs done k ws′ rs′
 ran {ws} {bs} {rs} {ws′} {rs′} {k} e r h d =
     let q : replyBytes * length (r .cs) ≤ length rs = omega (arith, r .count) in
@@ -122,7 +124,8 @@ ran {ws} {bs} {rs} {ws′} {rs′} {k} e r h d =
     let x : List ℕ = replies n (accepted ws e .list) (r .cs) in
     let w : length x ≡ replyBytes * length (r .cs) = replies-length n (accepted ws e .list) (r .cs) in
     record {
-      result-is = sym (ap (λ (y : Called). y .result) c ∙ rw (le-ltb (length rs) (replyBytes * length (r .cs)) q, r .count));
+      result-is = sym (ap (λ (y : Called). y .result) c ∙ rw
+          (le-ltb (length rs) (replyBytes * length (r .cs)) q, r .count));
       words-are =
           d .words-are
           ∙ sym (ap (λ (y : Called). y .words) c ∙ rw (le-ltb (length rs) (replyBytes * length (r .cs)) q));
@@ -137,5 +140,6 @@ pub as-ensures : {ws bs rs ws′ rs′ : List ℕ} {a n : ℕ} → Comes ws bs r
 as-ensures x = (x .result-is, (x .words-are, x .reply-is))
 
 -- an answer by the number that the code has of it
-pub comes-as : {ws bs rs ws′ rs′ : List ℕ} {a b n : ℕ} → a ≡ b → Comes ws bs rs b n ws′ rs′ → Comes ws bs rs a n ws′ rs′
+pub comes-as : {ws bs rs ws′ rs′ : List ℕ} {a b n : ℕ} → a ≡ b → Comes ws bs rs b n ws′ rs′ →
+    Comes ws bs rs a n ws′ rs′
 comes-as {ws} {bs} {rs} {ws′} {rs′} {n = n} e x = subst (λ (y : ℕ). Comes ws bs rs y n ws′ rs′) (sym e) x

@@ -56,7 +56,8 @@ states-list n s [] = refl
 states-list n s (c ∷ cs) = states-list n (next n s c) cs
 
 -- words that a list prescribes have a pool's length
-pub sized : {n : ℕ} {l : List Entry} {os : Places} {ws : List ℕ} → 1 ≤ n → n ≤ maxNodes → Prescribed n l os ws → Sized n ws
+pub sized : {n : ℕ} {l : List Entry} {os : Places} {ws : List ℕ} → 1 ≤ n → n ≤ maxNodes → Prescribed n l os ws →
+    Sized n ws
 sized {n} {l} {os} lo hi p = record {
   size = ap length (p .words-are) ∙ length-upTo (wordAt l os n) 0 (poolWords n);
   least = lo;
@@ -64,7 +65,8 @@ sized {n} {l} {os} lo hi p = record {
 }
 
 -- WHAT A RUN COMES TO on words that a list prescribes
-module _ {n : ℕ} {l : List Entry} {os : Places} {ws : List ℕ} (lo : 1 ≤ n) (hi : n ≤ maxNodes) (p : Prescribed n l os ws)
+module _ {n : ℕ} {l : List Entry} {os : Places} {ws : List ℕ} (lo : 1 ≤ n) (hi : n ≤ maxNodes)
+    (p : Prescribed n l os ws)
   where
     pub run-as : (bs rs : List ℕ) → run ws bs rs ≡ runParsed n ws rs (parse bs)
     unfolding run
@@ -84,7 +86,8 @@ module _ {n : ℕ} {l : List Entry} {os : Places} {ws : List ℕ} (lo : 1 ≤ n)
     ran {cs} f =
         let s : State = record { list = l; places = os } in
         let k : Kept n (states n s cs) = states-kept f (record { valid = p .valid; placed = p .placed }) in
-        subst (λ (x : List Entry). Stands n x (render (states n s cs .list) (states n s cs .places) n)) (states-list n s cs)
+        subst (λ (x : List Entry). Stands n x (render (states n s cs .list) (states n s cs .places) n))
+        (states-list n s cs)
         (record {
           places = states n s cs .places;
           prescribed = record { valid = k .valid; placed = k .placed; words-are = refl };
@@ -126,7 +129,8 @@ bytes-take {bs} p b = record {
     getD-out (x ∷ xs) (suc i) h = getD-out xs i (omega arith)
 
 pub after-each : {n : ℕ} {l : List Entry} {ws : List ℕ} → 1 ≤ n → n ≤ maxNodes → Stands n l ws → (bs rs : List ℕ) →
-    Bytes bs → (cs ds : List Command) → parse bs ≡ Parsed.commands (cs ++ ds) → replyBytes * length (cs ++ ds) ≤ length rs →
+    Bytes bs → (cs ds : List Command) → parse bs ≡ Parsed.commands (cs ++ ds) →
+    replyBytes * length (cs ++ ds) ≤ length rs →
     (p : ℕ) × (parse (take p bs) ≡ Parsed.commands cs) × Stands n (executeAll n l cs) (run ws (take p bs) rs .words)
 after-each {n} {l} {ws} lo hi s bs rs b cs ds e room =
     let (p, q) = cut bs cs ds e in

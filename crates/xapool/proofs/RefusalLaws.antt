@@ -1,4 +1,5 @@
--- Document 01, "When the kit says no": each answer of a call is given exactly when the table says, lowest number first, and 1
+-- Document 01, "When the kit says no": each answer of a call is given exactly when the table says, lowest number
+-- first, and 1
 -- to 4 alter nothing.
 use Prim.Native.Nat.{ℕ, _*_, _≤_, _<_}
 use mathlib.Core.Path.{_≡_, refl, sym, ap, subst, _∙_}
@@ -54,8 +55,10 @@ module _ (ws bs rs : List ℕ) where
       go : (r : ℕ) → checkAnswer ws ≡ r → Verdict ws r → CallRow ws bs rs (run ws bs rs)
       go r e (well-formed n z p) = checked e
       go r e (wrong-size f) =
-          subst (CallRow ws bs rs) (sym (run-unchecked ws bs rs (λ x. let z : _≡_ {A = ℕ} 0 1 = sym x ∙ e in omega arith) ∙ ap (λ (a : ℕ). refuseCall ws rs a 0) e))
+          subst (CallRow ws bs rs) (sym (run-unchecked ws bs rs
+          (λ x. let z : _≡_ {A = ℕ} 0 1 = sym x ∙ e in omega arith) ∙ ap (λ (a : ℕ). refuseCall ws rs a 0) e))
           (row-1 f)
       go r e (malformed n z f) =
-          subst (CallRow ws bs rs) (sym (run-unchecked ws bs rs (λ x. let z : _≡_ {A = ℕ} 0 2 = sym x ∙ e in omega arith) ∙ ap (λ (a : ℕ). refuseCall ws rs a 0) e))
+          subst (CallRow ws bs rs) (sym (run-unchecked ws bs rs
+          (λ x. let z : _≡_ {A = ℕ} 0 2 = sym x ∙ e in omega arith) ∙ ap (λ (a : ℕ). refuseCall ws rs a 0) e))
           (row-2 n z f)

@@ -31,7 +31,8 @@ use Rattle.xapool.specs.Running.{wordsOf, Ahead, Ends, Turned, Running}
 pub kept-of : {ws : List ℕ} (s : WellFormed ws) → Kept (s .n) (stateOf s)
 kept-of s = record { valid = s .valid; placed = s .placed }
 
-abbrev pub formed-after : {ws ws′ : List ℕ} (s : WellFormed ws) (c : Command) → Fits c → ws′ ≡ wordsTo s c → WellFormed ws′
+abbrev pub formed-after : {ws ws′ : List ℕ} (s : WellFormed ws) (c : Command) → Fits c → ws′ ≡ wordsTo s c →
+    WellFormed ws′
 formed-after s c f e = record {
   n = s .n;
   list = next (s .n) (stateOf s) c .list;
@@ -49,7 +50,8 @@ prescribed s = record { valid = s .valid; placed = s .placed; words-are = s .wor
 
 pub same-count : {ws : List ℕ} (s t : WellFormed ws) → s .n ≡ t .n
 same-count {ws} s t =
-    sym (count-is (s .n) (s .list) (s .places) ws (prescribed s)) ∙ count-is (t .n) (t .list) (t .places) ws (prescribed t)
+    sym (count-is (s .n) (s .list) (s .places) ws (prescribed s)) ∙ count-is (t .n) (t .list) (t .places) ws
+    (prescribed t)
 
 same-state : {ws : List ℕ} (s t : WellFormed ws) → stateOf s ≡ stateOf t
 same-state s t =
@@ -89,7 +91,8 @@ pub record After (batch : List ℕ) (at next : ℕ) (c : Command) (cs : List Com
   pub rest-is : restAt batch next ≡ Parsed.commands rest
   pub whole : cs ≡ c ∷ rest
 
-pub read-after : (batch : List ℕ) (at : ℕ) {c : Command} {k : Cursor} {cs : List Command} → Next c k ≡ readAt batch at →
+pub read-after : (batch : List ℕ) (at : ℕ) {c : Command} {k : Cursor} {cs : List Command} →
+    Next c k ≡ readAt batch at →
     restAt batch at ≡ Parsed.commands cs → After batch at (k .at) c cs
 read-after batch at {c} {k} {cs} e q = go (restAt batch (k .at)) refl (sym (rest-next batch at e) ∙ q)
   where
@@ -105,12 +108,14 @@ read-after batch at {c} {k} {cs} e q = go (restAt batch (k .at)) refl (sym (rest
 -- one reply, then the others
 reply-then : (n : ℕ) (l : List Entry) (c : Command) (cs : List Command) (reply reply′ : List ℕ) (out : ℕ) →
     reply′ ≡ overwrite reply out (encode (execute n l c .reply)) →
-    overwrite reply′ (out + replyBytes) (replies n (execute n l c .list) cs) ≡ overwrite reply out (replies n l (c ∷ cs))
+    overwrite reply′ (out + replyBytes) (replies n (execute n l c .list) cs) ≡ overwrite reply out
+    (replies n l (c ∷ cs))
 reply-then n l c cs reply reply′ out e =
     ap (λ (x : List ℕ). overwrite x (out + replyBytes) (replies n (execute n l c .list) cs)) e
     ∙ sym (overwrite-append reply out (encode (execute n l c .reply)) (replies n (execute n l c .list) cs))
 
-module _ {pool₀ reply₀ batch pool reply : List ℕ} {at out low : ℕ} (r : Running pool₀ reply₀ batch pool reply at out low)
+module _ {pool₀ reply₀ batch pool reply : List ℕ} {at out low : ℕ}
+    (r : Running pool₀ reply₀ batch pool reply at out low)
   where
     -- there is room for the reply of a command that was read
     pub room-for : {c : Command} {k : Cursor} → Next c k ≡ readAt batch at → out + replyBytes ≤ length reply
@@ -119,7 +124,8 @@ module _ {pool₀ reply₀ batch pool reply : List ℕ} {at out low : ℕ} (r : 
         let q : length (r .ahead .rest) ≡ suc (length (a .rest)) = ap length (a .whole) in
         omega (arith, r .ahead .room)
 
-    pub running-on : {c : Command} {k : Cursor} → Next c k ≡ readAt batch at → Fits c → {pool′ reply′ : List ℕ} {low′ : ℕ} →
+    pub running-on : {c : Command} {k : Cursor} → Next c k ≡ readAt batch at → Fits c →
+        {pool′ reply′ : List ℕ} {low′ : ℕ} →
         Turned (r .formed) c out reply pool′ reply′ → InUse low′ pool′ → length reply′ ≡ length reply →
         Running pool₀ reply₀ batch pool′ reply′ (k .at) (out + replyBytes) low′
     running-on {c} {k} e f {pool′} {reply′} {low′} d u len =

@@ -171,9 +171,15 @@ cases =
           ∷ slotsHold 0 9 7 34 ++ (word (place 0 (slotField + 16)) 0 ∷ []);
     }
     ∷ record { n = 1; before = []; last = Store (2 ^ 63) 64 5; facts = answer 1 5 0 0 ∷ asAfter [] ∷ [] }
-    -- 13. After case 3, find 1 to 2^64 - 1, filter 3: found at 64 in 64 steps; budget 63: paused at 64. With 64 marked 0,
+    -- 13. After case 3, find 1 to 2^64 - 1, filter 3: found at 64 in 64 steps; budget 63: paused at 64. With 64
+    -- marked 0,
     -- filter 0: 2 steps.
     ∷ record { n = 3; before = store3; last = Find 1 last64 3 64; facts = entry 6 64 0 5 0 64 ∷ [] }
     ∷ record { n = 3; before = store3; last = Find 1 last64 3 63; facts = answer 6 13 64 63 ∷ [] }
-    ∷ record { n = 3; before = store3 ++ (Mark 64 0 ∷ []); last = Find 1 last64 0 64; facts = entry 6 64 0 5 1 2 ∷ [] }
+    ∷ record {
+      n = 3;
+      before = store3 ++ (Mark 64 0 ∷ []);
+      last = Find 1 last64 0 64;
+      facts = entry 6 64 0 5 1 2 ∷ [];
+    }
     ∷ []

@@ -1,4 +1,5 @@
--- Demand 3: the pool after a list of calls, and the model fed the same calls (document 01, "The plain list of demand 3").
+-- Demand 3: the pool after a list of calls, and the model fed the same calls (document 01, "The plain list of demand
+-- 3").
 use Prim.Native.Nat.{ℕ, _*_}
 use mathlib.Core.List.{List, [], _∷_}
 use lib.Dec.{ltb}

@@ -24,15 +24,17 @@ pub record Ahead (batch : List ℕ) (at : ℕ) (replyLength out : ℕ) : Type 0 
   pub room : out + replyBytes * length rest ≤ replyLength
 
 -- what a batch that runs leaves, from any well-formed pool and place on
-pub record Ends {pool : List ℕ} (s : WellFormed pool) (cs : List Command) (out : ℕ) (reply pool′ reply′ : List ℕ) : Type 0
+pub record Ends {pool : List ℕ} (s : WellFormed pool) (cs : List Command) (out : ℕ) (reply pool′ reply′ : List ℕ) :
+    Type 0
   where
     pub words-are : pool′ ≡ wordsOf (s .n) (states (s .n) (stateOf s) cs)
     pub reply-is : reply′ ≡ overwrite reply out (replies (s .n) (s .list) cs)
 
 -- one command, with its reply written at `out`
-pub record Turned {pool : List ℕ} (s : WellFormed pool) (c : Command) (out : ℕ) (reply pool′ reply′ : List ℕ) : Type 0 where
-  pub words-are : pool′ ≡ wordsTo s c
-  pub reply-is : reply′ ≡ overwrite reply out (encode (replyTo s c))
+pub record Turned {pool : List ℕ} (s : WellFormed pool) (c : Command) (out : ℕ) (reply pool′ reply′ : List ℕ) : Type 0
+  where
+    pub words-are : pool′ ≡ wordsTo s c
+    pub reply-is : reply′ ≡ overwrite reply out (encode (replyTo s c))
 
 -- between two commands: what is left of the batch leads to what the whole batch leads to
 pub record Running (pool₀ reply₀ batch pool reply : List ℕ) (at out low : ℕ) : Type 0 where

@@ -1,4 +1,5 @@
-// The three calls offered to a host: init, check and run. None has a `requires`: each refuses what it cannot use, states its
+// The three calls offered to a host: init, check and run. None has a `requires`: each refuses what it cannot use,
+// states its
 // result and every word and byte that it was lent.
 //
 // pool: the borrowed words; batch: the borrowed bytes of the commands; reply: the borrowed bytes for their replies;

@@ -31,31 +31,47 @@ add-number1 : tie.Need-add-number1
 add-number1 c = search needs
 
 number1-requires : tie.Need-number1-requires
-number1-requires c κs = omega (arith, room 4 _ (c .before .if4 .taken) (c .before .before .before .before .before .before .pre .1))
+number1-requires c κs = omega (
+  arith,
+  room 4 _ (c .before .if4 .taken)
+      (c .before .before .before .before .before .before .pre .1),
+)
 
 returns-4 : tie.Need-returns-4
 returns-4 c = rw (c .before .before .if4 .taken) (ap₂ Mark (c .before .number83 .ensures) (c .number1 .ensures .0))
 
 number8-requires-4 : tie.Need-number8-requires-4
-number8-requires-4 c κs = omega (arith, room 5 _ (c .if5 .taken) (c .before .before .before .before .before .before .pre .1))
+number8-requires-4 c κs = omega (
+  arith,
+  room 5 _ (c .if5 .taken)
+      (c .before .before .before .before .before .before .pre .1),
+)
 
 add-number1-2 : tie.Need-add-number1-2
 add-number1-2 c = search needs
 
 number1-requires-2 : tie.Need-number1-requires-2
-number1-requires-2 c κs = omega (arith, room 5 _ (c .before .if5 .taken) (c .before .before .before .before .before .before .before .pre .1))
+number1-requires-2 c κs = omega (
+  arith,
+  room 5 _ (c .before .if5 .taken)
+      (c .before .before .before .before .before .before .before .pre .1),
+)
 
 returns-5 : tie.Need-returns-5
 returns-5 c = rw (c .before .before .if5 .taken) (ap₂ Unmark (c .before .number84 .ensures) (c .number12 .ensures .0))
 
 find-at-requires : tie.Need-find-at-requires
 find-at-requires c κs = room 6 _
-    (last-tag _ (c .before .before .before .before .before .before .pre .0) (c .before .before .before .before .if1 .left) (c .before .before .before .if2 .left) (c .before .before .if3 .left) (c .before .if4 .left) (c .if5 .left))
+    (last-tag _ (c .before .before .before .before .before .before .pre .0)
+    (c .before .before .before .before .if1 .left) (c .before .before .before .if2 .left)
+    (c .before .before .if3 .left) (c .before .if4 .left) (c .if5 .left))
     (c .before .before .before .before .before .before .pre .1)
 
 returns-6 : tie.Need-returns-6
 returns-6 c = rw
-    (last-tag _ (c .before .before .before .before .before .before .before .pre .0) (c .before .before .before .before .before .if1 .left) (c .before .before .before .before .if2 .left) (c .before .before .before .if3 .left) (c .before .before .if4 .left) (c .before .if5 .left))
+    (last-tag _ (c .before .before .before .before .before .before .before .pre .0)
+    (c .before .before .before .before .before .if1 .left) (c .before .before .before .before .if2 .left)
+    (c .before .before .before .if3 .left) (c .before .before .if4 .left) (c .before .if5 .left))
     (c .find-at .ensures)
 
 pub command-at-spec : {M : Type 1} → statement M

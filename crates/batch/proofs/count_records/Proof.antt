@@ -23,7 +23,8 @@ abbrev μ-loop : tie.MeasureT-loop
 μ-loop batch at₀ n₀ at n = length batch - at
 
 -- the record that was read ends within the batch
-onward : (c : tie.After-r Inv-loop μ-loop) → Onward (c .before .before .before .before .before .args .batch .now) (c .before .before .before .loop .at) (c .r .given .0 .1 .0 .at)
+onward : (c : tie.After-r Inv-loop μ-loop) → Onward (c .before .before .before .before .before .args .batch .now)
+    (c .before .before .before .loop .at) (c .r .given .0 .1 .0 .at)
 onward c = next-after _ _ (sym (c .before .before .read-at .ensures) ∙ c .r .given .1)
 
 loop-holds : tie.Need-loop-holds Inv-loop μ-loop
@@ -36,13 +37,15 @@ enum-told : tie.Need-enum-told Inv-loop μ-loop
 enum-told c = search needs
 
 returns : tie.Need-returns Inv-loop μ-loop
-returns c = count-end _ _ _ (c .before .before .before .loop .inv .2) (sym (c .enum-told .given .1) ∙ c .before .before .read-at .ensures)
+returns c = count-end _ _ _ (c .before .before .before .loop .inv .2)
+    (sym (c .enum-told .given .1) ∙ c .before .before .read-at .ensures)
 
 enum-told-2 : tie.Need-enum-told-2 Inv-loop μ-loop
 enum-told-2 c = search needs
 
 returns-2 : tie.Need-returns-2 Inv-loop μ-loop
-returns-2 c = count-bad _ _ _ (c .before .before .before .loop .inv .2) (sym (c .enum-told2 .given .1) ∙ c .before .before .read-at .ensures)
+returns-2 c = count-bad _ _ _ (c .before .before .before .loop .inv .2)
+    (sym (c .enum-told2 .given .1) ∙ c .before .before .read-at .ensures)
 
 enum-known-r : tie.Need-enum-known-r Inv-loop μ-loop
 enum-known-r c = search needs
@@ -57,7 +60,8 @@ loop-again : tie.Need-loop-again Inv-loop μ-loop
 loop-again c = (
   omega (arith, onward (c .before)),
   onward (c .before) .within,
-  count-next _ _ _ (c .before .before .before .before .loop .inv .2) (sym (c .before .r .given .1) ∙ c .before .before .before .read-at .ensures),
+  count-next _ _ _ (c .before .before .before .before .loop .inv .2)
+      (sym (c .before .r .given .1) ∙ c .before .before .before .read-at .ensures),
 )
 
 pub count-records-spec : {M : Type 1} → statement M

@@ -3,10 +3,6 @@ use Rattle.execute.specs.Contracts.{coveredReply}
 use borrow.Author.Needs.{needs}
 use Rattle.execute.proofs.covered_reply.Statement.{statement}
 use Rattle.execute.proofs.covered_reply.Tie as tie
-use Rattle.execute.proofs.covered_reply.Reads as reads
-use Rattle.execute.proofs.covered_reply.Lts as lts
-use Rattle.execute.proofs.answered.Reads as answered-reads
-use Rattle.execute.proofs.answered_by.Reads as answered-by-reads
 
 enum-told : tie.Need-enum-told
 enum-told c = search needs

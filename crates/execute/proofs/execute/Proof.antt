@@ -9,14 +9,6 @@ use Rattle.execute.proofs.ExecuteLaws.{load-list, find-list}
 use borrow.Author.Needs.{needs}
 use Rattle.execute.proofs.execute.Statement.{statement}
 use Rattle.execute.proofs.execute.Tie as tie
-use Rattle.execute.proofs.execute.Reads as reads
-use Rattle.execute.proofs.execute.Lts as lts
-use Rattle.execute.proofs.run_erase.Reads as run-erase-reads
-use Rattle.execute.proofs.run_find.Reads as run-find-reads
-use Rattle.execute.proofs.run_load.Reads as run-load-reads
-use Rattle.execute.proofs.run_mark.Reads as run-mark-reads
-use Rattle.execute.proofs.run_store.Reads as run-store-reads
-use Rattle.execute.proofs.run_unmark.Reads as run-unmark-reads
 
 enum-known-c : tie.Need-enum-known-c
 enum-known-c c = search needs
@@ -58,27 +50,41 @@ same-length : tie.Need-same-length
 same-length c = search needs
 
 returns : tie.Need-returns
-returns c = ((λ s. by-command s (c .before .before .before .before .before .c .given .1) (c .before .before .run-store .ensures .0 s)), c .before .before .run-store .ensures .1)
+returns c = (
+  (λ s. by-command s (c .before .before .before .before .before .c .given .1)
+      (c .before .before .run-store .ensures .0 s)),
+  c .before .before .run-store .ensures .1,
+)
 
 same-length-2 : tie.Need-same-length-2
 same-length-2 c = search needs
 
 returns-2 : tie.Need-returns-2
-returns-2 c = ((λ s. by-command s (c .before .before .before .c2 .given .1) (leaves-words s _ (load-list (s .n) (s .list) _) (c .run-load .ensures s))), c .before .before .before .before .before .before .pre .1)
+returns-2 c = (
+  (λ s. by-command s (c .before .before .before .c2 .given .1)
+      (leaves-words s _ (load-list (s .n) (s .list) _) (c .run-load .ensures s))),
+  c .before .before .before .before .before .before .pre .1,
+)
 
 same-length-3 : tie.Need-same-length-3
 same-length-3 c = search needs
 
 returns-3 : tie.Need-returns-3
-returns-3 c = ((λ s. by-command s (c .before .before .before .before .before .c3 .given .1) (c .before .before .run-erase .ensures .0 s)), c .before .before .run-erase .ensures .1)
+returns-3 c = (
+  (λ s. by-command s (c .before .before .before .before .before .c3 .given .1)
+      (c .before .before .run-erase .ensures .0 s)),
+  c .before .before .run-erase .ensures .1,
+)
 
 same-length-4 : tie.Need-same-length-4
 same-length-4 c = search needs
 
 returns-4 : tie.Need-returns-4
 returns-4 c = (
-  (λ s. by-command s (c .before .before .before .before .before .c4 .given .1) (c .before .before .run-mark .ensures .0 s)),
-  c .before .before .run-mark .ensures .1 _ (c .before .before .before .before .before .before .before .before .pre .1),
+  (λ s. by-command s (c .before .before .before .before .before .c4 .given .1)
+      (c .before .before .run-mark .ensures .0 s)),
+  c .before .before .run-mark .ensures .1 _ (c .before .before .before .before .before .before .before .before .pre
+      .1),
 )
 
 same-length-5 : tie.Need-same-length-5
@@ -86,15 +92,21 @@ same-length-5 c = search needs
 
 returns-5 : tie.Need-returns-5
 returns-5 c = (
-  (λ s. by-command s (c .before .before .before .before .before .c5 .given .1) (c .before .before .run-unmark .ensures .0 s)),
-  c .before .before .run-unmark .ensures .1 _ (c .before .before .before .before .before .before .before .before .pre .1),
+  (λ s. by-command s (c .before .before .before .before .before .c5 .given .1)
+      (c .before .before .run-unmark .ensures .0 s)),
+  c .before .before .run-unmark .ensures .1 _ (c .before .before .before .before .before .before .before .before .pre
+      .1),
 )
 
 same-length-6 : tie.Need-same-length-6
 same-length-6 c = search needs
 
 returns-6 : tie.Need-returns-6
-returns-6 c = ((λ s. by-command s (c .before .before .before .c6 .given .1) (leaves-words s _ (find-list (s .n) (s .list) _ _ _ _) (c .run-find .ensures s))), c .before .before .before .before .before .before .pre .1)
+returns-6 c = (
+  (λ s. by-command s (c .before .before .before .c6 .given .1)
+      (leaves-words s _ (find-list (s .n) (s .list) _ _ _ _) (c .run-find .ensures s))),
+  c .before .before .before .before .before .before .pre .1,
+)
 
 pub execute-spec : {M : Type 1} → statement M
 execute-spec =

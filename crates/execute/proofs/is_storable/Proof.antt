@@ -2,8 +2,6 @@ use mathlib.Core.Path.{_≡_}
 use borrow.Author.Tests.{eq-eqb, ne-eqb}
 use Rattle.execute.proofs.is_storable.Statement.{statement}
 use Rattle.execute.proofs.is_storable.Tie as tie
-use Rattle.execute.proofs.is_storable.Reads as reads
-use Rattle.execute.proofs.is_storable.Lts as lts
 
 returns : tie.Need-returns
 returns c = rw (c .if1 .taken)

@@ -4,10 +4,6 @@ use Rattle.execute.proofs.ReplyLaws.{erases}
 use borrow.Author.Needs.{needs}
 use Rattle.execute.proofs.run_erase.Statement.{statement}
 use Rattle.execute.proofs.run_erase.Tie as tie
-use Rattle.execute.proofs.run_erase.Reads as reads
-use Rattle.execute.proofs.run_erase.Lts as lts
-use Rattle.erase.proofs.erase.Reads as erase-reads
-use Rattle.execute.proofs.covered_reply.Reads as covered-reply-reads
 
 erase-requires : tie.Need-erase-requires
 erase-requires c κs = search needs
@@ -20,7 +16,8 @@ same-length c = search needs
 
 returns : tie.Need-returns
 returns c = (
-  (λ s. erases s _ (c .covered-reply .ensures ∙ ap (coveredReply 131) (c .before .before .before .erase .ensures .0 s)) (c .before .before .before .erase .ensures .1 .0 s)),
+  (λ s. erases s _ (c .covered-reply .ensures ∙ ap (coveredReply 131)
+      (c .before .before .before .erase .ensures .0 s)) (c .before .before .before .erase .ensures .1 .0 s)),
   c .before .before .before .erase .ensures .1 .1,
 )
 

@@ -4,11 +4,6 @@ use Rattle.execute.proofs.ReplyLaws.{find-mark, find-first, find-budget
 use borrow.Author.Needs.{needs}
 use Rattle.execute.proofs.run_find.Statement.{statement}
 use Rattle.execute.proofs.run_find.Tie as tie
-use Rattle.execute.proofs.run_find.Reads as reads
-use Rattle.execute.proofs.run_find.Lts as lts
-use Rattle.execute.proofs.answered.Reads as answered-reads
-use Rattle.execute.proofs.found_reply.Reads as found-reply-reads
-use Rattle.lookup.proofs.find.Reads as find-reads
 
 answered-requires : tie.Need-answered-requires
 answered-requires c κs = search needs
@@ -22,7 +17,8 @@ answered-requires-2 c κs = search needs
 
 returns-2 : tie.Need-returns-2
 returns-2 c = λ s. c .answered2 .ensures
-    ∙ sym (ap (λ (x : Executed). x .reply) (find-first (s .n) (s .list) _ _ _ _ (c .before .before .if1 .left) (c .before .if2 .taken)))
+    ∙ sym (ap (λ (x : Executed). x .reply) (find-first (s .n) (s .list) _ _ _ _ (c .before .before .if1 .left)
+    (c .before .if2 .taken)))
 
 answered-requires-3 : tie.Need-answered-requires-3
 answered-requires-3 c κs = search needs
@@ -30,7 +26,8 @@ answered-requires-3 c κs = search needs
 returns-3 : tie.Need-returns-3
 returns-3 c = λ s. c .answered3 .ensures
     ∙ sym (ap (λ (x : Executed). x .reply)
-    (find-budget (s .n) (s .list) _ _ _ _ (c .before .before .before .if1 .left) (c .before .before .if2 .left) (c .before .if3 .taken)))
+    (find-budget (s .n) (s .list) _ _ _ _ (c .before .before .before .if1 .left) (c .before .before .if2 .left)
+    (c .before .if3 .taken)))
 
 find-requires : tie.Need-find-requires
 find-requires c κs = (c .before .before .before .before .pre, c .before .before .if1 .left)
@@ -41,7 +38,8 @@ found-reply-requires c κs = search needs
 returns-4 : tie.Need-returns-4
 returns-4 c = λ s. c .found-reply .ensures ∙ ap (finding 134) (c .before .find .ensures s)
     ∙ sym (ap (λ (x : Executed). x .reply)
-    (find-runs (s .n) (s .list) _ _ _ _ (c .before .before .before .before .if1 .left) (c .before .before .before .if2 .left) (c .before .before .if3 .left)))
+    (find-runs (s .n) (s .list) _ _ _ _ (c .before .before .before .before .if1 .left)
+    (c .before .before .before .if2 .left) (c .before .before .if3 .left)))
 
 pub run-find-spec : {M : Type 1} → statement M
 run-find-spec =

@@ -5,10 +5,6 @@ use Rattle.execute.proofs.ReplyLaws.{load-runs}
 use borrow.Author.Needs.{needs}
 use Rattle.execute.proofs.run_load.Statement.{statement}
 use Rattle.execute.proofs.run_load.Tie as tie
-use Rattle.execute.proofs.run_load.Reads as reads
-use Rattle.execute.proofs.run_load.Lts as lts
-use Rattle.execute.proofs.loaded_reply.Reads as loaded-reply-reads
-use Rattle.lookup.proofs.load.Reads as load-reads
 
 load-requires : tie.Need-load-requires
 load-requires c κs = search needs

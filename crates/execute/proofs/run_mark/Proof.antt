@@ -7,18 +7,15 @@ use Rattle.execute.proofs.ReplyLaws.{leaves, remarks, mark-above, mark-
 use borrow.Author.Needs.{needs}
 use Rattle.execute.proofs.run_mark.Statement.{statement}
 use Rattle.execute.proofs.run_mark.Tie as tie
-use Rattle.execute.proofs.run_mark.Reads as reads
-use Rattle.execute.proofs.run_mark.Lts as lts
-use Rattle.execute.proofs.answered.Reads as answered-reads
-use Rattle.execute.proofs.covered_reply.Reads as covered-reply-reads
-use Rattle.marks.proofs.set_mark.Reads as set-mark-reads
 
 answered-requires : tie.Need-answered-requires
 answered-requires c κs = search needs
 
 returns : tie.Need-returns
-returns c =
-    ((λ s. leaves s (Mark _ _) (mark-above (s .n) (s .list) _ _ (c .before .if1 .taken)) (c .answered .ensures)), λ low u. u)
+returns c = (
+  (λ s. leaves s (Mark _ _) (mark-above (s .n) (s .list) _ _ (c .before .if1 .taken)) (c .answered .ensures)),
+  λ low u. u,
+)
 
 set-mark-requires : tie.Need-set-mark-requires
 set-mark-requires c κs = search needs

@@ -7,18 +7,16 @@ use Rattle.blocks.proofs.BoolLaws.{not-true, not-false}
 use borrow.Author.Needs.{needs}
 use Rattle.execute.proofs.run_store.Statement.{statement}
 use Rattle.execute.proofs.run_store.Tie as tie
-use Rattle.execute.proofs.run_store.Reads as reads
-use Rattle.execute.proofs.run_store.Lts as lts
-use Rattle.execute.proofs.answered.Reads as answered-reads
-use Rattle.execute.proofs.is_storable.Reads as is-storable-reads
-use Rattle.execute.proofs.stored_reply.Reads as stored-reply-reads
-use Rattle.store.proofs.store.Reads as store-reads
 
 answered-requires : tie.Need-answered-requires
 answered-requires c κs = search needs
 
 returns : tie.Need-returns
-returns c = ((λ s. leaves s (Store _ _ _) (store-order (s .n) (s .list) _ _ _ (c .before .if1 .taken)) (c .answered .ensures)), c .before .before .before .pre .1)
+returns c = (
+  (λ s. leaves s (Store _ _ _) (store-order (s .n) (s .list) _ _ _ (c .before .if1 .taken))
+      (c .answered .ensures)),
+  c .before .before .before .pre .1,
+)
 
 is-storable-requires : tie.Need-is-storable-requires
 is-storable-requires c κs = search needs
@@ -29,7 +27,8 @@ answered-requires-2 c κs = search needs
 returns-2 : tie.Need-returns-2
 returns-2 c = (
   (λ s. leaves s (Store _ _ _)
-      (store-word (s .n) (s .list) _ _ _ (c .before .before .before .if1 .left) (sym (c .before .before .is-storable .ensures) ∙ not-true _ (c .before .if2 .taken)))
+      (store-word (s .n) (s .list) _ _ _ (c .before .before .before .if1 .left)
+      (sym (c .before .before .is-storable .ensures) ∙ not-true _ (c .before .if2 .taken)))
       (c .answered2 .ensures)),
   c .before .before .before .before .before .pre .1,
 )
@@ -39,7 +38,10 @@ store-requires c κs = (
   c .before .before .before .before .before .pre .0,
   (
     c .before .before .before .if1 .left,
-    (subst T (sym (sym (c .before .before .is-storable .ensures) ∙ not-false _ (c .before .if2 .left))) tt, c .before .before .before .before .before .pre .1),
+    (
+      subst T (sym (sym (c .before .before .is-storable .ensures) ∙ not-false _ (c .before .if2 .left))) tt,
+      c .before .before .before .before .before .pre .1,
+    ),
   ),
 )
 
@@ -51,7 +53,9 @@ same-length c = search needs
 
 returns-3 : tie.Need-returns-3
 returns-3 c = (
-  (λ s. stores s _ _ _ (c .before .before .before .before .before .before .before .if1 .left) (sym (c .before .before .before .before .before .before .is-storable .ensures) ∙ not-false _ (c .before .before .before .before .before .if2 .left))
+  (λ s. stores s _ _ _ (c .before .before .before .before .before .before .before .if1 .left)
+      (sym (c .before .before .before .before .before .before .is-storable .ensures) ∙ not-false _
+      (c .before .before .before .before .before .if2 .left))
       (c .before .before .before .store .ensures .0 s) (c .stored-reply .ensures)),
   c .before .before .before .store .ensures .1,
 )

@@ -3,10 +3,6 @@ use Rattle.execute.specs.Contracts.{storedReply}
 use borrow.Author.Needs.{needs}
 use Rattle.execute.proofs.stored_reply.Statement.{statement}
 use Rattle.execute.proofs.stored_reply.Tie as tie
-use Rattle.execute.proofs.stored_reply.Reads as reads
-use Rattle.execute.proofs.stored_reply.Lts as lts
-use Rattle.execute.proofs.answered.Reads as answered-reads
-use Rattle.execute.proofs.answered_by.Reads as answered-by-reads
 
 enum-known-x : tie.Need-enum-known-x
 enum-known-x c = search needs

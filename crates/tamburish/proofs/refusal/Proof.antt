@@ -3,8 +3,6 @@ use lib.ListN.{length-set}
 use borrow.Author.Needs.{needs}
 use Rattle.tamburish.proofs.refusal.Statement.{statement}
 use Rattle.tamburish.proofs.refusal.Tie as tie
-use Rattle.tamburish.proofs.refusal.Reads as reads
-use Rattle.tamburish.proofs.refusal.Lts as lts
 
 returns : tie.Need-returns
 returns c = search needs

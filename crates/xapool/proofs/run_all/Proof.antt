@@ -11,10 +11,6 @@ use Rattle.xapool.specs.Running.{Running}
 use Rattle.xapool.proofs.RunningLaws.{running-start, room-for, running-on, running-end, never-bad}
 use Rattle.xapool.proofs.run_all.Statement.{statement}
 use Rattle.xapool.proofs.run_all.Tie as tie
-use Rattle.xapool.proofs.run_all.Reads as reads
-use Rattle.xapool.proofs.run_all.Lts as lts
-use Rattle.batch.proofs.read_at.Reads as read-at-reads
-use Rattle.xapool.proofs.run_one.Reads as run-one-reads
 
 abbrev Inv-loop : tie.InvT-loop
 Inv-loop pool₀ batch reply₀ at₀ out₀ low₀ pool reply at out low =
@@ -25,7 +21,9 @@ abbrev μ-loop : tie.MeasureT-loop
 
 -- the record that was read
 was : (c : tie.After-r Inv-loop μ-loop) →
-    Next (c .r .given .0 .0) (c .r .given .0 .1 .0) ≡ readAt (c .before .before .before .before .before .before .before .args .batch .now) (c .before .before .before .loop .at)
+    Next (c .r .given .0 .0) (c .r .given .0 .1 .0) ≡ readAt
+    (c .before .before .before .before .before .before .before .args .batch .now)
+    (c .before .before .before .loop .at)
 was c = sym (c .r .given .1) ∙ c .before .before .read-at .ensures
 
 loop-holds : tie.Need-loop-holds Inv-loop μ-loop
@@ -38,21 +36,46 @@ enum-known-r : tie.Need-enum-known-r Inv-loop μ-loop
 enum-known-r c = search needs
 
 run-one-requires : tie.Need-run-one-requires Inv-loop μ-loop
-run-one-requires c κs = let r = c .before .before .before .before .before .before .loop .inv .1 in
-    (r .formed, (r .used, room-for r (sym (c .before .before .before .r .given .1) ∙ c .before .before .before .before .before .read-at .ensures)))
+run-one-requires c κs = let r = c .before .before .before .before .before .before .loop .inv .1 in (
+  r .formed,
+  (
+    r .used,
+    room-for r (sym (c .before .before .before .r .given .1) ∙ c .before .before .before .before
+        .before .read-at .ensures),
+  ),
+)
 
 add-out : tie.Need-add-out Inv-loop μ-loop
-add-out c = omega (arith, room-for (c .before .before .before .before .before .before .before .before .before .before .before .loop .inv .1) (was (c .before .before .before .before .before .before .before .before)))
+add-out c = omega (
+  arith,
+  room-for (c .before .before .before .before .before .before .before .before .before .before
+      .before .loop .inv .1) (was (c .before .before .before .before .before .before .before .before)),
+)
 
 loop-less : tie.Need-loop-less Inv-loop μ-loop
-loop-less c = omega (arith, next-after _ _ (sym (was (c .before .before .before .before .before .before .before .before))))
+loop-less c = omega (
+  arith,
+  next-after _ _ (sym (was (c .before .before .before .before .before .before .before
+      .before))),
+)
 
 loop-again : tie.Need-loop-again Inv-loop μ-loop
-loop-again c = let r = c .before .before .before .before .before .before .before .before .before .before .before .loop .inv .1 in (
-  c .before .before .before .pool .given ∙ c .before .before .before .before .before .before .before .before .before .before .before .loop .inv .0,
-  running-on r (was (c .before .before .before .before .before .before .before .before)) (read-fits (record { small = λ i. omega (arith, c .before .before .before .before .before .before .before .before .before .before .before .before .before .shared-slice-known .given i) }) _ (sym (was (c .before .before .before .before .before .before .before .before))))
-      (c .before .before .before .before .run-one .ensures .0 (r .formed)) (c .before .before .before .before .run-one .ensures .1) (c .before .reply .given),
-)
+loop-again c = let r = c .before .before .before .before .before .before .before .before .before .before .before .loop
+    .inv .1 in (
+      c .before .before .before .pool .given ∙ c .before .before .before .before .before .before .before .before .before
+          .before .before .loop .inv .0,
+      running-on r (was (c .before .before .before .before .before .before .before .before))
+          (read-fits (record {
+            small = λ i. omega (
+              arith,
+              c .before .before .before .before .before .before .before
+                  .before .before .before .before .before .before .shared-slice-known .given i,
+            );
+          }) _
+          (sym (was (c .before .before .before .before .before .before .before .before))))
+          (c .before .before .before .before .run-one .ensures .0 (r .formed))
+          (c .before .before .before .before .run-one .ensures .1) (c .before .reply .given),
+    )
 
 enum-told : tie.Need-enum-told Inv-loop μ-loop
 enum-told c = search needs
@@ -64,7 +87,8 @@ same-length-2 : tie.Need-same-length-2 Inv-loop μ-loop
 same-length-2 c = c .before .before .before .loop .inv .1 .same-length
 
 returns : tie.Need-returns Inv-loop μ-loop
-returns c = λ s cs e. absurd (never-bad (c .before .before .before .loop .inv .1) (sym (c .enum-told .given .1) ∙ c .before .before .read-at .ensures))
+returns c = λ s cs e. absurd (never-bad (c .before .before .before .loop .inv .1)
+    (sym (c .enum-told .given .1) ∙ c .before .before .read-at .ensures))
 
 enum-told-2 : tie.Need-enum-told-2 Inv-loop μ-loop
 enum-told-2 c = search needs
@@ -76,7 +100,8 @@ same-length-4 : tie.Need-same-length-4 Inv-loop μ-loop
 same-length-4 c = c .before .before .before .loop .inv .1 .same-length
 
 returns-2 : tie.Need-returns-2 Inv-loop μ-loop
-returns-2 c = λ s cs e. running-end (c .before .before .before .loop .inv .1) (sym (c .enum-told2 .given .1) ∙ c .before .before .read-at .ensures) s cs e
+returns-2 c = λ s cs e. running-end (c .before .before .before .loop .inv .1)
+    (sym (c .enum-told2 .given .1) ∙ c .before .before .read-at .ensures) s cs e
 
 pub run-all-spec : {M : Type 1} → statement M
 run-all-spec =

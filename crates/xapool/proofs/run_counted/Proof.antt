@@ -4,15 +4,17 @@ use Rattle.xapool.proofs.CallLaws.{was-read, ahead, run-short, comes-re
 use borrow.Author.Needs.{needs}
 use Rattle.xapool.proofs.run_counted.Statement.{statement}
 use Rattle.xapool.proofs.run_counted.Tie as tie
-use Rattle.xapool.proofs.run_counted.Reads as reads
-use Rattle.xapool.proofs.run_counted.Lts as lts
-use Rattle.xapool.proofs.run_all.Reads as run-all-reads
 
 returns : tie.Need-returns
-returns c = as-ensures (comes-refused (run-short _ _ _ (c .before .before .before .before .pre .0) (was-read (c .before .before .before .before .pre .1)) (omega arith)))
+returns c = as-ensures (comes-refused (run-short _ _ _ (c .before .before .before .before .pre .0)
+    (was-read (c .before .before .before .before .pre .1)) (omega arith)))
 
 run-all-requires : tie.Need-run-all-requires
-run-all-requires c κs = (accepted _ (c .before .before .before .before .before .before .pre .0), ahead (c .before .before .before .before .before .before .args .reply .now) (was-read (c .before .before .before .before .before .before .pre .1)) (omega arith))
+run-all-requires c κs = (
+  accepted _ (c .before .before .before .before .before .before .pre .0),
+  ahead (c .before .before .before .before .before .before .args .reply .now)
+      (was-read (c .before .before .before .before .before .before .pre .1)) (omega arith),
+)
 
 same-length : tie.Need-same-length
 same-length c = search needs
@@ -21,8 +23,12 @@ same-length-2 : tie.Need-same-length-2
 same-length-2 c = search needs
 
 returns-2 : tie.Need-returns-2
-returns-2 c = let r = was-read (c .before .before .before .before .before .before .before .before .before .before .before .pre .1) in
-    as-ensures (ran (c .before .before .before .before .before .before .before .before .before .before .before .pre .0) r (omega arith) (c .before .before .before .before .run-all .ensures (accepted _ (c .before .before .before .before .before .before .before .before .before .before .before .pre .0)) (r .cs) (r .rest)))
+returns-2 c = let r = was-read (c .before .before .before .before .before .before .before .before .before .before
+    .before .pre .1) in
+    as-ensures (ran (c .before .before .before .before .before .before .before .before .before .before .before .pre
+    .0) r (omega arith) (c .before .before .before .before .run-all .ensures
+    (accepted _ (c .before .before .before .before .before .before .before .before .before .before .before .pre
+    .0)) (r .cs) (r .rest)))
 
 pub run-counted-spec : {M : Type 1} → statement M
 run-counted-spec =

@@ -3,10 +3,6 @@ use Rattle.xapool.proofs.RunningLaws.{turned}
 use borrow.Author.Needs.{needs}
 use Rattle.xapool.proofs.run_one.Statement.{statement}
 use Rattle.xapool.proofs.run_one.Tie as tie
-use Rattle.xapool.proofs.run_one.Reads as reads
-use Rattle.xapool.proofs.run_one.Lts as lts
-use Rattle.batch.proofs.write_reply.Reads as write-reply-reads
-use Rattle.execute.proofs.execute.Reads as execute-reads
 
 execute-requires : tie.Need-execute-requires
 execute-requires c κs = search needs
@@ -21,7 +17,12 @@ same-length-2 : tie.Need-same-length-2
 same-length-2 c = search needs
 
 returns : tie.Need-returns
-returns c = ((λ s. turned s (c .before .before .before .before .before .before .before .execute .ensures .0 s) refl (c .before .before .write-reply .ensures)), c .before .before .before .before .before .before .before .execute .ensures .1)
+returns c = (
+  (λ s. turned s (c .before .before .before .before .before .before .before .execute .ensures .0 s) refl
+      (c .before .before .write-reply .ensures)),
+  c .before .before .before .before .before .before .before .execute
+      .ensures .1,
+)
 
 pub run-one-spec : {M : Type 1} → statement M
 run-one-spec =

@@ -4,9 +4,6 @@ use Rattle.xapool.specs.Calls.{result}
 use borrow.Author.Needs.{needs}
 use Rattle.xapool.proofs.xapool_check.Statement.{statement}
 use Rattle.xapool.proofs.xapool_check.Tie as tie
-use Rattle.xapool.proofs.xapool_check.Reads as reads
-use Rattle.xapool.proofs.xapool_check.Lts as lts
-use Rattle.verify.proofs.check.Reads as check-reads
 
 check-requires : tie.Need-check-requires
 check-requires c κs = search needs

@@ -4,9 +4,6 @@ use Rattle.xapool.specs.Calls.{result}
 use borrow.Author.Needs.{needs}
 use Rattle.xapool.proofs.xapool_init.Statement.{statement}
 use Rattle.xapool.proofs.xapool_init.Tie as tie
-use Rattle.xapool.proofs.xapool_init.Reads as reads
-use Rattle.xapool.proofs.xapool_init.Lts as lts
-use Rattle.verify.proofs.init.Reads as init-reads
 
 init-requires : tie.Need-init-requires
 init-requires c κs = search needs

@@ -3,11 +3,6 @@ use Rattle.xapool.proofs.CallLaws.{run-unchecked, run-bad, comes-refuse
 use borrow.Author.Needs.{needs}
 use Rattle.xapool.proofs.xapool_run.Statement.{statement}
 use Rattle.xapool.proofs.xapool_run.Tie as tie
-use Rattle.xapool.proofs.xapool_run.Reads as reads
-use Rattle.xapool.proofs.xapool_run.Lts as lts
-use Rattle.batch.proofs.count.Reads as count-reads
-use Rattle.verify.proofs.check.Reads as check-reads
-use Rattle.xapool.proofs.run_counted.Reads as run-counted-reads
 
 check-requires : tie.Need-check-requires
 check-requires c κs = search needs
@@ -29,13 +24,19 @@ enum-known-counted-2 : tie.Need-enum-known-counted-2
 enum-known-counted-2 c = search needs
 
 run-counted-requires : tie.Need-run-counted-requires
-run-counted-requires c κs = (sym (c .before .before .before .before .before .before .before .check .ensures) ∙ c .before .before .before .before .before .before .if1 .left, sym (c .before .before .before .counted2 .given .1) ∙ c .before .before .before .before .before .count .ensures)
+run-counted-requires c κs = (
+  sym (c .before .before .before .before .before .before .before .check .ensures) ∙ c
+      .before .before .before .before .before .before .if1 .left,
+  sym (c .before .before .before .counted2 .given .1) ∙
+      c .before .before .before .before .before .count .ensures,
+)
 
 same-length-2 : tie.Need-same-length-2
 same-length-2 c = search needs
 
 returns-2 : tie.Need-returns-2
-returns-2 c = as-ensures (comes-refused (run-bad _ _ _ (sym (c .before .before .before .before .before .check .ensures) ∙ c .before .before .before .before .if1 .left)
+returns-2 c = as-ensures (comes-refused (run-bad _ _ _
+    (sym (c .before .before .before .before .before .check .ensures) ∙ c .before .before .before .before .if1 .left)
     (sym (c .before .counted .given .1) ∙ c .before .before .before .count .ensures)))
 
 same-length-3 : tie.Need-same-length-3
