@@ -23,6 +23,7 @@ ghost use Rattle.model.specs.Model.{maxOrder, markCount};
 ghost use Rattle.tree.specs.Tree.{slots, tierOrder, topTier, height, slotMark};
 ghost use Rattle.layout.specs.Words.{place, lastField};
 ghost use Rattle.layout.specs.WellFormed.{WellFormed, num};
+ghost use Rattle.layout.proofs.SlotWordLaws.{View};
 ghost use Rattle.lookup.specs.Find;
 ghost use Rattle.lookup.specs.Load;
 ghost use Rattle.lookup.specs.Find.{anyMark, afterSlot, entryTurn, turnAt};
@@ -56,6 +57,12 @@ pub enum Entered {
     Outside,
     Bare(Entry),
     Under(u64, u64),
+}
+
+// What one step down the tree hands back: a slot by the number of its block, and what its word says.
+pub struct Reached {
+    pub block: u64,
+    pub slot: Slot,
 }
 
 // What the slot of a node towards an index shows: nothing; the entry whose first slot is given; a node.
@@ -159,6 +166,20 @@ fn entry_at(pool: &[u64], n: u64, v: u64, c: u64) -> Entry
 
 // THE WAY DOWN
 
+// One step down from node n: its slot towards p.
+fn reach(pool: &[u64], n: u64, v: u64, p: u64) -> Reached
+    requires { ⌜ WellFormed (now pool) ⌝ }
+    requires { ⌜ v < topTier ⌝ }
+    requires { ⌜ ((s : WellFormed (now pool)) → AtNode (s .list) (num s) v (block (tierOrder (suc v)) p) n) ⌝ }
+    ensures { λ r. ⌜ r .block ≡ block (tierOrder v) p ⌝ }
+    ensures { λ r. ⌜ ((s : WellFormed (now (pool .entry))) →
+        View (s .list) (num s) v (block (tierOrder v) p) (r .slot)) ⌝ }
+{
+    let c = block_of(v, p);
+    let k = read_slot(field(pool, n, SLOT_FIELD + c % SLOTS));
+    Reached { block: c, slot: k }
+}
+
 // What the slot of node n towards p shows; a sibling shows its entry's first slot.
 fn look(pool: &[u64], n: u64, v: u64, p: u64) -> Sight
     requires { ⌜ WellFormed (now pool) ⌝ }
@@ -166,8 +187,9 @@ fn look(pool: &[u64], n: u64, v: u64, p: u64) -> Sight
     requires { ⌜ ((s : WellFormed (now pool)) → AtNode (s .list) (num s) v (block (tierOrder (suc v)) p) n) ⌝ }
     ensures { λ r. ⌜ ((s : WellFormed (now (pool .entry))) → Sees (s .list) (num s) v p n r) ⌝ }
 {
-    let c = block_of(v, p);
-    let k = read_slot(field(pool, n, SLOT_FIELD + c % SLOTS));
+    let r = reach(pool, n, v, p);
+    let c = r.block;
+    let k = r.slot;
     match k {
         Slot::Empty => Sight::Gap,
         Slot::Held => Sight::Shows(c),
