@@ -6,10 +6,9 @@ use mathlib.Core.Bool.{true, false}
 use mathlib.Core.List.{List, [], _∷_, _++_}
 use native.Mathlib.Omega.{arith}
 use lib.Dec.{ltb, eqb}
-use lib.ListN.{length, drop, length-append}
+use lib.ListN.{length, drop}
 use borrow.Author.Tests.{eq-eqb, ne-eqb, lt-ltb, le-ltb, ltb-true, ltb-false}
 use Rattle.blocks.proofs.BoolLaws.{byT}
-use Rattle.model.specs.declared.Entry.{Entry}
 use Rattle.layout.specs.Decide.{nodeCount}
 use Rattle.layout.specs.WellFormed.{WellFormed}
 use Rattle.verify.specs.Answers.{checkAnswer}
@@ -19,12 +18,12 @@ use Rattle.batch.specs.declared.Counted.{Counted}
 use Rattle.batch.specs.declared.Counted.the-variants.{Commands, Refused}
 use Rattle.batch.specs.Bytes.{overwrite}
 use Rattle.batch.specs.Batch.{maxBatch, Parsed, Parsed.commands, Parsed.refused, counted, restAt, parse}
-use Rattle.batch.specs.Reply.{replyBytes, encode}
+use Rattle.batch.specs.Reply.{replyBytes}
 use Rattle.batch.proofs.ParseLaws.{parse-long, parse-rest, not-refused}
 use Rattle.batch.proofs.WriteLaws.{overwrite-all}
-use Rattle.execute.specs.Execute.{execute}
 use Rattle.xapool.specs.Calls.{Called, result, refuseCall, badRecord, replyShort, done, replies, runParsed, run}
 use Rattle.xapool.specs.Running.{Ahead, Ends}
+use Rattle.xapool.proofs.RunningLaws.{replies-length}
 
 -- A BATCH THAT WAS COUNTED
 pub record Read (bs : List ℕ) (k : ℕ) : Type 0 where
@@ -90,12 +89,6 @@ module _ (ws bs rs : List ℕ) where
           ∙ rw (r .count, lt-ltb (length rs) (replyBytes * k) h)
 
 -- DONE
-replies-length : (n : ℕ) (l : List Entry) (cs : List Command) → length (replies n l cs) ≡ replyBytes * length cs
-replies-length n l [] = refl
-replies-length n l (c ∷ cs) =
-    length-append (encode (execute n l c .reply)) (replies n (execute n l c .list) cs)
-    ∙ omega (arith, replies-length n (execute n l c .list) cs)
-
 -- there is room for all replies
 pub ahead : {bs : List ℕ} {k : ℕ} (rs : List ℕ) (r : Read bs k) → replyBytes * k ≤ length rs →
     Ahead bs 0 (length rs) 0

@@ -114,6 +114,12 @@ reply-then n l c cs reply reply′ out e =
     ap (λ (x : List ℕ). overwrite x (out + replyBytes) (replies n (execute n l c .list) cs)) e
     ∙ sym (overwrite-append reply out (encode (execute n l c .reply)) (replies n (execute n l c .list) cs))
 
+pub replies-length : (n : ℕ) (l : List Entry) (cs : List Command) → length (replies n l cs) ≡ replyBytes * length cs
+replies-length n l [] = refl
+replies-length n l (c ∷ cs) =
+    length-append (encode (execute n l c .reply)) (replies n (execute n l c .list) cs)
+    ∙ omega (arith, replies-length n (execute n l c .list) cs)
+
 module _ {pool₀ reply₀ batch pool reply : List ℕ} {at out low : ℕ}
     (r : Running pool₀ reply₀ batch pool reply at out low)
   where
