@@ -22,7 +22,7 @@ use Rattle.layout.specs.Places.{Places, Placed, same, standing}
 use Rattle.layout.specs.Decode.{listOf, placesOf}
 use Rattle.layout.specs.WellFormed.{Sized, Prescribed}
 use Rattle.layout.specs.Decide.{nodeCount, isSized, isEntry, isSorted, allStand, isPlaced, equal, isWellFormed}
-use Rattle.layout.proofs.PlacesLaws.{same-is, pigeon, all-places, blank-places}
+use Rattle.layout.proofs.PlacesLaws.{same-is, pigeon, all-places, free-places}
 use Rattle.decode.proofs.PrescribedWords.{same-self}
 use Rattle.decode.proofs.DecodeLaws.{decode-list, decode-places}
 
@@ -122,7 +122,7 @@ placed-is {n} {l} {os} pl =
     both-i (eq-eqb _ _ (pl .size))
     (both-i (stand-is l (pl .sound) (pl .once))
     (eq-eqb (length (standing os)) (length (nodes l))
-    (omega (arith, all-places os, pl .size, blank-places n l os pl))))
+    (omega (arith, all-places os, pl .size, free-places n l os pl))))
 
 pub is-placed : (n : ℕ) (l : List Entry) (os : Places) → isPlaced n l os ≡ true → Placed n l os
 is-placed n l os t =

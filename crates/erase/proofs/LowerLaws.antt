@@ -44,7 +44,7 @@ use Rattle.layout.specs.Words.{
 use Rattle.layout.proofs.OwnerLaws.{within-up}
 use Rattle.layout.specs.Places.{Places, numberIn, numberOf, render, prune, keepIf}
 use Rattle.layout.proofs.RenderLaws.{render-is}
-use Rattle.layout.proofs.PlacesLaws.{spot-prune}
+use Rattle.layout.proofs.PlacesLaws.{number-prune}
 use Rattle.layout.specs.Pool.{slotOf}
 use Rattle.layout.specs.declared.Slot.{Slot}
 use Rattle.layout.specs.declared.Slot.the-variants.{Empty, Held, Sibling, Child}
@@ -100,7 +100,7 @@ module _ {n h : ℕ} {l : List Entry} {os : Places} {ws : List ℕ} (w : Tall n 
       ν′ = numberIn (prune l os)
 
       same : (u b : ℕ) → u ≤ h → any (within (tierOrder u) b) l ≡ true → numberIn (prune l os) u b ≡ numberIn os u b
-      same u b le t = spot-prune (nd u b) l os (rw (le-leb u (height l) (omega arith), t))
+      same u b le t = number-prune (nd u b) l os (rw (le-leb u (height l) (omega arith), t))
 
       anchor : (k : ℕ) → k < anchorWords → getD ws k 0 ≡ anchorWord l (numberIn (prune l os)) n k
       anchor zero lt = w .first

@@ -29,7 +29,7 @@ use Rattle.tree.specs.Tree.{nodes, newNodes, needed}
 use Rattle.tree.proofs.ChangeLaws.{clear-new}
 use Rattle.tree.proofs.RelabelLaws.{new-nodes-map}
 use Rattle.layout.specs.Places.{Places, Placed, freeCount, newPlaces}
-use Rattle.layout.proofs.PlacesLaws.{placed-new, blank-places}
+use Rattle.layout.proofs.PlacesLaws.{placed-new, free-places}
 use Rattle.layout.proofs.StayLaws.{none-new}
 use Rattle.lookup.specs.Find.{anyMark}
 use Rattle.marks.proofs.RemarkLaws.{sorted-remark}
@@ -115,7 +115,7 @@ next-kept {n} {s} c f k =
       valid = h .valid;
       placed =
           placed-new n (s .list) (s .places) (k .placed) (execute n (s .list) c .list)
-          (omega (arith, h .enough, blank-places n (s .list) (s .places) (k .placed)));
+          (omega (arith, h .enough, free-places n (s .list) (s .places) (k .placed)));
     }
 
 pub states-kept : {n : ℕ} {s : State} {cs : List Command} → All Fits cs → Kept n s → Kept n (states n s cs)

@@ -28,7 +28,7 @@ use Rattle.layout.specs.Words.{nodeWords, owner, field}
 use Rattle.layout.specs.Places.{Places, Placed, numberIn, newPlaces}
 use Rattle.layout.proofs.OwnerLaws.{parent, owner-same}
 use Rattle.layout.proofs.FieldLaws.{field-same, apart-slot}
-use Rattle.layout.proofs.PlacesLaws.{spot-stays}
+use Rattle.layout.proofs.PlacesLaws.{number-stays}
 use Rattle.lookup.proofs.WordLaws.{has-tier}
 
 -- two lists agree apart from the range of order k that holds i
@@ -130,7 +130,7 @@ module _ (i k : ℕ) {l l′ : List Entry} (ag : Agree i k l l′) where
         let s′ : any (within (tierOrder v) d) l′ ≡ true =
         ag .any-same (within (tierOrder v) d) (tierOrder v) d (within-only (tierOrder v) d)
         (apart-slot i k v b d a q) ∙ s in
-        spot-stays n l os pl l′ (record { tier = v; number = d })
+        number-stays n l os pl l′ (record { tier = v; number = d })
         (rw (le-leb v (height l) (omega (arith, low))) s) (rw (le-leb v (height l′) (omega (arith, low′))) s′)
 
     pub field-agree : (f : ℕ) → f < nodeWords →
@@ -139,7 +139,7 @@ module _ (i k : ℕ) {l l′ : List Entry} (ag : Agree i k l l′) where
         field-same l l′ (numberIn os) (numberIn (newPlaces l l′ os)) v b
         (owner-same l l′ (numberIn os) (numberIn (newPlaces l l′ os)) (suc v) b (omega (arith, low))
         (omega (arith, low′))
-        (spot-stays n l os pl l′ (record { tier = suc (suc v); number = b / slots })
+        (number-stays n l os pl l′ (record { tier = suc (suc v); number = b / slots })
         (parent l (suc v) b t (omega (arith, low))) (parent l′ (suc v) b t′ (omega (arith, low′)))))
         (λ m d _ q. mark-agree m v d (apart-slot i k v b d a q))
         (λ d q. slot-agree (numberIn os) (numberIn (newPlaces l l′ os)) v d (apart-slot i k v b d a q) (below d q))

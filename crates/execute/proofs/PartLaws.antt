@@ -38,7 +38,7 @@ use Rattle.tree.specs.Tree.{tierOrder, height, has, Node}
 use Rattle.tree.proofs.ReadLaws.{over-some, over-none}
 use Rattle.layout.specs.Words.{anchorWords, nodeWords, fieldAt, field}
 use Rattle.layout.specs.Places.{Places, Placed, numberIn, newPlaces, allocate, keepIf, prune, wordAt}
-use Rattle.layout.proofs.NumberLaws.{prune-get, fill-stays, keep-some, in-standing}
+use Rattle.layout.proofs.NumberLaws.{prune-get, allocate-stays, keep-some, in-standing}
 use Rattle.lookup.proofs.WordLaws.{has-tier}
 use Rattle.execute.specs.State.{State}
 use Rattle.execute.specs.Part.{Range, rangeOf, meetsRange, isHead, nodePart, inPart}
@@ -84,7 +84,7 @@ module _ (n : ℕ) (s : State) (kp : Kept n s) (r : Range) (l′ : List Entry)
       let a : Places = allocate (s .places) _ in
       let k : keepIf l′ (getD a m none) ≡ some q = sym (prune-get l′ a m) ∙ g in
       let (b, t) = keep-some l′ (getD a m none) q k in
-      let c : getD a m none ≡ some p = fill-stays (s .places) _ m p e in
+      let c : getD a m none ≡ some p = allocate-stays (s .places) _ m p e in
       (cc, t)
 
   same-node : (p : Node) (f : ℕ) → f < nodeWords → has (s .list) (p .tier) (p .number) ≡ true →

@@ -16,7 +16,7 @@ use Rattle.tree.specs.Tree.{nodes, needed}
 use Rattle.marks.proofs.RemarkLaws.{places-remark}
 use Rattle.layout.specs.Places.{Places, newPlaces, prune, freeCount, render}
 use Rattle.layout.specs.WellFormed.{WellFormed}
-use Rattle.layout.proofs.PlacesLaws.{blank-places}
+use Rattle.layout.proofs.PlacesLaws.{free-places}
 use Rattle.layout.proofs.StayLaws.{same-places, places-prune}
 use Rattle.lookup.specs.Load.{load, loaded, depth}
 use Rattle.lookup.specs.Find.{anyMark, find}
@@ -163,7 +163,7 @@ stores {ws} {ws′} s i k w {x} {q} h t r e =
     l′ = store (s .list) i k w
 
     free : freeCount (s .places) ≡ s .n - length (nodes (s .list))
-    free = omega (arith, blank-places (s .n) (s .list) (s .places) (s .placed))
+    free = omega (arith, free-places (s .n) (s .list) (s .places) (s .placed))
 
     full : needed (s .list) l′ ≤ freeCount (s .places) → Executes s (Store i k w) q ws′
     full d =

@@ -22,15 +22,15 @@ use Rattle.layout.specs.Places.{
   keepIf,
   newPlaces,
 }
-use Rattle.layout.proofs.PlacesLaws.{placed-new, spot-stays}
+use Rattle.layout.proofs.PlacesLaws.{placed-new, number-stays}
 use Rattle.layout.proofs.NumberLaws.{
   nd,
   number-at,
   in-standing,
   number-of,
   prune-get,
-  fill-stays,
-  fill-get,
+  allocate-stays,
+  allocate-get,
   keep-some,
 }
 
@@ -56,7 +56,7 @@ module _ (n : ℕ) (l : List Entry) (os : Places) (pl : Placed n l os) (l′ : L
       (subst (λ (x : ℕ). numberOf (nd u b) os′ < x) (pl′ .size) a, e)
 
   pub kept : (u b : ℕ) → has l u b ≡ true → has l′ u b ≡ true → numberIn os′ u b ≡ numberIn os u b
-  kept u b t t′ = spot-stays n l os pl l′ (nd u b) t t′
+  kept u b t t′ = number-stays n l os pl l′ (nd u b) t t′
 
   -- what stood there before
   pub was : (u b : ℕ) → has l′ u b ≡ true → has l u b ≡ true → getD os (numberIn os′ u b) none ≡ some (nd u b)
@@ -66,7 +66,7 @@ module _ (n : ℕ) (l : List Entry) (os : Places) (pl : Placed n l os) (l′ : L
   was-not u b t′ t =
       let e : keepIf l′ (getD (allocate os (newNodes l l′)) (numberIn os′ u b) none) ≡ some (nd u b) = sym
       (prune-get l′ (allocate os (newNodes l l′)) (numberIn os′ u b)) ∙ new-at u b t′ .1 in
-      elim (fill-get os (newNodes l l′) (numberIn os′ u b) (nd u b) (keep-some l′ _ (nd u b) e .0)) [
+      elim (allocate-get os (newNodes l l′) (numberIn os′ u b) (nd u b) (keep-some l′ _ (nd u b) e .0)) [
         | inl a ↦ absurd (clash (pl .sound (nd u b) (in-standing (nd u b) os _ a)) t)
         | inr b ↦ b .0
       ]
@@ -82,7 +82,7 @@ module _ (n : ℕ) (l : List Entry) (os : Places) (pl : Placed n l os) (l′ : L
     where
       go : (o : Option Node) → getD os m none ≡ o → keepIf l′ o ≡ none
       go none q = refl
-      go (some p) q = ap (keepIf l′) (sym (fill-stays os (newNodes l l′) m p q)) ∙
+      go (some p) q = ap (keepIf l′) (sym (allocate-stays os (newNodes l l′) m p q)) ∙
           (sym (prune-get l′ (allocate os (newNodes l l′)) m) ∙ e)
 
   pub distinct-numbers : (u b u′ b′ : ℕ) → has l′ u b ≡ true → has l′ u′ b′ ≡ true →
@@ -101,7 +101,7 @@ new-stays l l′ os m free taken e = go (getD (allocate os (newNodes l l′)) m 
     go : (o : Option Node) → getD (allocate os (newNodes l l′)) m none ≡ o → ⊥
     go none d = taken d
     go (some p) d =
-        let t : has l′ (p .tier) (p .number) ≡ true = elim (fill-get os (newNodes l l′) m p d) [
+        let t : has l′ (p .tier) (p .number) ≡ true = elim (allocate-get os (newNodes l l′) m p d) [
           | inl a ↦ (let z : _≡_ {A = ℕ} 0 1 = cc (sym free ∙ a) in absurd (omega arith))
           | inr b ↦ nodes-in l′ (without-in (λ q. has l (q .tier) (q .number)) (b .1))
         ] in

@@ -58,24 +58,24 @@ prune-get l [] m = refl
 prune-get l (o ∷ os) zero = refl
 prune-get l (o ∷ os) (suc m) = prune-get l os m
 
-pub fill-stays : (os : Places) (ps : List Node) (m : ℕ) (q : Node) → getD os m none ≡ some q →
+pub allocate-stays : (os : Places) (ps : List Node) (m : ℕ) (q : Node) → getD os m none ≡ some q →
     getD (allocate os ps) m none ≡ some q
-fill-stays [] ps m q e = e
-fill-stays (some r ∷ os) ps zero q e = e
-fill-stays (some r ∷ os) ps (suc m) q e = fill-stays os ps m q e
-fill-stays (none ∷ os) ps zero q e = let z : _≡_ {A = ℕ} 0 1 = cc in absurd (omega arith)
-fill-stays (none ∷ os) [] (suc m) q e = fill-stays os [] m q e
-fill-stays (none ∷ os) (p ∷ ps) (suc m) q e = fill-stays os ps m q e
+allocate-stays [] ps m q e = e
+allocate-stays (some r ∷ os) ps zero q e = e
+allocate-stays (some r ∷ os) ps (suc m) q e = allocate-stays os ps m q e
+allocate-stays (none ∷ os) ps zero q e = let z : _≡_ {A = ℕ} 0 1 = cc in absurd (omega arith)
+allocate-stays (none ∷ os) [] (suc m) q e = allocate-stays os [] m q e
+allocate-stays (none ∷ os) (p ∷ ps) (suc m) q e = allocate-stays os ps m q e
 
-pub fill-get : (os : Places) (ps : List Node) (m : ℕ) (p : Node) → getD (allocate os ps) m none ≡ some p →
+pub allocate-get : (os : Places) (ps : List Node) (m : ℕ) (p : Node) → getD (allocate os ps) m none ≡ some p →
     (getD os m none ≡ some p) ⊎ ((getD os m none ≡ none) × In p ps)
-fill-get [] ps m p e = inl e
-fill-get (some r ∷ os) ps zero p e = inl e
-fill-get (some r ∷ os) ps (suc m) p e = fill-get os ps m p e
-fill-get (none ∷ os) [] zero p e = inl e
-fill-get (none ∷ os) [] (suc m) p e = fill-get os [] m p e
-fill-get (none ∷ os) (q ∷ ps) zero p e = let d : q ≡ p = cc in inr (refl, subst (λ (r : Node). In r (q ∷ ps)) d here)
-fill-get (none ∷ os) (q ∷ ps) (suc m) p e = elim (fill-get os ps m p e)
+allocate-get [] ps m p e = inl e
+allocate-get (some r ∷ os) ps zero p e = inl e
+allocate-get (some r ∷ os) ps (suc m) p e = allocate-get os ps m p e
+allocate-get (none ∷ os) [] zero p e = inl e
+allocate-get (none ∷ os) [] (suc m) p e = allocate-get os [] m p e
+allocate-get (none ∷ os) (q ∷ ps) zero p e = let d : q ≡ p = cc in inr (refl, subst (λ (r : Node). In r (q ∷ ps)) d here)
+allocate-get (none ∷ os) (q ∷ ps) (suc m) p e = elim (allocate-get os ps m p e)
     [ inl a ↦ inl a | inr b ↦ inr (b .0, there (b .1)) ]
 
 pub keep-some : (l : List Entry) (o : Option Node) (p : Node) → keepIf l o ≡ some p →

@@ -19,45 +19,45 @@ use Rattle.tree.proofs.NodeListLaws.{in-nodes, nodes-in, distinct-to}
 use Rattle.layout.specs.Places.{same, newPlaces, standing, numberOf, prune, Places, freeCount, allocate, Placed}
 
 -- ALLOCATE
-pub fill-size : (os : Places) (ps : List Node) → length (allocate os ps) ≡ length os
-fill-size [] ps = refl
-fill-size (some q ∷ os) ps = ap suc (fill-size os ps)
-fill-size (none ∷ os) [] = ap suc (fill-size os [])
-fill-size (none ∷ os) (p ∷ ps) = ap suc (fill-size os ps)
+pub allocate-size : (os : Places) (ps : List Node) → length (allocate os ps) ≡ length os
+allocate-size [] ps = refl
+allocate-size (some q ∷ os) ps = ap suc (allocate-size os ps)
+allocate-size (none ∷ os) [] = ap suc (allocate-size os [])
+allocate-size (none ∷ os) (p ∷ ps) = ap suc (allocate-size os ps)
 
-pub fill-old : (os : Places) (ps : List Node) {p : Node} → In p (standing os) → In p (standing (allocate os ps))
-fill-old [] ps m = m
-fill-old (some q ∷ os) ps here = here
-fill-old (some q ∷ os) ps (there m) = there (fill-old os ps m)
-fill-old (none ∷ os) [] m = fill-old os [] m
-fill-old (none ∷ os) (p ∷ ps) m = there (fill-old os ps m)
+pub allocate-old : (os : Places) (ps : List Node) {p : Node} → In p (standing os) → In p (standing (allocate os ps))
+allocate-old [] ps m = m
+allocate-old (some q ∷ os) ps here = here
+allocate-old (some q ∷ os) ps (there m) = there (allocate-old os ps m)
+allocate-old (none ∷ os) [] m = allocate-old os [] m
+allocate-old (none ∷ os) (p ∷ ps) m = there (allocate-old os ps m)
 
-pub fill-new : (os : Places) (ps : List Node) {p : Node} → length ps ≤ freeCount os → In p ps →
+pub allocate-new : (os : Places) (ps : List Node) {p : Node} → length ps ≤ freeCount os → In p ps →
     In p (standing (allocate os ps))
-fill-new [] [] le m = elim m [ ]
-fill-new [] (p ∷ ps) le m = absurd (omega arith)
-fill-new (some q ∷ os) ps le m = there (fill-new os ps le m)
-fill-new (none ∷ os) [] le m = elim m [ ]
-fill-new (none ∷ os) (p ∷ ps) le here = here
-fill-new (none ∷ os) (p ∷ ps) le (there m) = there (fill-new os ps (omega arith) m)
+allocate-new [] [] le m = elim m [ ]
+allocate-new [] (p ∷ ps) le m = absurd (omega arith)
+allocate-new (some q ∷ os) ps le m = there (allocate-new os ps le m)
+allocate-new (none ∷ os) [] le m = elim m [ ]
+allocate-new (none ∷ os) (p ∷ ps) le here = here
+allocate-new (none ∷ os) (p ∷ ps) le (there m) = there (allocate-new os ps (omega arith) m)
 
-pub fill-in : (os : Places) (ps : List Node) {p : Node} → In p (standing (allocate os ps)) →
+pub allocate-in : (os : Places) (ps : List Node) {p : Node} → In p (standing (allocate os ps)) →
     In p (standing os) ⊎ In p ps
-fill-in [] ps m = inl m
-fill-in (some q ∷ os) ps here = inl here
-fill-in (some q ∷ os) ps (there m) = elim (fill-in os ps m) [ inl a ↦ inl (there a) | inr b ↦ inr b ]
-fill-in (none ∷ os) [] m = fill-in os [] m
-fill-in (none ∷ os) (p ∷ ps) here = inr here
-fill-in (none ∷ os) (p ∷ ps) (there m) = elim (fill-in os ps m) [ inl a ↦ inl a | inr b ↦ inr (there b) ]
+allocate-in [] ps m = inl m
+allocate-in (some q ∷ os) ps here = inl here
+allocate-in (some q ∷ os) ps (there m) = elim (allocate-in os ps m) [ inl a ↦ inl (there a) | inr b ↦ inr b ]
+allocate-in (none ∷ os) [] m = allocate-in os [] m
+allocate-in (none ∷ os) (p ∷ ps) here = inr here
+allocate-in (none ∷ os) (p ∷ ps) (there m) = elim (allocate-in os ps m) [ inl a ↦ inl a | inr b ↦ inr (there b) ]
 
-pub fill-once : (os : Places) {ps : List Node} → Distinct (standing os) → Distinct ps →
+pub allocate-once : (os : Places) {ps : List Node} → Distinct (standing os) → Distinct ps →
     ((p : Node) → In p (standing os) → In p ps → ⊥) → Distinct (standing (allocate os ps))
-fill-once [] d e f = d
-fill-once (some q ∷ os) {ps} (d-more n d) e f = d-more {p = q}
-    (λ m. elim (fill-in os ps m) [ inl a ↦ n a | inr b ↦ f q here b ]) (fill-once os d e (λ p m. f p (there m)))
-fill-once (none ∷ os) d d-end f = fill-once os d d-end f
-fill-once (none ∷ os) d (d-more {p} {ps} n e) f = d-more {p = p}
-    (λ m. elim (fill-in os ps m) [ inl a ↦ f p a here | inr b ↦ n b ]) (fill-once os d e (λ q m k. f q m (there k)))
+allocate-once [] d e f = d
+allocate-once (some q ∷ os) {ps} (d-more n d) e f = d-more {p = q}
+    (λ m. elim (allocate-in os ps m) [ inl a ↦ n a | inr b ↦ f q here b ]) (allocate-once os d e (λ p m. f p (there m)))
+allocate-once (none ∷ os) d d-end f = allocate-once os d d-end f
+allocate-once (none ∷ os) d (d-more {p} {ps} n e) f = d-more {p = p}
+    (λ m. elim (allocate-in os ps m) [ inl a ↦ f p a here | inr b ↦ n b ]) (allocate-once os d e (λ q m k. f q m (there k)))
 
 -- PRUNE
 pub prune-size : (l : List Entry) (os : Places) → length (prune l os) ≡ length os
@@ -103,26 +103,26 @@ same-is p q t =
     let b : p .number ≡ q .number = eqb-true _ _ (both-r (eqb (p .tier) (q .tier)) (eqb (p .number) (q .number)) t) in
     λ i. record { tier = a i; number = b i }
 
-pub spot-fill : (p : Node) (os : Places) (ps : List Node) → (In p ps → ⊥) →
+pub number-allocate : (p : Node) (os : Places) (ps : List Node) → (In p ps → ⊥) →
     numberOf p (allocate os ps) ≡ numberOf p os
-spot-fill p [] ps f = refl
-spot-fill p (some q ∷ os) ps f = rw (spot-fill p os ps f)
-spot-fill p (none ∷ os) [] f = ap suc (spot-fill p os [] f)
-spot-fill p (none ∷ os) (q ∷ ps) f =
+number-allocate p [] ps f = refl
+number-allocate p (some q ∷ os) ps f = rw (number-allocate p os ps f)
+number-allocate p (none ∷ os) [] f = ap suc (number-allocate p os [] f)
+number-allocate p (none ∷ os) (q ∷ ps) f =
     rw (is-false {b = same q p} (λ t. f (subst (λ (r : Node). In r (q ∷ ps)) (same-is q p t) here)))
-    (ap suc (spot-fill p os ps (λ m. f (there m))))
+    (ap suc (number-allocate p os ps (λ m. f (there m))))
 
-pub spot-prune : (p : Node) (l : List Entry) (os : Places) → has l (p .tier) (p .number) ≡ true →
+pub number-prune : (p : Node) (l : List Entry) (os : Places) → has l (p .tier) (p .number) ≡ true →
     numberOf p (prune l os) ≡ numberOf p os
-spot-prune p l [] t = refl
-spot-prune p l (none ∷ os) t = ap suc (spot-prune p l os t)
-spot-prune p l (some q ∷ os) t =
-    byT (has l (q .tier) (q .number)) (λ s. rw (s, spot-prune p l os t))
+number-prune p l [] t = refl
+number-prune p l (none ∷ os) t = ap suc (number-prune p l os t)
+number-prune p l (some q ∷ os) t =
+    byT (has l (q .tier) (q .number)) (λ s. rw (s, number-prune p l os t))
     (λ s. rw (
       s,
       is-false {b = same q p} (λ e. clash t
           (subst (λ (r : Node). has l (r .tier) (r .number) ≡ false) (same-is q p e) s)),
-      spot-prune p l os t,
+      number-prune p l os t,
     ))
 
 module _ (n : ℕ) (l : List Entry) (os : Places) (pl : Placed n l os) (l′ : List Entry) where
@@ -131,21 +131,21 @@ module _ (n : ℕ) (l : List Entry) (os : Places) (pl : Placed n l os) (l′ : L
 
   pub placed-new : needed l l′ ≤ freeCount os → Placed n l′ (newPlaces l l′ os)
   placed-new le = record {
-    size = prune-size l′ (allocate os (newNodes l l′)) ∙ fill-size os (newNodes l l′) ∙ pl .size;
+    size = prune-size l′ (allocate os (newNodes l l′)) ∙ allocate-size os (newNodes l l′) ∙ pl .size;
     sound = λ p m. prune-in l′ (allocate os (newNodes l l′)) p m .0;
     full = λ p t. in-prune l′ (allocate os (newNodes l l′)) p t (byT (has l (p .tier) (p .number))
-        (λ o. fill-old os (newNodes l l′) (pl .full p o))
-        (λ o. fill-new os (newNodes l l′) le (in-without (λ p. has l (p .tier) (p .number))
+        (λ o. allocate-old os (newNodes l l′) (pl .full p o))
+        (λ o. allocate-new os (newNodes l l′) le (in-without (λ p. has l (p .tier) (p .number))
         (in-nodes l′ (p .tier) (p .number) t) o)));
     once = prune-once l′ (allocate os (newNodes l l′))
-        (fill-once os (pl .once) (distinct-without (λ p. has l (p .tier) (p .number)) (distinct-to l′ (height l′)))
+        (allocate-once os (pl .once) (distinct-without (λ p. has l (p .tier) (p .number)) (distinct-to l′ (height l′)))
         (λ p m k. clash (pl .sound p m) (look fresh k .0)));
   }
 
   -- a node that stays keeps its number
-  pub spot-stays : (p : Node) → has l (p .tier) (p .number) ≡ true → has l′ (p .tier) (p .number) ≡ true →
+  pub number-stays : (p : Node) → has l (p .tier) (p .number) ≡ true → has l′ (p .tier) (p .number) ≡ true →
       numberOf p (newPlaces l l′ os) ≡ numberOf p os
-  spot-stays p t t′ = spot-prune p l′ (allocate os (newNodes l l′)) t′ ∙ spot-fill p os (newNodes l l′)
+  number-stays p t t′ = number-prune p l′ (allocate os (newNodes l l′)) t′ ∙ number-allocate p os (newNodes l l′)
       (λ m. clash t (look fresh m .0))
 
 -- COUNT
@@ -175,8 +175,8 @@ all-places [] = refl
 all-places (none ∷ os) = omega (arith, all-places os)
 all-places (some p ∷ os) = omega (arith, all-places os)
 
-pub blank-places : (n : ℕ) (l : List Entry) (os : Places) → Placed n l os → freeCount os + length (nodes l) ≡ n
-blank-places n l os pl =
+pub free-places : (n : ℕ) (l : List Entry) (os : Places) → Placed n l os → freeCount os + length (nodes l) ≡ n
+free-places n l os pl =
     omega (
       arith,
       all-places os,

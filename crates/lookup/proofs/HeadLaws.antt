@@ -38,7 +38,7 @@ use Rattle.lookup.specs.Views.{
   HeadNode,
   Enters,
   is-outside,
-  is-bare,
+  is-head-entry,
   is-under,
   Locates,
   is-uncovered,
@@ -47,7 +47,7 @@ use Rattle.lookup.specs.Views.{
   Holds,
 }
 use Rattle.lookup.specs.declared.Entered.{Entered}
-use Rattle.lookup.specs.declared.Entered.the-variants.{Outside, Bare, Under}
+use Rattle.lookup.specs.declared.Entered.the-variants.{Outside, HeadEntry, Under}
 use Rattle.lookup.proofs.WordLaws.{pool-head, pool-marks}
 use Rattle.lookup.proofs.StandLaws.{marks-sum}
 use Rattle.lookup.proofs.WayLaws.{view-child, view-empty, view-held, view-sibling, turn-entry}
@@ -191,7 +191,7 @@ module _ {ws : List ℕ} (s : WellFormed ws) where
         (λ t. in-any (hasMark m) i t)
 
     pub lone-here : (p : ℕ) → p ≡ 0 → Enters (s .list) (num s) p
-        (Bare (record { base = 0; order = 0; word = getD ws headWord 0; marks = getD ws marksWord 0 }))
+        (HeadEntry (record { base = 0; order = 0; word = getD ws headWord 0; marks = getD ws marksWord 0 }))
     unfolding slot
     lone-here p h =
         let (x, m, z, n, q, b) = head in
@@ -206,7 +206,7 @@ module _ {ws : List ℕ} (s : WellFormed ws) where
         let same : x ≡ record { base = 0; order = 0; word = getD ws headWord 0; marks = getD ws marksWord 0 } = λ i.
         record
         { base = bx i; order = ox i; word = wd i; marks = mk i } in
-        is-bare (record { base = 0; order = 0; word = getD ws headWord 0; marks = getD ws marksWord 0 }) z
+        is-head-entry (record { base = 0; order = 0; word = getD ws headWord 0; marks = getD ws marksWord 0 }) z
         (rw (in-nonempty m, eq-eqb (block (tierOrder (height (s .list))) p) 0 g) refl)
         (ap (covering (s .list)) (h ∙ sym (zero-at (height (s .list)))) ∙ q ∙ ap some same) refl refl
 
@@ -217,17 +217,17 @@ module _ {l : List Entry} {ν : Numbering} {p : ℕ} {k : Entered} (w : Enters l
     where
       go : {k : Entered} → Enters l ν p k → k ≡ Outside → headed l p ≡ false
       go (is-outside h) d = h
-      go (is-bare x z h q o b) d = let z : _≡_ {A = ℕ} 0 1 = cc in absurd (omega arith)
+      go (is-head-entry x z h q o b) d = let z : _≡_ {A = ℕ} 0 1 = cc in absurd (omega arith)
       go (is-under n v z le h a) d = let z : _≡_ {A = ℕ} 0 1 = cc in absurd (omega arith)
 
-  pub entered-bare : (e : Entry) → k ≡ Bare e → (height l ≡ 0) × (headed l p ≡ true) × (covering l p ≡ some e) ×
+  pub entered-head-entry : (e : Entry) → k ≡ HeadEntry e → (height l ≡ 0) × (headed l p ≡ true) × (covering l p ≡ some e) ×
       (e .order ≡ 0) × (e .base ≡ 0)
-  entered-bare e q = go w q
+  entered-head-entry e q = go w q
     where
-      go : {k : Entered} → Enters l ν p k → k ≡ Bare e →
+      go : {k : Entered} → Enters l ν p k → k ≡ HeadEntry e →
           (height l ≡ 0) × (headed l p ≡ true) × (covering l p ≡ some e) × (e .order ≡ 0) × (e .base ≡ 0)
       go (is-outside h) d = let z : _≡_ {A = ℕ} 0 1 = cc in absurd (omega arith)
-      go (is-bare x z h q o b) d = let i : x ≡ e = cc in
+      go (is-head-entry x z h q o b) d = let i : x ≡ e = cc in
           (z, h, q ∙ ap some i, ap (λ (y : Entry). y .order) (sym i) ∙ o, ap (λ (y : Entry). y .base) (sym i) ∙ b)
       go (is-under n v z le h a) d = let z : _≡_ {A = ℕ} 0 1 = cc in absurd (omega arith)
 
@@ -238,7 +238,7 @@ module _ {l : List Entry} {ν : Numbering} {p : ℕ} {k : Entered} (w : Enters l
       go : {k : Entered} → Enters l ν p k → k ≡ Under n v → (height l ≡ suc v) × (v < topTier) × (headed l p ≡ true) ×
           AtNode l ν v (block (tierOrder (suc v)) p) n
       go (is-outside h) d = let z : _≡_ {A = ℕ} 0 1 = cc in absurd (omega arith)
-      go (is-bare x z h q o b) d = let z : _≡_ {A = ℕ} 0 1 = cc in absurd (omega arith)
+      go (is-head-entry x z h q o b) d = let z : _≡_ {A = ℕ} 0 1 = cc in absurd (omega arith)
       go (is-under m u z le h a) d = let i : m ≡ n = cc in let j : u ≡ v = cc in rw (← i, ← j) (z, le, h, a)
 
 pub step-outside : (l : List Entry) (f last p : ℕ) → headed l p ≡ false → Past ≡ step l f last p

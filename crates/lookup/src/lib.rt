@@ -55,7 +55,7 @@ pub enum Loaded {
 // Where an index lies: outside the head's block; at an entry as head; under a node as head, whose slots are of a tier.
 pub enum Entered {
     Outside,
-    Bare(Entry),
+    HeadEntry(Entry),
     Under(u64, u64),
 }
 
@@ -277,7 +277,7 @@ fn enter(pool: &[u64], p: u64) -> Entered
                 return Entered::Outside;
             }
             let marks = pool[MARKS_WORD];
-            Entered::Bare(Entry {
+            Entered::HeadEntry(Entry {
                 base: 0,
                 order: 0,
                 word: head,
@@ -354,7 +354,7 @@ fn step(pool: &[u64], p: u64, last: u64, filter: u64) -> Turn
     let k = enter(pool, p);
     match k {
         Entered::Outside => Turn::Past,
-        Entered::Bare(e) => consider(e, last, filter),
+        Entered::HeadEntry(e) => consider(e, last, filter),
         Entered::Under(n, v) => {
             let s = descend(pool, n, v, p, filter);
             let m = s.node;
@@ -428,7 +428,7 @@ pub fn locate(pool: &[u64], i: u64) -> Located
     let k = enter(pool, i);
     match k {
         Entered::Outside => Located::Uncovered(0),
-        Entered::Bare(e) => Located::AtHead(e),
+        Entered::HeadEntry(e) => Located::AtHead(e),
         Entered::Under(n, v) => locate_under(pool, n, v, i),
     }
 }

@@ -111,10 +111,10 @@ words-none s i m b q = s .words-are ∙ ap (λ (l : List Entry). render l (s .pl
     (sym (remark-none (s .list) i m b q))
 
 -- an entry as head
-pub bare-mark : {ws : List ℕ} (s : WellFormed ws) (i m : ℕ) (b : Bool) → m < markCount → (e : Entry) →
+pub head-mark : {ws : List ℕ} (s : WellFormed ws) (i m : ℕ) (b : Bool) → m < markCount → (e : Entry) →
     covering (s .list) i ≡ some e → height (s .list) ≡ 0 →
     set ws marksWord (setBit m b (getD ws marksWord 0)) ≡ render (remark (s .list) i m b) (s .places) (s .n)
-bare-mark s i m b m< e q z =
+head-mark s i m b m< e q z =
     hybrid-end s i m m< b e q (hybrid-start s i m m< b e q 0 (omega arith)) (sym z) b
     (sym (mark-entry (s .list) (s .valid) i e q m m< b 0 (omega arith)))
 

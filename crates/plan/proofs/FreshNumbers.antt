@@ -24,7 +24,7 @@ use Rattle.tree.proofs.NewNodeLaws.{chained, missing, freshAt, freshTo, new-nod
 use Rattle.tree.proofs.NeededLaws.{grown, count-top}
 use Rattle.tree.proofs.NodeListLaws.{distinct-to}
 use Rattle.layout.specs.Places.{Places, Placed, numberIn, freeCount, newPlaces, allocate, numberOf}
-use Rattle.layout.proofs.PlacesLaws.{spot-prune, distinct-without}
+use Rattle.layout.proofs.PlacesLaws.{number-prune, distinct-without}
 use Rattle.layout.proofs.NumberLaws.{nd}
 use Rattle.plan.proofs.AfterStore.{
   new-fits,
@@ -222,7 +222,7 @@ module _ (n : ℕ) (l : List Entry) (os : Places) (pl : Placed n l os) (valid : 
           (length ss < needed l l′)
       number u c ss bs t f e =
           let lt : length ss < needed l l′ = omega (arith, ap length e, length-append ss (nd u c ∷ bs)) in (
-            spot-prune (nd u c) l′ (allocate os (newNodes l l′)) t ∙
+            number-prune (nd u c) l′ (allocate os (newNodes l l′)) t ∙
                 (ap (λ (y : List Node). numberOf (nd u c) (allocate os y)) e
                 ∙ spot-free os ss (nd u c) bs (omega arith) (not-before ss (nd u c) bs
                 (subst Distinct e (distinct-without (λ p. has l (p .tier) (p .number)) (distinct-to l′ top))))

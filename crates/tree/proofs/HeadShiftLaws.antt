@@ -77,8 +77,8 @@ least-is p n H pos le f =
     omega arith
 
 -- a list whose entries all fit under no node is empty or bare
-not-bare : {l : List Entry} {e : Entry} → Valid (e ∷ l) → lone (e ∷ l) ≡ false → 1 ≤ height (e ∷ l)
-not-bare {l} {e} v n = byT (leb 1 (height (e ∷ l))) (leb-true _ _)
+not-lone : {l : List Entry} {e : Entry} → Valid (e ∷ l) → lone (e ∷ l) ≡ false → 1 ≤ height (e ∷ l)
+not-lone {l} {e} v n = byT (leb 1 (height (e ∷ l))) (leb-true _ _)
     (λ t. absurd (go l v n (height-fits {h = 0} (All-map (λ x ok. (ok .order-le, ok .in-range)) (sorted-ok v))
     (omega (arith, leb-false 1 (height (e ∷ l)) t)))))
   where
@@ -89,18 +89,18 @@ not-bare {l} {e} v n = byT (leb 1 (height (e ∷ l))) (leb-true _ _)
     go [] v n (also f a) = clash {b = lone (e ∷ [])} (let (b, o) = at0 e f in rw (eq-eqb _ _ b, eq-eqb _ _ o)) n
     go (x ∷ l) (more h ok (more g ok′ s)) n (also f (also f′ a)) = omega (arith, pow-pos (e .order), at0 x f′)
 
-bare-zero : (l : List Entry) → lone l ≡ true → height l ≡ 0
-bare-zero [] t = refl
-bare-zero (e ∷ []) t =
+lone-zero : (l : List Entry) → lone l ≡ true → height l ≡ 0
+lone-zero [] t = refl
+lone-zero (e ∷ []) t =
     let b : e .base ≡ 0 = eqb-true _ _ (both-l (eqb (e .base) 0) (eqb (e .order) 0) t) in
     let o : e .order ≡ 0 = eqb-true _ _ (both-r (eqb (e .base) 0) (eqb (e .order) 0) t) in
     omega (arith, fits-tall 0 e (fits-i 0 e (omega arith) (div-one (e .base) ∙ b)))
-bare-zero (e ∷ f ∷ l) t = absurd (clash t refl)
+lone-zero (e ∷ f ∷ l) t = absurd (clash t refl)
 
 pub height-text : {l : List Entry} → Valid l → headTier (lone l) l ≡ height l
 height-text {l = []} v = refl
 height-text {l = e ∷ l} v =
-    byT (lone (e ∷ l)) (λ t. rw t (sym (bare-zero (e ∷ l) t)))
-    (λ t. rw t (least-is (λ h. allFit h (e ∷ l)) 10 (height (e ∷ l)) (not-bare v t)
+    byT (lone (e ∷ l)) (λ t. rw t (sym (lone-zero (e ∷ l) t)))
+    (λ t. rw t (least-is (λ h. allFit h (e ∷ l)) 10 (height (e ∷ l)) (not-lone v t)
     (height-le (All-map (λ x ok. fits-most x (ok .order-le, ok .in-range)) (sorted-ok v)))
     (λ h pos. all-fit h (sorted-ok v) pos)))

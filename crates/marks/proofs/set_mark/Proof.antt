@@ -2,7 +2,7 @@ use native.Mathlib.Omega.{arith}
 use mathlib.Core.Path.{_∙_}
 use Rattle.lookup.proofs.WordLaws.{pool-length}
 use Rattle.lookup.proofs.HeadLaws.{at-nothing, at-head, at-spot}
-use Rattle.marks.proofs.RemarkLaws.{words-none, bare-mark, answer-none, answer-some}
+use Rattle.marks.proofs.RemarkLaws.{words-none, head-mark, answer-none, answer-some}
 use borrow.Author.Needs.{needs}
 use Rattle.marks.proofs.set_mark.Statement.{statement}
 use Rattle.marks.proofs.set_mark.Tie as tie
@@ -69,7 +69,7 @@ returns-2 c = let a = c .before .before .before .before .before .before .before 
       λ s. let (z, q) = at-head _ (c .before .before .before .before .before .before .before .before .locate .ensures
           s)
           (c .before .before .before .before .before .before .k .given .1) in
-          c .before .before .before .mark-anchor .ensures ∙ bare-mark s (a .i) (a .m) (a .on)
+          c .before .before .before .mark-anchor .ensures ∙ head-mark s (a .i) (a .m) (a .on)
           (c .before .before .before .before .before .before .before .before .before .before .before .pre .1) _ q z,
     )
 
