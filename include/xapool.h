@@ -145,6 +145,10 @@ xapool_result xapool_run(uint64_t *pool, size_t pool_words,
                          const uint8_t *batch, size_t batch_bytes,
                          uint8_t *reply, size_t reply_bytes);
 
+/* How many commands a batch has, by itself: 0 and their number, or 3 and the place of its first bad
+ * record, as a run would say. It looks at no pool. */
+xapool_result xapool_count(const uint8_t *batch, size_t batch_bytes);
+
 #ifdef __cplusplus
 }
 #endif

@@ -105,6 +105,21 @@ impl Lender {
         }
     }
 
+    /// Whether the count of a batch by itself differs from what reference reads.
+    fn miscounted(&mut self, call: &Call) -> Option<String> {
+        let Call::Run { batch, .. } = call else { return None };
+        split(self.batch.bytes(), batch.len()).1.copy_from_slice(batch);
+        self.batch.read_only(true);
+        let found = raw::count(split(self.batch.bytes(), batch.len()).1);
+        self.batch.read_only(false);
+        let (answer, number) = match reference::batch::read(batch) {
+            Ok(commands) => (0, commands.len()),
+            Err(place) => (3, place),
+        };
+        let same = (found.answer, found.number) == (answer, number as u64);
+        (!same).then(|| format!("the count is {found:?}, not {answer}, {number}"))
+    }
+
     /// Makes the call by both and says the first difference. `pool` is reference's pool; the lent
     /// one has the same words before.
     pub fn difference(&mut self, call: &Call, pool: &mut [u64]) -> (Given, Option<String>) {
@@ -114,6 +129,7 @@ impl Lender {
         let difference = results(&expected, &found).or_else(|| words(pool, lent));
         let reply = matches!(call, Call::Run { .. }).then_some(expected.reply.len());
         let difference = difference.or_else(|| self.edge_written(pool.len(), reply));
+        let difference = difference.or_else(|| self.miscounted(call));
         (expected, difference)
     }
 }

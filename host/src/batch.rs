@@ -1,6 +1,8 @@
 //! Batches: built from commands, and read back into them.
 
+use crate::answer::Refusal;
 use crate::command::Command;
+use crate::raw;
 use std::fmt;
 
 pub const MOST_BATCH_BYTES: usize = 8192;
@@ -120,4 +122,9 @@ impl Iterator for Commands<'_> {
             }
         }
     }
+}
+
+/// How many commands the bytes of a batch have, or why a run would refuse them.
+pub fn count_commands(bytes: &[u8]) -> Result<u64, Refusal> {
+    Refusal::unless_done(raw::count(bytes))
 }

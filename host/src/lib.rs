@@ -29,7 +29,7 @@ mod tests;
 mod word;
 
 pub use answer::{Answer, Refusal};
-pub use batch::{BadBatch, BatchBuilder, BatchFull, Commands, MOST_BATCH_BYTES};
+pub use batch::{count_commands, BadBatch, BatchBuilder, BatchFull, Commands, MOST_BATCH_BYTES};
 pub use command::{Command, Tag, FIND_ANY, MOST_ORDER};
 pub use pool::{node_count, pool_words, Pool, MOST_NODES};
 pub use reply::{BadRecord, Entry, Marks, Record, Records, Replies, Reply, REPLY_BYTES};

@@ -1,4 +1,4 @@
-//! The three calls of `libxapool.a` over slices. The only `unsafe` code of this crate.
+//! The calls of `libxapool.a` over slices. The only `unsafe` code of this crate.
 
 /// What a call gives: the answer, and a number that depends on it.
 #[repr(C)]
@@ -19,6 +19,7 @@ extern "C" {
         reply: *mut u8,
         reply_bytes: usize,
     ) -> RawResult;
+    fn xapool_count(batch: *const u8, batch_bytes: usize) -> RawResult;
 }
 
 /// Makes the words an empty pool, whatever stood there.
@@ -46,4 +47,10 @@ pub fn run(pool: &mut [u64], batch: &[u8], reply: &mut [u8]) -> RawResult {
             reply.len(),
         )
     }
+}
+
+/// How many commands a batch has, or the place of its first bad record.
+pub fn count(batch: &[u8]) -> RawResult {
+    // SAFETY: as in `check`.
+    unsafe { xapool_count(batch.as_ptr(), batch.len()) }
 }

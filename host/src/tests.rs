@@ -173,6 +173,9 @@ fn case_15_limits() {
     assert_eq!((full.len(), pool.run_bytes(&full, &mut reply)), (8192, Ok(744)));
     let long = [full, vec![2]].concat();
     assert_eq!(pool.run_bytes(&long, &mut reply), Err(Refusal::BadBatch { place: 8192 }));
+    assert_eq!(count_commands(&long[..8192]), Ok(744));
+    assert_eq!(count_commands(&long), Err(Refusal::BadBatch { place: 8192 }));
+    assert_eq!(count_commands(&[]), Ok(0));
 }
 
 #[test]

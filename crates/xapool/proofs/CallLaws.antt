@@ -21,7 +21,19 @@ use Rattle.batch.specs.Batch.{maxBatch, Parsed, Parsed.commands, Parsed.refused
 use Rattle.batch.specs.Reply.{replyBytes}
 use Rattle.batch.proofs.ParseLaws.{parse-long, parse-rest, not-refused}
 use Rattle.batch.proofs.WriteLaws.{overwrite-all}
-use Rattle.xapool.specs.Calls.{Called, result, refuseCall, badRecord, replyShort, done, replies, runParsed, run}
+use Rattle.xapool.specs.Calls.{
+  Called,
+  result,
+  counts,
+  countResult,
+  refuseCall,
+  badRecord,
+  replyShort,
+  done,
+  replies,
+  runParsed,
+  run,
+}
 use Rattle.xapool.specs.Running.{Ahead, Ends}
 use Rattle.xapool.proofs.RunningLaws.{replies-length}
 
@@ -67,6 +79,14 @@ was-refused bs {at} e = go (parse bs) refl
       where
         never : Refused at ≡ Commands (length cs) → ⊥
         never x = let z : _≡_ {A = ℕ} 0 1 = cc in omega arith
+
+-- THE COUNT
+pub count-done : (bs : List ℕ) {k : ℕ} → Commands k ≡ counted (parse bs) → result done k ≡ countResult bs
+count-done bs e =
+    let r : Read bs _ = was-read e in sym (ap counts (r .parsed) ∙ ap (result done) (r .count))
+
+pub count-refused : (bs : List ℕ) {at : ℕ} → Refused at ≡ counted (parse bs) → result badRecord at ≡ countResult bs
+count-refused bs e = sym (ap counts (was-refused bs e))
 
 -- REFUSALS
 module _ (ws bs rs : List ℕ) where

@@ -46,6 +46,14 @@ initResult ws = result (initAnswer ws) 0
 abbrev pub checkResult : List ℕ → Result
 checkResult ws = result (checkAnswer ws) 0
 
+-- THE COUNT of a batch by itself: what a run would make of the batch
+abbrev pub counts : Parsed → Result
+counts (commands cs) = result done (length cs)
+counts (refused at) = result badRecord at
+
+abbrev pub countResult : List ℕ → Result
+countResult bs = counts (parse bs)
+
 -- RUN
 module _ (n : ℕ) where
   -- the replies in order, each of that moment's list

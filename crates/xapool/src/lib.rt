@@ -1,4 +1,4 @@
-// The three calls offered to a host: init, check and run. None has a `requires`: each refuses what it cannot use,
+// The three calls offered to a host: init, check and run, and the count of a batch by itself. None has a `requires`: each refuses what it cannot use,
 // states its
 // result and every word and byte that it was lent.
 //
@@ -19,7 +19,7 @@ ghost use Rattle.batch.specs.Reply.{replyBytes};
 ghost use Rattle.batch.specs.declared.Counted.the-variants.{Commands};
 ghost use Rattle.verify.specs.Answers.{checkAnswer, initWords};
 ghost use Rattle.xapool.specs.Calls;
-ghost use Rattle.xapool.specs.Calls.{initResult, checkResult};
+ghost use Rattle.xapool.specs.Calls.{initResult, checkResult, countResult};
 ghost use Rattle.xapool.specs.Running.{Turned, Ahead, Ends};
 
 // The answers of a call; 1 and 2 are the check's.
@@ -150,5 +150,24 @@ pub extern "C" fn xapool_run(pool: &mut [u64], batch: &[u8], reply: &mut [u8]) -
             number: place,
         },
         Counted::Commands(k) => run_counted(pool, batch, reply, k),
+    }
+}
+
+/// How many commands a batch has, read through the reader that holds it: answer 0 and their number, or answer 3 and the
+/// place of its first bad record.
+#[no_mangle]
+pub extern "C" fn xapool_count(batch: &[u8]) -> Result
+    ensures { λ r. ⌜ r ≡ countResult (now (batch .entry)) ⌝ }
+{
+    let counted = reader::count_through(batch);
+    match counted {
+        Counted::Refused(place) => Result {
+            answer: BAD_RECORD,
+            number: place,
+        },
+        Counted::Commands(k) => Result {
+            answer: DONE,
+            number: k,
+        },
     }
 }
