@@ -1,30 +1,17 @@
 -- Laws of reading a batch, as the code tests it.
-use Prim.Native.Nat.{ℕ, zero, suc, _+_, _≤_, _<_, _-_}
-use mathlib.Core.Path.{_≡_, refl, sym, ap, subst, _∙_}
+use Prim.Native.Nat.{ℕ, _+_, _≤_, _<_, _-_}
+use mathlib.Core.Path.{_≡_, sym, ap, subst, _∙_}
 use mathlib.Core.Logic.{_≢_}
-use mathlib.Core.Bool.{Bool, true, false, not}
-use mathlib.Core.List.{List, [], _∷_}
+use mathlib.Core.Bool.{false}
+use mathlib.Core.List.{List}
 use native.Mathlib.Omega.{arith}
 use native.Mathlib.Nat.{add-zero}
-use lib.Dec.{leb, ltb, eqb}
+use lib.Dec.{eqb}
 use lib.ListN.{length, getD}
 use borrow.Author.Tests.{eqb-true, le-leb, lt-leb, eq-eqb, ne-eqb}
-use Rattle.blocks.specs.Choice.{pick, both}
-use Rattle.blocks.proofs.BoolLaws.{byT, both-no}
+use Rattle.blocks.proofs.BoolLaws.{byT}
 use Rattle.batch.specs.Bytes.{numberAt}
-use Rattle.batch.specs.Batch.{
-  fieldBytes,
-  headBytes,
-  commandAt,
-  isRecord,
-  nextAt,
-  readAt,
-  Read,
-  Next,
-  Bad,
-  End,
-  Command,
-}
+use Rattle.batch.specs.Batch.{fieldBytes, headBytes, commandAt, isRecord, readAt, Next, Bad, End, Command}
 
 -- the last tag that has fields
 pub last-tag : (tag : ℕ) → fieldBytes tag ≢ 0 → tag ≢ 1 → tag ≢ 2 → tag ≢ 3 → tag ≢ 4 → tag ≢ 5 → tag ≡ 6

@@ -1,24 +1,16 @@
 -- Bytes make numbers that fit, so the fields of a command that was read fit.
-use Prim.Native.Nat.{ℕ, zero, suc, _+_, _*_, _-_, _^_, _≤_, _<_}
-use mathlib.Core.Path.{_≡_, refl, sym, ap, subst}
-use mathlib.Core.Bool.{Bool, true, false}
-use mathlib.Core.List.{List, [], _∷_}
+use Prim.Native.Nat.{ℕ, zero, suc, _+_, _-_, _^_, _<_}
+use mathlib.Core.Path.{_≡_, refl, subst}
+use mathlib.Core.List.{List}
 use native.Mathlib.Omega.{arith}
 use native.Mathlib.Nat.{pow-suc}
 use lib.Dec.{ltb, eqb, lit<}
 use lib.ListN.{length, getD}
-use Rattle.blocks.specs.Choice.{pick}
 use Rattle.blocks.specs.Lists.{All, end, also}
 use Rattle.blocks.proofs.BoolLaws.{byT}
 use Rattle.batch.specs.Bytes.{numberAt}
 use Rattle.batch.specs.Batch.{
   Command,
-  Store,
-  Load,
-  Erase,
-  Mark,
-  Unmark,
-  Find,
   maxBatch,
   headBytes,
   commandAt,

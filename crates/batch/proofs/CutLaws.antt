@@ -1,16 +1,14 @@
 -- A batch cut just after one of its commands is the batch of the commands up to there.
-use Prim.Native.Nat.{ℕ, zero, suc, _+_, _*_, _-_, _≤_, _<_}
-use mathlib.Core.Path.{_≡_, refl, sym, ap, ap₂, subst, _∙_}
-use mathlib.Core.Bool.{Bool, true, false, not}
+use Prim.Native.Nat.{ℕ, zero, suc, _+_, _≤_}
+use mathlib.Core.Path.{_≡_, refl, sym, ap, ap₂, _∙_}
 use mathlib.Core.Logic.{_≢_}
 use mathlib.Core.List.{List, [], _∷_, _++_}
 use native.Mathlib.Omega.{arith}
 use native.Mathlib.Nat.{le-refl}
-use lib.Dec.{leb, ltb, eqb}
+use lib.Dec.{ltb, eqb}
 use lib.ListN.{length, getD, take, length-take}
 use lib.Seq.{getD-take}
 use borrow.Author.Tests.{ltb-true, ltb-false}
-use Rattle.blocks.specs.Choice.{pick, both}
 use Rattle.blocks.proofs.BoolLaws.{byT}
 use Rattle.batch.specs.Bytes.{numberAt}
 use Rattle.batch.specs.Batch.{
@@ -18,8 +16,6 @@ use Rattle.batch.specs.Batch.{
   headBytes,
   fieldBytes,
   commandAt,
-  isRecord,
-  nextAt,
   readAt,
   Read,
   Next,

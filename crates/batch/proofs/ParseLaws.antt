@@ -1,14 +1,14 @@
 -- Reading a batch from a place to its end, record by record.
 use Prim.Native.Nat.{ℕ, zero, suc, _+_, _-_, _≤_, _<_}
-use mathlib.Core.Path.{_≡_, refl, sym, ap, subst, _∙_}
+use mathlib.Core.Path.{_≡_, refl, sym, ap, _∙_}
 use mathlib.Core.Bool.{Bool, true, false, not}
 use mathlib.Core.Logic.{_≢_}
-use mathlib.Core.List.{List, [], _∷_}
+use mathlib.Core.List.{List, []}
 use native.Mathlib.Omega.{arith}
-use lib.Dec.{leb, ltb, eqb}
+use lib.Dec.{leb, eqb}
 use lib.ListN.{length, getD}
 use borrow.Author.Tests.{leb-true, leb-false, eqb-true, eq-eqb, lt-ltb, le-ltb}
-use Rattle.blocks.specs.Choice.{pick, both}
+use Rattle.blocks.specs.Choice.{both}
 use Rattle.blocks.proofs.BoolLaws.{byT, clash, both-l, both-r}
 use Rattle.batch.specs.Bytes.{numberAt}
 use Rattle.batch.specs.Batch.{

@@ -1,7 +1,7 @@
 -- Replies (document 01, "A sheet and its replies"): "Each reply has the command's tag + 128, length 21, then answer 1,
 -- index 8, order 1, entry 8, marks 1, count 2."
-use Prim.Native.Nat.{ℕ, _+_}
-use mathlib.Core.List.{List, [], _∷_}
+use Prim.Native.Nat.{ℕ}
+use mathlib.Core.List.{List, []}
 use Rattle.model.specs.declared.Entry.{Entry}
 use Rattle.batch.specs.Bytes.{bytesThen}
 use Rattle.batch.specs.Batch.{Command, Store, Load, Erase, Mark, Unmark, Find}

@@ -1,8 +1,8 @@
 -- Erase as a whole: the steps before and after the entry is taken out.
 use Prim.Native.Nat.{ℕ, zero, suc, _<_}
-use mathlib.Core.Path.{_≡_, refl, sym, ap, subst, _∙_}
+use mathlib.Core.Path.{_≡_, refl, sym, ap, _∙_}
 use mathlib.Core.Bool.{true, false}
-use mathlib.Core.List.{List, [], _∷_, map}
+use mathlib.Core.List.{List, []}
 use mathlib.Core.Option.{Option, none, some}
 use native.Mathlib.Omega.{arith}
 use native.Mathlib.Nat.{le-refl}
@@ -15,14 +15,13 @@ use Rattle.blocks.proofs.ListLaws.{first-yes, look, each, without-all}
 use Rattle.blocks.specs.Lists.{In}
 use Rattle.model.specs.declared.Entry.{Entry}
 use Rattle.model.specs.Model.{Valid, done, covers, covering, withMark, remark, erase}
-use Rattle.model.proofs.ValidLaws.{sorted-ok, erase-none, erase-clear}
-use Rattle.tree.specs.Tree.{height, Node, newNodes}
-use Rattle.tree.proofs.RelabelLaws.{mapO, covering-map, height-map, new-nodes-map}
-use Rattle.tree.proofs.ChangeLaws.{clear-new}
+use Rattle.model.proofs.ValidLaws.{sorted-ok, erase-none}
+use Rattle.tree.specs.Tree.{height, Node}
+use Rattle.tree.proofs.RelabelLaws.{mapO, covering-map, height-map}
 use Rattle.layout.specs.Words.{fieldAt, place, shiftField, marksWord, headWord}
-use Rattle.layout.specs.Places.{Places, Placed, render, prune, newPlaces, allocate}
+use Rattle.layout.specs.Places.{render, prune}
 use Rattle.layout.specs.WellFormed.{WellFormed, num, InUse}
-use Rattle.layout.proofs.NumberLaws.{prune-same, allocate-none}
+use Rattle.layout.proofs.NumberLaws.{prune-same}
 use Rattle.lookup.proofs.WordLaws.{pool-length, pool-anchor, pool-node, place-of, has-tier}
 use Rattle.lookup.proofs.HeadLaws.{flat-entry}
 use Rattle.marks.proofs.RemarkLaws.{erase-remark}
@@ -130,23 +129,3 @@ in-use-head {ws} u = in-use-spares u (le-refl _) (record {
       getD-set-other (set ws headWord 0) 2 (place m shiftField) 0 0 (omega arith) ∙
       getD-set-other ws 1 (place m shiftField) 0 0 (omega arith);
 })
-
--- newPlaces of an erase: no node is new
-pub places-erase : {n : ℕ} {l : List Entry} {os : Places} (i : ℕ) → Valid l → Placed n l os →
-    newPlaces l (erase l i) os ≡ prune (erase l i) os
-places-erase {l} {os} i val pl = go (covering l i) refl
-  where
-    none-new : (k : List Entry) → newNodes l k ≡ [] → newPlaces l k os ≡ prune k os
-    none-new k z = ap (λ (ps : List Node). prune k (allocate os ps)) z ∙ ap (prune k) (allocate-none os)
-
-    own : newNodes l l ≡ []
-    own = subst (λ (k : List Entry). newNodes l k ≡ []) (remark-same l)
-        (new-nodes-map (λ x. x) (λ x. refl) (λ x. refl) l)
-      where
-        remark-same : (k : List Entry) → map (λ x. x) k ≡ k
-        remark-same [] = refl
-        remark-same (x ∷ k) = ap (λ (r : List Entry). x ∷ r) (remark-same k)
-
-    go : (o : Option Entry) → covering l i ≡ o → newPlaces l (erase l i) os ≡ prune (erase l i) os
-    go none q = none-new (erase l i) (ap (newNodes l) (erase-none {l = l} i q) ∙ own)
-    go (some e) q = none-new (erase l i) (ap (newNodes l) (erase-clear i val q) ∙ clear-new i (e .order) l)

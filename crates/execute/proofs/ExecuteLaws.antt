@@ -1,34 +1,22 @@
 -- A command keeps a state: the list stays valid, and every node of its tree stands at one number.
-use Prim.Native.Nat.{ℕ, suc, _+_, _-_, _^_, _≤_, _<_}
-use mathlib.Core.Path.{_≡_, refl, sym, ap, subst, _∙_}
+use Prim.Native.Nat.{ℕ, _-_, _^_, _≤_, _<_}
+use mathlib.Core.Path.{_≡_, refl, sym, ap, subst}
 use mathlib.Core.Bool.{Bool, true, false, not}
-use mathlib.Core.List.{List, [], _∷_}
+use mathlib.Core.List.{List, []}
 use mathlib.Core.Option.{Option, none, some}
 use native.Mathlib.Omega.{arith}
 use lib.Dec.{leb, ltb, eqb, T}
 use lib.ListN.{length}
-use borrow.Author.Tests.{ltb-true, ltb-false, leb-true, leb-false, lt-ltb, le-ltb}
-use Rattle.blocks.specs.Choice.{pick}
+use borrow.Author.Tests.{ltb-false, leb-false, lt-ltb, le-ltb}
 use Rattle.blocks.specs.Lists.{All, end, also}
 use Rattle.blocks.proofs.BoolLaws.{byT, not-false}
 use Rattle.model.specs.declared.Entry.{Entry}
-use Rattle.model.specs.Model.{
-  Valid,
-  storable,
-  maxOrder,
-  markCount,
-  covers,
-  covering,
-  store,
-  erase,
-  remark,
-  withMark,
-}
+use Rattle.model.specs.Model.{Valid, storable, maxOrder, markCount, covering, store, erase, remark, withMark}
 use Rattle.model.proofs.ValidLaws.{store-valid, erase-valid, erase-clear, erase-none}
 use Rattle.tree.specs.Tree.{nodes, newNodes, needed}
 use Rattle.tree.proofs.ChangeLaws.{clear-new}
 use Rattle.tree.proofs.RelabelLaws.{new-nodes-map}
-use Rattle.layout.specs.Places.{Places, Placed, freeCount, newPlaces}
+use Rattle.layout.specs.Places.{Placed}
 use Rattle.layout.proofs.PlacesLaws.{placed-new, free-places}
 use Rattle.layout.proofs.StayLaws.{none-new}
 use Rattle.lookup.specs.Find.{anyMark}
@@ -37,7 +25,7 @@ use Rattle.batch.specs.declared.Command.{Command}
 use Rattle.batch.specs.declared.Command.the-variants.{Store, Load, Erase, Mark, Unmark, Find}
 use Rattle.batch.specs.Reply.{replyTag}
 use Rattle.batch.specs.Fits.{Fits}
-use Rattle.execute.specs.Execute.{Executed, execute, short, refuse, replyOf, tooFewNodes}
+use Rattle.execute.specs.Execute.{execute, short, refuse, replyOf, tooFewNodes}
 use Rattle.execute.specs.State.{State, next, states}
 
 -- COMMANDS THAT ONLY READ leave the list

@@ -1,17 +1,14 @@
 -- The footprint of every command: a word outside its part has the same value after it as before.
-use Prim.Native.Nat.{ℕ, suc, _-_, _^_, _≤_, _<_}
-use mathlib.Core.Path.{_≡_, refl, sym, ap, subst, _∙_}
+use Prim.Native.Nat.{ℕ}
+use mathlib.Core.Path.{_≡_, refl, sym, ap, _∙_}
 use mathlib.Core.Bool.{Bool, true, false, not}
 use mathlib.Core.Logic.{_⊎_, inl, inr}
-use mathlib.Core.List.{List, [], _∷_, map}
+use mathlib.Core.List.{List, _∷_, map}
 use mathlib.Core.Option.{Option, none, some}
 use native.Mathlib.Omega.{arith}
-use lib.Dec.{leb, ltb, eqb}
-use lib.ListN.{length}
-use borrow.Author.Tests.{leb-true, leb-false, ltb-false, le-leb, lt-leb, eqb-true, eq-eqb}
-use Rattle.blocks.specs.Choice.{pick, both}
+use lib.Dec.{leb, ltb}
+use borrow.Author.Tests.{le-leb, eqb-true, eq-eqb}
 use Rattle.blocks.specs.Lists.{any, All, end, also}
-use Rattle.blocks.specs.Blocks.{block}
 use Rattle.blocks.proofs.BoolLaws.{byT, clash}
 use Rattle.blocks.proofs.ListLaws.{first-yes, first-no, each}
 use Rattle.model.specs.declared.Entry.{Entry}
@@ -26,11 +23,7 @@ use Rattle.model.specs.Model.{
   withWord,
   withMark,
   store,
-  storeNew,
-  newEntry,
-  erase,
   remark,
-  clear,
 }
 use Rattle.model.proofs.ValidLaws.{room, room-some, erase-clear, erase-none}
 use Rattle.tree.proofs.ReadLaws.{over-some, over-none}
@@ -42,7 +35,7 @@ use Rattle.batch.specs.declared.Command.{Command}
 use Rattle.batch.specs.declared.Command.the-variants.{Store, Load, Erase, Mark, Unmark, Find}
 use Rattle.execute.specs.Execute.{execute, replyOf, short}
 use Rattle.execute.specs.State.{State, next}
-use Rattle.execute.specs.Part.{Range, rangeOf, addressed, changing, inPart, mayWrite}
+use Rattle.execute.specs.Part.{rangeOf, addressed, changing, mayWrite}
 use Rattle.execute.proofs.ExecuteLaws.{Kept, load-list, find-list}
 use Rattle.execute.proofs.LocalLaws.{Agree, agree-store, agree-clear, agree-map, agree-move}
 use Rattle.execute.proofs.PartLaws.{word-same}

@@ -1,30 +1,28 @@
 -- A change of the list within a range leaves the words of every node whose block lies apart from the range, unless
 -- it is
 -- the head before or after.
-use Prim.Native.Nat.{ℕ, zero, suc, _+_, _*_, _-_, _/_, _%_, _^_, _≤_, _<_}
+use Prim.Native.Nat.{ℕ, suc, _*_, _/_, _^_, _≤_, _<_}
 use mathlib.Core.Path.{_≡_, refl, sym, ap, subst, _∙_}
 use mathlib.Core.Bool.{Bool, true, false}
 use mathlib.Core.Logic.{_≢_}
-use mathlib.Core.List.{List, [], _∷_, map}
+use mathlib.Core.List.{List, map}
 use mathlib.Core.Option.{Option, none, some}
 use native.Mathlib.Omega.{arith}
-use lib.Dec.{leb, ltb, eqb}
-use borrow.Author.Tests.{leb-true, leb-false, le-leb, eqb-true, eq-eqb, ne-eqb, ltb-true}
-use Rattle.blocks.specs.Choice.{pick, both}
+use borrow.Author.Tests.{le-leb, eqb-true}
 use Rattle.blocks.specs.Lists.{any, All, end, also, In}
 use Rattle.blocks.specs.Blocks.{block}
 use Rattle.blocks.proofs.BoolLaws.{byT, is-false}
 use Rattle.blocks.proofs.ListLaws.{first-yes, each}
-use Rattle.blocks.proofs.BlockLaws.{block-up, block-at}
+use Rattle.blocks.proofs.BlockLaws.{block-at}
 use Rattle.model.specs.declared.Entry.{Entry}
-use Rattle.model.specs.Model.{Valid, covers, covering, within, starts, hasMark, clear, storeNew}
+use Rattle.model.specs.Model.{Valid, covers, covering, within, clear, storeNew}
 use Rattle.model.proofs.ValidLaws.{unique}
 use Rattle.model.proofs.RangeLaws.{Room, InRun, Apart, clear-apart, clear-covering-not}
-use Rattle.tree.specs.Tree.{slots, tierOrder, height, has, Node, slotMark}
-use Rattle.tree.specs.Slots.{Numbering, slot, entryWord}
+use Rattle.tree.specs.Tree.{slots, tierOrder, height, has, slotMark}
+use Rattle.tree.specs.Slots.{Numbering, slot}
 use Rattle.tree.proofs.RelabelLaws.{mapO, covering-map}
 use Rattle.tree.proofs.StoreLaws.{within-only, marked-only, store-apart, store-covering-not}
-use Rattle.layout.specs.Words.{nodeWords, owner, field}
+use Rattle.layout.specs.Words.{nodeWords, field}
 use Rattle.layout.specs.Places.{Places, Placed, numberIn, newPlaces}
 use Rattle.layout.proofs.OwnerLaws.{parent, owner-same}
 use Rattle.layout.proofs.FieldLaws.{field-same, apart-slot}

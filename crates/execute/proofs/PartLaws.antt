@@ -1,49 +1,29 @@
 -- Document 01, "The part a command may write": "A word outside a command's part has the same value after it as before."
-use Prim.Native.Nat.{ℕ, zero, suc, _+_, _*_, _-_, _/_, _%_, _^_, _≤_, _<_}
-use mathlib.Core.Path.{_≡_, refl, sym, ap, subst, _∙_}
-use mathlib.Core.Bool.{Bool, true, false, not}
+use Prim.Native.Nat.{ℕ, zero, suc, _*_, _-_, _/_, _%_, _^_, _≤_, _<_}
+use mathlib.Core.Path.{_≡_, refl, sym, subst, _∙_}
+use mathlib.Core.Bool.{Bool, true, false}
 use mathlib.Core.Logic.{_≢_}
-use mathlib.Core.List.{List, [], _∷_, map}
+use mathlib.Core.List.{List}
 use mathlib.Core.Option.{Option, none, some}
 use native.Mathlib.Omega.{arith}
 use lib.Dec.{leb, ltb, eqb}
 use lib.ListN.{getD}
-use borrow.Author.Tests.{leb-true, leb-false, ltb-false, le-leb, lt-leb, eqb-true, eqb-false, eq-eqb, ne-eqb}
-use Rattle.blocks.specs.Choice.{pick, both, either}
-use Rattle.blocks.specs.Lists.{any, In}
+use borrow.Author.Tests.{leb-true, leb-false, eqb-false}
+use Rattle.blocks.specs.Choice.{either}
 use Rattle.blocks.specs.Blocks.{block}
-use Rattle.blocks.proofs.BoolLaws.{byT, clash, is-false, both-l, both-r}
-use Rattle.blocks.proofs.ListLaws.{first-yes, each}
+use Rattle.blocks.proofs.BoolLaws.{byT, clash}
 use Rattle.blocks.proofs.BlockLaws.{block-up, block-at}
 use Rattle.model.specs.declared.Entry.{Entry}
-use Rattle.model.specs.Model.{
-  Valid,
-  storable,
-  maxOrder,
-  markCount,
-  covers,
-  covering,
-  over,
-  withWord,
-  withMark,
-  store,
-  storeNew,
-  erase,
-  remark,
-  clear,
-}
-use Rattle.model.proofs.RangeLaws.{Apart, InRun}
-use Rattle.model.proofs.ValidLaws.{room, room-some, erase-clear}
+use Rattle.model.proofs.RangeLaws.{Apart}
 use Rattle.tree.specs.Tree.{tierOrder, height, has, Node}
-use Rattle.tree.proofs.ReadLaws.{over-some, over-none}
 use Rattle.layout.specs.Words.{anchorWords, nodeWords, fieldAt, field}
-use Rattle.layout.specs.Places.{Places, Placed, numberIn, newPlaces, allocate, keepIf, prune, wordAt}
+use Rattle.layout.specs.Places.{Places, numberIn, newPlaces, allocate, keepIf, wordAt}
 use Rattle.layout.proofs.NumberLaws.{prune-get, allocate-stays, keep-some, in-standing}
 use Rattle.lookup.proofs.WordLaws.{has-tier}
 use Rattle.execute.specs.State.{State}
-use Rattle.execute.specs.Part.{Range, rangeOf, meetsRange, isHead, nodePart, inPart}
+use Rattle.execute.specs.Part.{Range, meetsRange, isHead, nodePart, inPart}
 use Rattle.execute.proofs.ExecuteLaws.{Kept}
-use Rattle.execute.proofs.LocalLaws.{Agree, agree-store, agree-clear, agree-map, agree-move, field-agree}
+use Rattle.execute.proofs.LocalLaws.{Agree, field-agree}
 
 -- A BLOCK THAT DOES NOT MEET THE RANGE lies apart from it
 pub apart-range : (r : Range) (p : Node) → meetsRange r p ≡ false →

@@ -11,12 +11,10 @@ use lib.ListN.{length}
 use borrow.Author.Tests.{leb-true, leb-false, ltb-true, ltb-false, eqb-true, eqb-false}
 use Rattle.blocks.proofs.BoolLaws.{byT, not-true, not-false}
 use Rattle.model.specs.declared.Entry.{Entry}
-use Rattle.model.specs.Model.{storable, maxOrder, markCount, covering, store, erase, remark}
+use Rattle.model.specs.Model.{storable, maxOrder, markCount, covering, store}
 use Rattle.tree.specs.Tree.{nodes, needed}
-use Rattle.lookup.specs.Load.{depth}
 use Rattle.lookup.specs.Find.{anyMark, find}
-use Rattle.batch.specs.declared.Command.{Command}
-use Rattle.batch.specs.declared.Command.the-variants.{Store, Load, Erase, Mark, Unmark, Find}
+use Rattle.batch.specs.declared.Command.the-variants.{Store, Mark, Unmark, Find}
 use Rattle.execute.specs.Execute.{
   Executed,
   execute,
@@ -24,7 +22,6 @@ use Rattle.execute.specs.Execute.{
   refuse,
   replyOf,
   finding,
-  erasing,
   marking,
   orderAbove,
   notStorable,

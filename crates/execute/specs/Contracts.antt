@@ -2,10 +2,9 @@
 use Prim.Native.Nat.{ℕ}
 use mathlib.Core.Path.{_≡_}
 use mathlib.Core.List.{List}
-use Rattle.model.specs.declared.Entry.{Entry}
 use Rattle.model.specs.declared.Covered.{Covered}
 use Rattle.model.specs.declared.Covered.the-variants.{Nothing, By}
-use Rattle.layout.specs.Places.{newPlaces, render}
+use Rattle.layout.specs.Places.{render}
 use Rattle.layout.specs.WellFormed.{WellFormed}
 use Rattle.lookup.specs.declared.Loaded.{Loaded}
 use Rattle.lookup.specs.declared.Loaded.the-variants.{Absent, Present}
@@ -14,7 +13,7 @@ use Rattle.batch.specs.declared.Reply.{Reply}
 use Rattle.batch.specs.Reply.{answered, answeredBy}
 use Rattle.store.specs.declared.Stored.{Stored}
 use Rattle.store.specs.declared.Stored.the-variants.{Done, Short}
-use Rattle.execute.specs.Execute.{Executed, absent, tooFewNodes, execute}
+use Rattle.execute.specs.Execute.{absent, tooFewNodes, execute}
 use Rattle.execute.specs.State.{State, next}
 
 -- the reply by what covers the index

@@ -11,7 +11,6 @@ use Rattle.model.specs.declared.Entry.{Entry}
 use Rattle.model.specs.Model.{covering}
 use Rattle.tree.specs.Tree.{tierOrder, height, Node}
 use Rattle.layout.specs.Words.{anchorWords, nodeWords}
-use Rattle.layout.specs.Places.{Places}
 use Rattle.batch.specs.declared.Command.{Command}
 use Rattle.batch.specs.declared.Command.the-variants.{Store, Load, Erase, Mark, Unmark, Find}
 use Rattle.execute.specs.Execute.{execute}

@@ -17,8 +17,8 @@ use Rattle.model.specs.Model.{covers, within, storeNew}
 use Rattle.model.proofs.RangeLaws.{Room, Apart}
 use Rattle.tree.specs.Slots.{Numbering, slot}
 use Rattle.tree.specs.Tree.{slotMark, slots, tierOrder}
-use Rattle.tree.proofs.StoreLaws.{slot-apart, mark-apart, mark-path}
-use Rattle.tree.proofs.SlotLaws.{tier-up, empty-node, empty-marks}
+use Rattle.tree.proofs.StoreLaws.{slot-apart}
+use Rattle.tree.proofs.SlotLaws.{tier-up, empty-node}
 use Rattle.layout.specs.Words.{owner, field, nodeWords}
 
 -- a node's words are the same where its owner, marks and slots are
@@ -42,14 +42,6 @@ pub apart-slot : (i k v b d : ℕ) → Apart i k (tierOrder (suc v)) b → d / s
 apart-slot i k v b d a q y e = a y (tier-up v y ∙ ap (λ (x : ℕ). x / slots) e ∙ q)
 
 module _ (i k w : ℕ) (l : List Entry) (room : All (Room i k) l) where
-  pub field-apart : (ν ν′ : Numbering) (v b : ℕ) → Apart i k (tierOrder (suc v)) b →
-      owner (storeNew l i k w) ν′ (suc v) b ≡ owner l ν (suc v) b →
-      ((d : ℕ) → d / slots ≡ b → any (within (tierOrder v) d) l ≡ true → ν′ v d ≡ ν v d) → (f : ℕ) → f < nodeWords →
-      field (storeNew l i k w) ν′ (suc v) b f ≡ field l ν (suc v) b f
-  field-apart ν ν′ v b a o c =
-      field-same l (storeNew l i k w) ν ν′ v b o (λ m d _ q. mark-apart i k w l m v d (apart-slot i k v b d a q))
-      (λ d q. slot-apart i k w l ν ν′ v d room (apart-slot i k v b d a q) (c d q))
-
   -- a node that is new on the path: all but the path's slot, or the run's, hold 0, and no mark is set
   module _ (v : ℕ) (above : k < tierOrder (suc v)) (new : any
       (within (tierOrder (suc v)) (block (tierOrder (suc v)) i)) l ≡ false) where
@@ -65,13 +57,3 @@ module _ (i k w : ℕ) (l : List Entry) (room : All (Room i k) l) where
         slot (storeNew l i k w) ν′ v d ≡ 0
     fresh-slot ν′ d q a = slot-apart i k w l ν′ ν′ v d room a (λ _. refl) ∙ empty-node l ν′ v
         (block (tierOrder (suc v)) i) new none-over d q
-
-    pub fresh-mark-apart : (m d : ℕ) → d / slots ≡ block (tierOrder (suc v)) i → Apart i k (tierOrder v) d →
-        slotMark (storeNew l i k w) m v d ≡ false
-    fresh-mark-apart m d q a = mark-apart i k w l m v d a ∙ empty-marks l v (block (tierOrder (suc v)) i) new
-        none-over m d q
-
-    pub fresh-mark-path : (m : ℕ) → m < 3 → k ≤ tierOrder v →
-        slotMark (storeNew l i k w) m v (block (tierOrder v) i) ≡ false
-    fresh-mark-path m lt h = mark-path i k w l m v lt h ∙ empty-marks l v (block (tierOrder (suc v)) i) new none-over
-        m (block (tierOrder v) i) (sym (tier-up v i))

@@ -12,16 +12,7 @@ use Rattle.blocks.proofs.ListLaws.{without-in}
 use Rattle.model.specs.declared.Entry.{Entry}
 use Rattle.tree.specs.Tree.{has, Node, newNodes, needed}
 use Rattle.tree.proofs.NodeListLaws.{nodes-in}
-use Rattle.layout.specs.Places.{
-  Places,
-  Placed,
-  numberOf,
-  numberIn,
-  freeCount,
-  allocate,
-  keepIf,
-  newPlaces,
-}
+use Rattle.layout.specs.Places.{Places, Placed, numberOf, numberIn, freeCount, allocate, keepIf, newPlaces}
 use Rattle.layout.proofs.PlacesLaws.{placed-new, number-stays}
 use Rattle.layout.proofs.NumberLaws.{
   nd,

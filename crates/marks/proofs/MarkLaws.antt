@@ -44,11 +44,11 @@ use Rattle.model.specs.Model.{
 }
 use Rattle.model.proofs.ValidLaws.{covers-self, sorted-ok, unique}
 use Rattle.tree.specs.Slots.{slot, entryWord, Numbering, nodeWord}
-use Rattle.tree.specs.Tree.{slotMark, has, height, slots, tierOrder}
+use Rattle.tree.specs.Tree.{slotMark, height, slots, tierOrder}
 use Rattle.tree.proofs.StoreLaws.{marked-only}
 use Rattle.tree.proofs.HeightLaws.{Low, height-fits, fits-base}
 use Rattle.tree.proofs.SlotLaws.{tier-up, mark-up, mark-down}
-use Rattle.tree.proofs.RelabelLaws.{mapO, any-map, within-map, covering-map, height-map, has-map}
+use Rattle.tree.proofs.RelabelLaws.{mapO, any-map, within-map, covering-map, height-map}
 use Rattle.layout.specs.Words.{field, anchorWord, nodeWords}
 use Rattle.marks.proofs.BitSetLaws.{marks-bits, set-bits, bits-zero, bits-none, marks-of-bits}
 
@@ -169,9 +169,6 @@ module _ (l : List Entry) (val : Valid l) (i : ℕ) (e : Entry) (q : covering l 
     -- the rest is the same
     pub same-height : height l′ ≡ height l
     same-height = height-map f fb fo l
-
-    pub same-has : (u c : ℕ) → has l′ u c ≡ has l u c
-    same-has u c = has-map f fb fo u c l
 
     pub same-slot : (ν : Numbering) (u c : ℕ) → slot l′ ν u c ≡ slot l ν u c
     unfolding slot

@@ -1,5 +1,5 @@
 -- Nodes that a store frees, the chain over the old head, and that clearing needs no node.
-use Prim.Native.Nat.{ℕ, _*_, _^_, _≤_, _<_}
+use Prim.Native.Nat.{ℕ, _^_, _≤_, _<_}
 use mathlib.Core.Path.{_≡_, sym, subst, _∙_}
 use mathlib.Core.Bool.{true, false}
 use mathlib.Core.List.{List, []}
@@ -10,14 +10,14 @@ use Rattle.blocks.specs.Lists.{any, All}
 use Rattle.blocks.specs.Blocks.{block}
 use Rattle.blocks.proofs.BoolLaws.{clash, byT, is-false, both-l, both-r, either-yes}
 use Rattle.blocks.proofs.ListLaws.{each, without-all}
-use Rattle.blocks.proofs.BlockLaws.{block-up, block-at}
+use Rattle.blocks.proofs.BlockLaws.{block-up}
 use Rattle.model.specs.declared.Entry.{Entry}
 use Rattle.model.specs.Model.{within, clear, newEntry, storeNew}
 use Rattle.model.proofs.InsertLaws.{any-insert}
-use Rattle.model.proofs.RangeLaws.{Room, Apart, Inside}
-use Rattle.tree.specs.Tree.{height, tall, has, nodes, newNodes, tierOrder}
+use Rattle.model.proofs.RangeLaws.{Room, Inside}
+use Rattle.tree.specs.Tree.{height, has, nodes, newNodes, tierOrder}
 use Rattle.tree.proofs.StoreLaws.{within-only, within-path}
-use Rattle.tree.proofs.HeightLaws.{fits-i, fits-tall, zero-up, height-store}
+use Rattle.tree.proofs.HeightLaws.{height-store}
 use Rattle.tree.proofs.NodeListLaws.{nodes-in}
 use Rattle.tree.proofs.EraseLaws.{gone, has-clear}
 
@@ -42,19 +42,6 @@ module _ (i k w : ℕ) (l : List Entry) (i< : i < 2 ^ 64) (k≤ : k ≤ 63) (roo
       (subst (λ (c : ℕ). any (within (tierOrder u) c) (storeNew l i k w) ≡ false)
       (sym at ∙ block-up {j = k} {k = tierOrder u} (x .base) i (omega arith) r) n₁))) in
       (low, λ y e. block-up {j = tierOrder u} {k = k} y (x .base) low (e ∙ sym at) ∙ r)
-
--- where the head grows over what stays, block 0 of each tier between the heads lies apart from the run
-pub chain-apart : (i k w : ℕ) (l : List Entry) (u : ℕ) → u < tall (newEntry l i k w) → (block k i ≡ 0 → ⊥) →
-    Apart i k (tierOrder u) 0
-chain-apart i k w l u lt n y z r =
-    byT (leb (tierOrder u) k) (λ t. n (sym r ∙ zero-up y (leb-true _ _ t) z))
-    (λ t. let g : k < tierOrder u = leb-false _ _ t in
-    omega (
-      arith,
-      fits-tall u (newEntry l i k w) (fits-i u (newEntry l i k w) (omega arith)
-          (block-up {j = k} {k = tierOrder u} (block k i * 2 ^ k) y (omega arith) (block-at k (block k i) ∙ sym r) ∙
-          z)),
-    ))
 
 -- clearing needs no node
 pub clear-new : (i k : ℕ) (l : List Entry) → newNodes l (clear l i k) ≡ []

@@ -1,15 +1,15 @@
 -- The tree of a list under a head of any tier that fits: one tier more or less is one node.
-use Prim.Native.Nat.{ℕ, suc, _≤_, _<_}
-use mathlib.Core.Path.{_≡_, sym, _∙_}
+use Prim.Native.Nat.{ℕ, _<_}
+use mathlib.Core.Path.{_≡_, _∙_}
 use mathlib.Core.Bool.{Bool, true, false}
 use mathlib.Core.List.{List}
 use native.Mathlib.Omega.{arith}
 use lib.Dec.{leb, eqb}
-use borrow.Author.Tests.{leb-true, leb-false, eqb-true, eqb-false, lt-ltb, le-leb, lt-leb, eq-eqb, ne-eqb}
-use Rattle.blocks.specs.Choice.{both, either}
+use borrow.Author.Tests.{eqb-true, lt-ltb, eq-eqb}
+use Rattle.blocks.specs.Choice.{both}
 use Rattle.blocks.specs.Lists.{any, All, nonempty}
 use Rattle.blocks.specs.Blocks.{block}
-use Rattle.blocks.proofs.BoolLaws.{byT, both-l, either-no}
+use Rattle.blocks.proofs.BoolLaws.{both-l}
 use Rattle.blocks.proofs.ListLaws.{All-map, any-none, any-same}
 use Rattle.model.specs.declared.Entry.{Entry}
 use Rattle.model.specs.Model.{starts, within, hasMark}
@@ -30,16 +30,6 @@ module _ (l : List Entry) (h : ℕ) (fit : All (λ x. fits h x ≡ true) l) wher
         zero-up {j = tierOrder h} {k = tierOrder u} (x .base) (omega arith) (fits-base h x f),
       )) fit)
       ∙ any-const (eqb 0 b) l
-
-  pub grow-has : (u b : ℕ) → hasAt (suc h) l u b ≡ either (hasAt h l u b)
-      (both (eqb u (suc h)) (both (nonempty l) (eqb 0 b)))
-  grow-has u b =
-      byT (leb u h) (λ t. let le : u ≤ h = leb-true _ _ t in
-      rw (t, le-leb u (suc h) (omega arith), ne-eqb u (suc h) (omega arith))
-      (sym (either-no (any (within (tierOrder u) b) l))))
-      (λ t. let lt : h < u = leb-false _ _ t in
-      byT (eqb u (suc h)) (λ e. rw (t, e, le-leb u (suc h) (omega (arith, eqb-true)), above u b lt))
-      (λ e. let ne : u ≡ suc h → ⊥ = eqb-false _ _ e in rw (t, e, lt-leb u (suc h) (omega arith))))
 
   pub grow-mark-other : (m d : ℕ) → 0 < d → slotMark l m h d ≡ false
   unfolding slotMark

@@ -6,29 +6,18 @@ use mathlib.Core.List.{List, [], _∷_}
 use native.Mathlib.Omega.{arith}
 use native.Mathlib.Nat.{le-refl, zero-mul, zero-div}
 use lib.Dec.{leb, ltb, eqb}
-use lib.ListN.{length, length-append, length-map}
-use borrow.Author.Tests.{
-  leb-true,
-  leb-false,
-  eqb-true,
-  eqb-false,
-  ltb-true,
-  ltb-false,
-  lt-ltb,
-  le-ltb,
-  lt-leb,
-  eq-eqb,
-}
-use Rattle.blocks.specs.Choice.{pick, both}
+use lib.ListN.{length}
+use borrow.Author.Tests.{leb-true, leb-false, eqb-true, eqb-false, ltb-true, ltb-false, lt-ltb, lt-leb, eq-eqb}
+use Rattle.blocks.specs.Choice.{both}
 use Rattle.blocks.specs.Lists.{any, All, nonempty}
 use Rattle.blocks.specs.Blocks.{block}
 use Rattle.blocks.proofs.BoolLaws.{clash, byT, is-false, both-l, both-r, both-no, both-yes, either-e, either-yes}
 use Rattle.blocks.proofs.ListLaws.{All-map, without-all, without-none}
 use Rattle.blocks.proofs.BlockLaws.{block-up, block-at}
 use Rattle.model.specs.declared.Entry.{Entry}
-use Rattle.model.specs.Model.{starts, within, clear, newEntry, storeNew}
+use Rattle.model.specs.Model.{starts, within, clear, newEntry}
 use Rattle.model.proofs.RangeLaws.{InRun}
-use Rattle.tree.specs.Tree.{fits, tall, height, has, addIf, needed, tierOrder}
+use Rattle.tree.specs.Tree.{fits, tall, height, has, addIf, tierOrder}
 use Rattle.tree.proofs.HeightLaws.{
   Low,
   height-fits,
@@ -39,7 +28,7 @@ use Rattle.tree.proofs.HeightLaws.{
   fits-base,
   zero-up,
 }
-use Rattle.tree.proofs.NewNodeLaws.{chained, missing, freshAt, freshTo, new-nodes}
+use Rattle.tree.proofs.NewNodeLaws.{chained, freshAt}
 
 -- a node on the path has a node above it on the path
 pub path-up : (i : ℕ) {j k : ℕ} (l : List Entry) → j ≤ k → any (within j (block j i)) l ≡ true →
@@ -86,13 +75,6 @@ module _ (i k w : ℕ) (l : List Entry) (low : All Low l) (grows : height l < ta
 
 -- THE COUNT, tier by tier: u up to the old head, between the heads, and at the new head
 module _ (i k w : ℕ) (l : List Entry) (low : All Low l) where
-  pub count-old : (u : ℕ) → u ≤ height l → length (freshAt l i k u) ≡ pick (missing l i k u) 1 0
-  count-old u h = rw (le-ltb (height l) u h) (one (missing l i k u))
-    where
-      one : (t : Bool) → length (addIf t (block (tierOrder u) i) []) ≡ pick t 1 0
-      one true = refl
-      one false = refl
-
   pub path-off : (u : ℕ) → u < tall (newEntry l i k w) → k < tierOrder u → block (tierOrder u) i ≡ 0 → ⊥
   path-off u h g e =
       omega (
@@ -100,27 +82,6 @@ module _ (i k w : ℕ) (l : List Entry) (low : All Low l) where
         fits-tall u (newEntry l i k w) (fits-i u (newEntry l i k w) (omega arith)
             (block-up {j = k} {k = tierOrder u} (block k i * 2 ^ k) i (omega arith) (block-at k (block k i)) ∙ e)),
       )
-
-  pub count-mid : (u : ℕ) → height l < u → u < tall (newEntry l i k w) →
-      length (freshAt l i k u) ≡ pick (both (nonempty l) (not (eqb (block k i) 0))) 1 0 + pick (ltb k (tierOrder u)) 1
-      0
-  unfolding has
-  count-mid u h g =
-      rw (
-        lt-ltb (height l) u h,
-        lt-leb u (height l) h,
-        grown i k w l low (omega arith),
-        both-yes (ltb k (tierOrder u)),
-      )
-      (two (both (nonempty l) (not (eqb (block k i) 0))) (ltb k (tierOrder u)) refl)
-    where
-      two : (a t : Bool) → ltb k (tierOrder u) ≡ t → length (addIf a 0 (addIf t (block (tierOrder u) i) [])) ≡ pick a
-          1 0 + pick t 1 0
-      two true true e = let ne : block (tierOrder u) i ≡ 0 → ⊥ = path-off u g (ltb-true _ _ e) in
-          rw (lt-ltb 0 (block (tierOrder u) i) (omega arith))
-      two true false e = refl
-      two false true e = refl
-      two false false e = refl
 
   pub count-top : (u : ℕ) → Low (newEntry l i k w) → height l < u → u ≡ tall (newEntry l i k w) →
       freshAt l i k u ≡ 0 ∷ []
@@ -140,11 +101,3 @@ module _ (i k w : ℕ) (l : List Entry) (low : All Low l) where
   unfoldable pub countTo : ℕ → ℕ
   countTo zero = 0
   countTo (suc u) = length (freshAt l i k (suc u)) + countTo u
-
-  pub needed-count : needed l (storeNew l i k w) ≡ countTo (height (storeNew l i k w))
-  unfolding countTo
-  needed-count = rw (new-nodes i k w l low) (go (height (storeNew l i k w)))
-    where
-      go : (u : ℕ) → length (freshTo l i k u) ≡ countTo u
-      go zero = refl
-      go (suc u) = rw (length-append, length-map, go u)

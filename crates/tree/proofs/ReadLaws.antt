@@ -1,13 +1,13 @@
 -- What a walk down sees: a slot's word, and whether an entry of order k or more covers the index.
-use Prim.Native.Nat.{ℕ, _*_, _%_, _^_, _≤_, _<_}
-use mathlib.Core.Path.{_≡_, refl, ap, subst, _∙_}
+use Prim.Native.Nat.{ℕ, _*_, _%_, _^_, _<_}
+use mathlib.Core.Path.{_≡_, refl, subst, _∙_}
 use mathlib.Core.Bool.{Bool, true, false, not}
 use mathlib.Core.List.{List}
 use mathlib.Core.Option.{Option, none, some}
 use native.Mathlib.Omega.{arith}
 use native.Mathlib.Nat.{le-refl}
-use lib.Dec.{leb, ltb, eqb, T}
-use borrow.Author.Tests.{leb-true, eqb-true, ltb-true, eq-eqb}
+use lib.Dec.{leb, eqb, T}
+use borrow.Author.Tests.{eqb-true}
 use Rattle.blocks.specs.Choice.{both}
 use Rattle.blocks.specs.Lists.{any, All}
 use Rattle.blocks.specs.Blocks.{block}
@@ -16,10 +16,9 @@ use Rattle.blocks.proofs.ListLaws.{All-map, any-none, each, any-in, in-any, fir
 use Rattle.blocks.proofs.BlockLaws.{block-up}
 use Rattle.model.specs.declared.Entry.{Entry}
 use Rattle.model.specs.Model.{EntryOk, storable, covers, covering, starts, within, over, Valid}
-use Rattle.model.proofs.ValidLaws.{unique, covers-self}
+use Rattle.model.proofs.ValidLaws.{unique}
 use Rattle.tree.specs.Slots.{slot, entryWord, Numbering, nodeWord, siblingWord}
 use Rattle.tree.specs.Tree.{height, slots, tierOrder}
-use Rattle.tree.proofs.StoreLaws.{within-only}
 use Rattle.tree.proofs.HeightLaws.{Low, height-fits, fits-order, fits-base}
 
 -- what a slot of tier u stands for, and its word
@@ -62,13 +61,6 @@ seen-node l ν u c x (lower t) m g = (t, refl)
 seen-node l ν u c x (entry e t q s ok) m g = absurd (word-kind (e .word) (ok .word-ok) .1 m)
 seen-node l ν u c x (sibling e t q s ok) m g = absurd (omega arith)
 
-pub seen-entry : (l : List Entry) (ν : Numbering) (u c x : ℕ) → Seen l ν u c x → (x ≡ 0 → ⊥) → (x % 4 ≡ 2 → ⊥) →
-    (e : Entry) × (covering l (c * 2 ^ (tierOrder u)) ≡ some e) × (e .word ≡ x) × (block (tierOrder u) (e .base) ≡ c)
-seen-entry l ν u c x (nothing t q) z m = absurd (z refl)
-seen-entry l ν u c x (lower t) z m = absurd (m (omega arith))
-seen-entry l ν u c x (entry e t q s ok) z m = (e, q, refl, eqb-true _ _ s)
-seen-entry l ν u c x (sibling e t q s ok) z m = absurd (m (omega arith))
-
 -- an entry of order k or more over i
 pub over-some : (l : List Entry) (i k : ℕ) (e : Entry) → Valid l → covering l i ≡ some e →
     any (over i k) l ≡ leb k (e .order)
@@ -83,19 +75,6 @@ over-some l i k e v q =
 pub over-none : (l : List Entry) (i k : ℕ) → covering l i ≡ none → any (over i k) l ≡ false
 over-none l i k q = any-none (over i k) (All-map (λ x n t. clash (both-l (covers i x) (leb k (x .order)) t) n)
     (first-no (covers i) l q))
-
--- a node at or below the run's order on i's path: none
-pub over-node : (l : List Entry) (i j k : ℕ) → Valid l → j ≤ k → any (within j (block j i)) l ≡ true →
-    any (over i k) l ≡ false
-over-node l i j k v h t =
-    any-none (over i k) (each l (λ x m s.
-    let (y, n, r) = any-in (within j (block j i)) l t in
-    let o : k ≤ x .order = leb-true _ _ (both-r (covers i x) (leb k (x .order)) s) in
-    let p : y .order < j = ltb-true _ _ (both-l (ltb (y .order) j) _ r) in
-    let c : covers (y .base) x ≡ true = eq-eqb _ _ (block-up {j = j} {k = x .order} (y .base) i (omega arith)
-    (within-only j (block j i) y r) ∙ eqb-true _ _ (both-l (covers i x) (leb k (x .order)) s)) in
-    let e : x .order ≡ y .order = ap (λ (z : Entry). z .order) (unique (y .base) v m n c (covers-self y)) in
-    omega arith))
 
 -- past the head's block nothing covers
 pub past-head : (l : List Entry) (y : ℕ) → All Low l → (block (tierOrder (height l)) y ≡ 0 → ⊥) → covering l y ≡ none

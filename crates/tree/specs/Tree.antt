@@ -3,7 +3,7 @@
 -- A block of tier u has 2^(6u) indices. The node (u, b), of shift 6u - 6, covers block b of tier u; its slots are
 -- the blocks of tier u - 1 in it. So the slot (u, c) leads to the node (u, c), and the head is the slot of block 0
 -- of the head's tier, also where it is an entry or empty (tier 0).
-use Prim.Native.Nat.{ℕ, zero, suc, _*_, _-_, _^_, max}
+use Prim.Native.Nat.{ℕ, zero, suc, _*_, max}
 use mathlib.Core.Bool.{Bool}
 use mathlib.Core.List.{List, [], _∷_, _++_, map}
 use lib.Dec.{leb, ltb, eqb}

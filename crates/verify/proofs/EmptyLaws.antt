@@ -19,10 +19,7 @@ use Rattle.layout.specs.Places.{Places, standing, numberIn, render}
 use Rattle.layout.specs.Fill.{filled}
 use Rattle.layout.specs.WellFormed.{Sized, Prescribed, WellFormed}
 use Rattle.layout.proofs.RenderLaws.{render-is}
-use Rattle.layout.specs.Decode.{listOf}
-use Rattle.layout.specs.Decide.{isSized, nodeCount}
 use Rattle.decode.proofs.DecideLaws.{count-of, sized-is}
-use Rattle.decode.proofs.DecodeLaws.{decode-list}
 use Rattle.verify.specs.Answers.{emptyPool, initAnswer, initWords, checkAnswer}
 use Rattle.verify.proofs.AnswerLaws.{not-sized, well-formed-0}
 
@@ -129,12 +126,5 @@ module _ (n : ℕ) (lo : 1 ≤ n) (hi : n ≤ maxNodes) where
         words-are = S .words-are;
       }
 
-  pub empty-list : listOf (emptyPool n) ≡ []
-  empty-list = decode-list (empty-prescribed n)
-
   pub empty-checks : checkAnswer (emptyPool n) ≡ 0
   empty-checks = well-formed-0 empty-well-formed
-
-pub init-render : (ws : List ℕ) → isSized ws ≡ true →
-    initWords ws ≡ render [] (replicate (nodeCount ws) none) (nodeCount ws)
-init-render ws t = rw t (empty-render (nodeCount ws))

@@ -1,22 +1,18 @@
 -- What a run comes to, test by test as the code has them.
-use Prim.Native.Nat.{ℕ, zero, suc, _+_, _*_, _≤_, _<_}
+use Prim.Native.Nat.{ℕ, _*_, _≤_, _<_}
 use mathlib.Core.Path.{_≡_, refl, sym, ap, subst, _∙_}
 use mathlib.Core.Logic.{_≢_}
-use mathlib.Core.Bool.{true, false}
-use mathlib.Core.List.{List, [], _∷_, _++_}
+use mathlib.Core.List.{List, _++_}
 use native.Mathlib.Omega.{arith}
-use lib.Dec.{ltb, eqb}
+use lib.Dec.{ltb}
 use lib.ListN.{length, drop}
 use borrow.Author.Tests.{eq-eqb, ne-eqb, lt-ltb, le-ltb, ltb-true, ltb-false}
 use Rattle.blocks.proofs.BoolLaws.{byT}
 use Rattle.layout.specs.Decide.{nodeCount}
-use Rattle.layout.specs.WellFormed.{WellFormed}
 use Rattle.verify.specs.Answers.{checkAnswer}
 use Rattle.verify.proofs.AnswerLaws.{accepted}
 use Rattle.batch.specs.declared.Command.{Command}
-use Rattle.batch.specs.declared.Counted.{Counted}
 use Rattle.batch.specs.declared.Counted.the-variants.{Commands, Refused}
-use Rattle.batch.specs.Bytes.{overwrite}
 use Rattle.batch.specs.Batch.{maxBatch, Parsed, Parsed.commands, Parsed.refused, counted, restAt, parse}
 use Rattle.batch.specs.Reply.{replyBytes}
 use Rattle.batch.proofs.ParseLaws.{parse-long, parse-rest, not-refused}

@@ -1,16 +1,14 @@
 -- Demand 3: for every list of calls on one pool, the words after it are those that the model fed the same calls
 -- prescribes, under some numbering of nodes, and every other node is free.
-use Prim.Native.Nat.{ℕ, zero, suc, _+_, _*_, _-_, _≤_, _<_}
+use Prim.Native.Nat.{ℕ, zero, suc, _*_, _≤_}
 use mathlib.Core.Path.{_≡_, refl, sym, ap, subst, _∙_}
-use mathlib.Core.Bool.{true, false}
 use mathlib.Core.List.{List, [], _∷_, _++_}
 use mathlib.Core.Option.{none}
 use native.Mathlib.Omega.{arith}
-use lib.Dec.{ltb, eqb}
+use lib.Dec.{ltb}
 use lib.ListN.{length, getD, replicate, take, length-append, length-take}
 use lib.Seq.{getD-take}
 use borrow.Author.Tests.{eq-eqb, le-ltb, ltb-true, ltb-false}
-use Rattle.blocks.specs.Choice.{pick}
 use Rattle.blocks.specs.Lists.{All, end, also}
 use Rattle.blocks.proofs.BoolLaws.{byT}
 use Rattle.blocks.proofs.UpToLaws.{length-upTo}
@@ -31,7 +29,6 @@ use Rattle.batch.specs.Batch.{Parsed, Parsed.commands, Parsed.refused, parse}
 use Rattle.batch.specs.Reply.{replyBytes}
 use Rattle.batch.proofs.BoundLaws.{AllFit, parse-fits}
 use Rattle.batch.proofs.CutLaws.{cut}
-use Rattle.execute.specs.Execute.{execute}
 use Rattle.execute.specs.State.{State, next, states}
 use Rattle.execute.proofs.ExecuteLaws.{Kept, states-kept}
 use Rattle.xapool.specs.Calls.{Called, run, runParsed}

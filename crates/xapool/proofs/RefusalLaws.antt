@@ -3,7 +3,6 @@
 -- to 4 alter nothing.
 use Prim.Native.Nat.{ℕ, _*_, _≤_, _<_}
 use mathlib.Core.Path.{_≡_, refl, sym, ap, subst, _∙_}
-use mathlib.Core.Bool.{true, false}
 use mathlib.Core.List.{List}
 use native.Mathlib.Omega.{arith}
 use lib.Dec.{ltb}
@@ -20,8 +19,7 @@ use Rattle.verify.proofs.AnswerLaws.{meaning, accepted}
 use Rattle.batch.specs.declared.Command.{Command}
 use Rattle.batch.specs.Batch.{Parsed, Parsed.commands, Parsed.refused, parse}
 use Rattle.batch.specs.Reply.{replyBytes}
-use Rattle.execute.specs.State.{State}
-use Rattle.xapool.specs.Calls.{Called, refuseCall, badRecord, replyShort, done, running, runParsed, run}
+use Rattle.xapool.specs.Calls.{Called, refuseCall, badRecord, replyShort, done, running, run}
 use Rattle.xapool.proofs.CallLaws.{run-unchecked, run-checked}
 
 -- the rows of the table for a run, each under the conditions that the ones above it leave

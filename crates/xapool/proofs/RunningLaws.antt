@@ -1,11 +1,10 @@
 -- The loop over a batch's commands: where it starts, one turn, and where it ends.
-use Prim.Native.Nat.{ℕ, zero, suc, _+_, _*_, _-_, _≤_, _<_}
+use Prim.Native.Nat.{ℕ, suc, _+_, _*_, _≤_}
 use mathlib.Core.Path.{_≡_, refl, sym, ap, ap₂, subst, _∙_}
-use mathlib.Core.List.{List, [], _∷_, _++_}
+use mathlib.Core.List.{List, [], _∷_}
 use native.Mathlib.Omega.{arith}
-use lib.ListN.{length, getD, length-append}
+use lib.ListN.{length, length-append}
 use Rattle.model.specs.declared.Entry.{Entry}
-use Rattle.layout.specs.Places.{Places, Placed, newPlaces, render}
 use Rattle.layout.specs.WellFormed.{WellFormed, InUse, Prescribed}
 use Rattle.decode.proofs.PrescribedWords.{count-is}
 use Rattle.decode.proofs.DecodeLaws.{unique}
@@ -13,7 +12,6 @@ use Rattle.batch.specs.Bytes.{writeFrom, overwrite}
 use Rattle.batch.specs.Fits.{Fits}
 use Rattle.batch.specs.declared.Command.{Command}
 use Rattle.batch.specs.declared.Cursor.{Cursor}
-use Rattle.batch.specs.declared.Read.{Read}
 use Rattle.batch.specs.declared.Read.the-variants.{Next, Bad, End}
 use Rattle.batch.specs.declared.Reply.{Reply}
 use Rattle.batch.specs.Batch.{Parsed, Parsed.commands, Parsed.refused, consTo, readAt, restAt}

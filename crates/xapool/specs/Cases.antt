@@ -1,10 +1,9 @@
 -- The starred cases of document 01, "Sheets to try", as one table. proofs/Cases has the theorem that they all hold.
-use Prim.Native.Nat.{ℕ, zero, suc, _+_, _*_, _-_, _^_}
-use mathlib.Core.Bool.{Bool, true, false}
+use Prim.Native.Nat.{ℕ, _+_, _-_, _^_}
+use mathlib.Core.Bool.{Bool, true}
 use mathlib.Core.List.{List, [], _∷_, _++_, map}
 use mathlib.Core.Option.{none}
 use lib.Dec.{eqb}
-use lib.ListN.{length}
 use Rattle.blocks.specs.Choice.{both}
 use Rattle.blocks.specs.Lists.{upTo}
 use Rattle.tree.specs.Tree.{tierOrder, Node, nodes, needed}
@@ -16,7 +15,7 @@ use Rattle.batch.specs.declared.Command.{Command}
 use Rattle.batch.specs.declared.Command.the-variants.{Store, Load, Erase, Mark, Unmark, Find}
 use Rattle.batch.specs.Reply.{encode, answered}
 use Rattle.batch.specs.declared.Reply.{Reply}
-use Rattle.execute.specs.Execute.{Executed, execute}
+use Rattle.execute.specs.Execute.{execute}
 use Rattle.execute.specs.State.{State, states}
 
 -- what a case says of its last command

@@ -1,18 +1,9 @@
 use Prim.Native.Nat.{_≤_, _-_}
-use mathlib.Core.Path.{_≡_, sym, _∙_}
+use mathlib.Core.Path.{sym, _∙_}
 use native.Mathlib.Omega.{arith}
 use borrow.Author.Needs.{needs}
 use lib.ListN.{length}
-use Rattle.batch.specs.Batch.{counted, restAt, readAt, Next}
-use Rattle.batch.proofs.ParseLaws.{
-  Onward,
-  next-after,
-  plus-zero,
-  CountedTo,
-  count-end,
-  count-bad,
-  count-next,
-}
+use Rattle.batch.proofs.ParseLaws.{Onward, next-after, plus-zero, CountedTo, count-end, count-bad, count-next}
 use Rattle.batch.proofs.count_records.Statement.{statement}
 use Rattle.batch.proofs.count_records.Tie as tie
 

@@ -1,5 +1,4 @@
 use mathlib.Core.Path.{refl}
-use native.Mathlib.Omega.{arith}
 use lib.ListN.{length-set}
 use Rattle.batch.specs.Bytes.{writeFrom}
 use borrow.Author.Needs.{needs}

@@ -1,5 +1,5 @@
 use native.Mathlib.Omega.{arith}
-use mathlib.Core.Path.{_≡_, sym, _∙_}
+use mathlib.Core.Path.{sym, _∙_}
 use Rattle.batch.proofs.BatchLaws.{read-end, read-head, read-tag, read-length, read-cut, read-next}
 use borrow.Author.Needs.{needs}
 use Rattle.batch.proofs.read_at.Statement.{statement}

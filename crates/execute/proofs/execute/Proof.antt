@@ -1,9 +1,3 @@
-use mathlib.Core.Path.{_≡_, sym, subst}
-use Rattle.layout.specs.WellFormed.{WellFormed}
-use Rattle.batch.specs.declared.Command.{Command}
-use Rattle.batch.specs.declared.Reply.{Reply}
-use Rattle.execute.specs.Execute.{Executed}
-use Rattle.execute.specs.Contracts.{Executes}
 use Rattle.execute.proofs.ReplyLaws.{by-command, leaves-words}
 use Rattle.execute.proofs.ExecuteLaws.{load-list, find-list}
 use borrow.Author.Needs.{needs}

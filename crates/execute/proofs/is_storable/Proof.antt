@@ -1,5 +1,4 @@
-use mathlib.Core.Path.{_≡_}
-use borrow.Author.Tests.{eq-eqb, ne-eqb}
+use borrow.Author.Tests.{ne-eqb}
 use Rattle.execute.proofs.is_storable.Statement.{statement}
 use Rattle.execute.proofs.is_storable.Tie as tie
 

@@ -1,5 +1,5 @@
-use mathlib.Core.Path.{sym, ap, _∙_}
-use mathlib.Core.Bool.{true, false}
+use mathlib.Core.Path.{ap, _∙_}
+use mathlib.Core.Bool.{true}
 use Rattle.batch.specs.declared.Command.the-variants.{Mark}
 use Rattle.erase.proofs.FreedLaws.{in-use-remark}
 use Rattle.execute.specs.Contracts.{coveredReply}

@@ -1,5 +1,4 @@
-use mathlib.Core.Path.{_≡_, sym, subst, _∙_}
-use mathlib.Core.Bool.{true, false, not}
+use mathlib.Core.Path.{sym, subst, _∙_}
 use lib.Dec.{T}
 use Rattle.batch.specs.declared.Command.the-variants.{Store}
 use Rattle.execute.proofs.ReplyLaws.{leaves, store-order, store-word, stores}

@@ -1,6 +1,5 @@
 use borrow.Author.Needs.{needs}
-use lib.Pow.{pow-pos, pow-lt}
-use Prim.Native.Nat.{_^_, _*_, _%_}
+use lib.Pow.{pow-lt}
 use native.Mathlib.Nat.{mod-eq-of-lt, one-mul}
 use Rattle.layout.proofs.pow2.Statement.{statement}
 use Rattle.layout.proofs.pow2.Tie as tie

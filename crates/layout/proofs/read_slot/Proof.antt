@@ -1,5 +1,4 @@
-use Prim.Native.Nat.{ℕ, suc, _+_, _*_, _-_, _/_, _%_, _^_, _<_, _≤_}
-use mathlib.Core.Path.{_≡_, refl, sym, ap, subst, _∙_}
+use mathlib.Core.Path.{sym, ap, _∙_}
 use native.Mathlib.Omega.{arith}
 use Rattle.layout.specs.Pool.{slotOf}
 use Rattle.layout.proofs.SlotWordLaws.{slot-empty, slot-held, slot-sibling, slot-child}

@@ -1,4 +1,4 @@
-use mathlib.Core.Path.{_≡_, sym, ap, subst, _∙_}
+use mathlib.Core.Path.{sym, _∙_}
 use Rattle.xapool.proofs.CallLaws.{run-unchecked, run-bad, comes-refused, comes-as, as-ensures}
 use borrow.Author.Needs.{needs}
 use Rattle.xapool.proofs.xapool_run.Statement.{statement}
