@@ -1,14 +1,14 @@
 -- Words made of bits: each bit read back, and a change of one bit.
-use Prim.Native.Nat.{ℕ, zero, suc, _+_, _*_, _-_, _/_, _^_, _<_}
+use Prim.Native.Nat.{ℕ, zero, suc, _+_, _*_, _-_, _/_, _^_, _<_, _%_}
 use mathlib.Core.Path.{_≡_, refl, sym, ap, _∙_}
-use mathlib.Core.Bool.{Bool, true}
+use mathlib.Core.Bool.{Bool, true, false}
 use native.Mathlib.Omega.{arith}
-use native.Mathlib.Nat.{le-refl, div-eq-of-lt, add-mul-div-right, pow-suc, add-zero, add-mul-mod-self-right}
+use native.Mathlib.Nat.{le-refl, div-eq-of-lt, add-mul-div-right, pow-suc, add-zero, add-mul-mod-self-right, zero-div}
 use lib.Dec.{eqb}
 use borrow.Author.Tests.{eqb-true, eqb-false}
 use Rattle.blocks.specs.Choice.{pick}
 use Rattle.blocks.specs.Blocks.{bit, bitsTo}
-use Rattle.blocks.proofs.BoolLaws.{byT}
+use Rattle.blocks.proofs.BoolLaws.{byT, is-false}
 use Rattle.blocks.proofs.BlockLaws.{pow-pos, pow-add}
 
 pub bits-lt : (f : ℕ → Bool) (n : ℕ) → bitsTo f n < 2 ^ n
@@ -53,3 +53,13 @@ bits-change f g i (suc n) h s =
     (omega arith))
     (λ e. let ne : i ≡ n → ⊥ = eqb-false _ _ e in
     rw (s n (le-refl _) (omega arith)) (omega (arith, bits-change f g i n (omega arith) (λ j lt. s j (omega arith)))))
+
+-- no bit is set exactly if the word is 0
+pub bits-none : (f : ℕ → Bool) (n : ℕ) → ((j : ℕ) → j < n → f j ≡ false) → bitsTo f n ≡ 0
+bits-none f zero h = refl
+bits-none f (suc n) h = rw (h n (omega arith), add-zero) (bits-none f n (λ j lt. h j (omega arith)))
+
+pub bits-zero : (f : ℕ → Bool) (n : ℕ) → bitsTo f n ≡ 0 → (j : ℕ) → j < n → f j ≡ false
+bits-zero f n z j h =
+    is-false (λ t. let e : 1 ≡ bit j (bitsTo f n) = sym (bits-read f n j h ∙ rw t) in
+    let d : bit j (bitsTo f n) ≡ 0 = ap (bit j) z ∙ ap (λ (y : ℕ). y % 2) (zero-div (2 ^ j)) in omega arith)

@@ -18,7 +18,7 @@ use Rattle.model.specs.declared.Entry.{Entry}
 use Rattle.model.specs.Model.{Valid, within}
 use Rattle.tree.specs.Tree.{Node, height, has, nodes, tierOrder, slots}
 use Rattle.tree.specs.Slots.{Numbering, slot}
-use Rattle.tree.proofs.NodeListLaws.{nodes-in, in-nodes}
+use Rattle.tree.proofs.NodeListLaws.{nodes-in, in-nodes, has-within}
 use Rattle.layout.specs.Words.{owner, field, fieldAt, anchorWord, place, poolWords, nodeWords}
 use Rattle.layout.specs.Places.{Places, Placed, numberIn, standing}
 use Rattle.layout.proofs.FieldLaws.{field-same}
@@ -45,8 +45,8 @@ use Rattle.decode.proofs.PrescribedWords.{
   field-shift,
   field-mark,
   field-slot,
-  node-within,
 }
+use Rattle.tree.proofs.SlotLaws.{slot-num}
 
 -- a list of places made number by number
 module _ (f : ℕ → Option Node) where
@@ -79,11 +79,6 @@ raise ν zero b = 0
 raise ν (suc v) b = ν v b
 
 -- a slot's word asks the numbering for its own node alone
-slot-num : (l : List Entry) (ν ν′ : Numbering) (u c : ℕ) → (any (within (tierOrder u) c) l ≡ true → ν′ u c ≡ ν u c) →
-    slot l ν′ u c ≡ slot l ν u c
-unfolding slot
-slot-num l ν ν′ u c e = byT (any (within (tierOrder u) c) l) (λ t. rw (t, e t)) (λ t. rw t)
-
 has-i : (l : List Entry) (u b : ℕ) → u ≤ height l → any (within (tierOrder u) b) l ≡ true → has l u b ≡ true
 unfolding has
 has-i l u b h t = rw (le-leb u (height l) h, t)
@@ -211,7 +206,7 @@ module _ (ws : List ℕ) (l : List Entry) (ν : Numbering) (R : Prescribes (pool
   field-is v b t =
       let m : ℕ = ν v b in
       let I : NodeIs (poolOf ws) l ν m v b = R .nodes v b (has-of v b t) in
-      let inside : any (within (tierOrder (suc v)) b) l ≡ true = node-within l (suc v) b t in
+      let inside : any (within (tierOrder (suc v)) b) l ≡ true = has-within l (suc v) b t in
       by-field (λ f. getD ws (place m f) 0 ≡ field l (raise ν) (suc v) b f)
       (I .shift-is ∙ sym (field-shift l (raise ν) v b))
       (I .owner-is ∙ level-owner valid (raise ν) v b)

@@ -1,23 +1,20 @@
 -- Words that are prescribed as a whole, word by word.
 use Prim.Native.Nat.{ℕ, zero, suc, _+_, _*_, _-_, _/_, _%_, _<_}
 use mathlib.Core.Path.{_≡_, refl, sym, ap, subst, _∙_}
-use mathlib.Core.Bool.{true, false}
-use mathlib.Core.Logic.{_⊎_, inl, inr}
+use mathlib.Core.Bool.{true}
 use mathlib.Core.List.{List, [], _∷_}
 use mathlib.Core.Option.{Option, none, some}
 use native.Mathlib.Omega.{arith}
 use native.Mathlib.Nat.{zero-add}
-use lib.Dec.{leb}
-use lib.ListN.{length, getD}
+use lib.ListN.{getD}
 use borrow.Author.Tests.{lt-ltb, le-ltb, eq-eqb, ne-eqb}
 use Rattle.blocks.specs.Lists.{any, In, here, there, Distinct, d-more}
 use Rattle.blocks.specs.Blocks.{bitsTo}
-use Rattle.blocks.proofs.BoolLaws.{clash, byT, is-false, both-r}
-use Rattle.blocks.proofs.ListLaws.{in-cons}
+use Rattle.blocks.proofs.BoolLaws.{is-false}
 use Rattle.blocks.proofs.UpToLaws.{getD-upTo}
 use Rattle.model.specs.declared.Entry.{Entry}
 use Rattle.model.specs.Model.{within}
-use Rattle.tree.specs.Tree.{Node, height, has, slotMark, nodes, tierOrder, slots}
+use Rattle.tree.specs.Tree.{Node, has, slotMark, nodes, tierOrder, slots}
 use Rattle.tree.specs.Slots.{Numbering, slot}
 use Rattle.layout.specs.Words.{
   field,
@@ -46,6 +43,8 @@ use Rattle.decode.proofs.SameTree.{
   level-owner,
   head-same,
 }
+use Rattle.tree.proofs.NodeListLaws.{has-within}
+use Rattle.layout.proofs.NumberLaws.{number-at}
 
 -- PLACES
 abbrev pub node : ℕ → ℕ → Node
@@ -65,20 +64,6 @@ get-in (none ∷ os) (suc m) p e = get-in os m p e
 get-in (some q ∷ os) (suc m) p e = there (get-in os m p e)
 
 -- a node that stands is found at its number
-number-at : (p : Node) (os : Places) → In p (standing os) →
-    (numberOf p os < length os) × (getD os (numberOf p os) none ≡ some p)
-number-at p [] m = elim m [ ]
-number-at p (none ∷ os) m = let (a, b) = number-at p os m in (omega arith, b)
-number-at p (some q ∷ os) m =
-    byT (same q p) (λ t. rw t (omega arith, ap some (same-is q p t)))
-    (λ t. rw t (go t (in-cons m) (number-at p os)))
-  where
-    go : same q p ≡ false → (p ≡ q) ⊎ In p (standing os) →
-        (In p (standing os) → (numberOf p os < length os) × (getD os (numberOf p os) none ≡ some p)) →
-        (suc (numberOf p os) < suc (length os)) × (getD os (numberOf p os) none ≡ some p)
-    go t (inl e) f = absurd (clash (subst (λ (r : Node). same r p ≡ true) e (same-self p)) t)
-    go t (inr k) f = let (a, b) = f k in (omega arith, b)
-
 -- and what is found at a number has it
 pub at-number-of : (os : Places) → Distinct (standing os) → (m : ℕ) (p : Node) → getD os m none ≡ some p →
     numberOf p os ≡ m
@@ -121,10 +106,6 @@ module _ (l : List Entry) (ν : Numbering) (v b : ℕ) where
       )
 
 -- a node's slots lie in its block
-pub node-within : (l : List Entry) (u b : ℕ) → has l u b ≡ true → any (within (tierOrder u) b) l ≡ true
-unfolding has
-node-within l u b t = both-r (leb u (height l)) _ t
-
 -- FROM THE WHOLE TO THE WORDS
 module _ (n : ℕ) (l : List Entry) (os : Places) (ws : List ℕ) (S : Prescribed n l os ws) where
   word : (i : ℕ) → i < poolWords n → getD ws i 0 ≡ wordAt l os n i
@@ -174,7 +155,7 @@ module _ (n : ℕ) (l : List Entry) (os : Places) (ws : List ℕ) (S : Prescribe
   node-is v b t =
       let m : ℕ = numberIn os (suc v) b in
       let (lt, k) = found v b t in
-      let inside : any (within (tierOrder (suc v)) b) l ≡ true = node-within l (suc v) b
+      let inside : any (within (tierOrder (suc v)) b) l ≡ true = has-within l (suc v) b
       (sym (has-same (S .valid) v b) ∙ t) in
       let w : (f : ℕ) → f < nodeWords → getD ws (place m f) 0 ≡ field l (numberIn os) (suc v) b f = λ f h. node-word m
       f lt h ∙ ap (λ (o : Option Node). fieldAt l (numberIn os) o f) k in

@@ -73,6 +73,7 @@ use Rattle.marks.proofs.HybridLaws.{has-low}
 use Rattle.marks.proofs.MarkLaws.{entry-in, entry-covers, one-apart, mark-old}
 use Rattle.erase.specs.Tall.{fieldH, tallAt, Tall}
 use Rattle.erase.specs.Leaving.{cutAt, Cut, Unmarked}
+use Rattle.tree.proofs.NodeListLaws.{has-within}
 
 module _ (l : List Entry) (val : Valid l) (i : ℕ) (e : Entry) (q : covering l i ≡ some e) (lone : e .marks ≡ 0) where
   abbrev l′ : List Entry
@@ -205,10 +206,6 @@ module _ (l : List Entry) (val : Valid l) (i : ℕ) (e : Entry) (q : covering l 
       in
       block-up {j = e .order} {k = tierOrder (height l)} i (e .base) (omega (arith, fits-order (height l) e f))
       (eqb-true _ _ (entry-covers l val i e q)) ∙ fits-base (height l) e f
-
-there-was : (l : List Entry) (u b : ℕ) → has l u b ≡ true → any (within (tierOrder u) b) l ≡ true
-unfolding has
-there-was l u b t = both-r (leb u (height l)) (any (within (tierOrder u) b) l) t
 
 -- THE WAY UP
 module _ {ws₀ : List ℕ} (s : WellFormed ws₀) {i v n : ℕ} {ws : List ℕ} (c : Cut s i v n ws) where
@@ -673,7 +670,7 @@ module _ {ws₀ : List ℕ} (s : WellFormed ws₀) {i v n o : ℕ} (h : Holds (s
         go m f lt out (some p) e =
             let (y, t) = place-of s m p e in
             let (pos, le) = has-tier (s .list) (p .tier) (p .number) t in
-            let a : any (within (tierOrder (p .tier)) (p .number)) (s .list) ≡ true = there-was (s .list) (p .tier)
+            let a : any (within (tierOrder (p .tier)) (p .number)) (s .list) ≡ true = has-within (s .list) (p .tier)
             (p .number) t in
             byT (leb (p .tier) v)
             (λ g. let g′ : p .tier ≤ v = leb-true _ _ g in

@@ -20,7 +20,7 @@ use Rattle.model.specs.Model.{covers, covering, within}
 use Rattle.model.proofs.ValidLaws.{sorted-ok, covers-lo}
 use Rattle.tree.specs.Slots.{slot, Numbering}
 use Rattle.tree.specs.Tree.{has, height, fits, Node, tierOrder, slots}
-use Rattle.tree.proofs.SlotLaws.{node-empty}
+use Rattle.tree.proofs.SlotLaws.{node-empty, slot-num}
 use Rattle.tree.proofs.StoreLaws.{within-only}
 use Rattle.tree.proofs.HeightLaws.{Low, height-fits, fits-base, fits-order}
 use Rattle.tree.proofs.EraseLaws.{shrink, shrunk}
@@ -54,11 +54,6 @@ use Rattle.lookup.proofs.WayLaws.{view-child, view-empty, view-held, view-sibli
 use Rattle.erase.specs.Tall.{fieldH, stays, tallAt, Tall}
 
 -- a slot's word under another numbering
-pub slot-num : (l : List Entry) (ν ν′ : Numbering) (u c : ℕ) →
-    (any (within (tierOrder u) c) l ≡ true → ν′ u c ≡ ν u c) → slot l ν′ u c ≡ slot l ν u c
-unfolding slot
-slot-num l ν ν′ u c e = byT (any (within (tierOrder u) c) l) (λ t. rw (t, e t)) (λ t. rw t)
-
 module _ {n h : ℕ} {l : List Entry} {os : Places} {ws : List ℕ} (w : Tall n h l os ws) where
   abbrev ν : Numbering
   ν = numberIn os

@@ -1,16 +1,16 @@
 -- One bit of a word set or cleared, and the words whose bits are the marks.
-use Prim.Native.Nat.{ℕ, zero, suc, _+_, _*_, _-_, _/_, _%_, _^_, _≤_, _<_}
+use Prim.Native.Nat.{ℕ, suc, _+_, _*_, _-_, _/_, _^_, _≤_, _<_}
 use mathlib.Core.Path.{_≡_, refl, sym, ap, _∙_}
 use mathlib.Core.Bool.{Bool, true, false}
 use mathlib.Core.List.{List}
 use native.Mathlib.Omega.{arith}
-use native.Mathlib.Nat.{zero-div, add-zero, div-eq-of-lt, mul-assoc, pow-succ'}
+use native.Mathlib.Nat.{div-eq-of-lt, mul-assoc, pow-succ'}
 use lib.Dec.{ltb, eqb}
 use borrow.Author.Tests.{eqb-true, eqb-false, ltb-true, ltb-false, eq-eqb, ne-eqb}
 use Rattle.blocks.specs.Choice.{pick}
 use Rattle.blocks.specs.Lists.{any}
 use Rattle.blocks.specs.Blocks.{block, bit, bitsTo, setBit}
-use Rattle.blocks.proofs.BoolLaws.{byT, is-false}
+use Rattle.blocks.proofs.BoolLaws.{byT}
 use Rattle.blocks.proofs.BlockLaws.{pow-pos, block-block, block-hi}
 use Rattle.blocks.proofs.BitLaws.{bits-read, bits-change}
 use Rattle.model.specs.declared.Entry.{Entry}
@@ -72,15 +72,6 @@ set-bits f g o n h s =
         e in
         omega arith) in
         omega arith
-
-pub bits-none : (f : ℕ → Bool) (n : ℕ) → ((j : ℕ) → j < n → f j ≡ false) → bitsTo f n ≡ 0
-bits-none f zero h = refl
-bits-none f (suc n) h = rw (h n (omega arith), add-zero) (bits-none f n (λ j lt. h j (omega arith)))
-
-pub bits-zero : (f : ℕ → Bool) (n : ℕ) → bitsTo f n ≡ 0 → (j : ℕ) → j < n → f j ≡ false
-bits-zero f n z j h =
-    is-false (λ t. let e : 1 ≡ bit j (bitsTo f n) = sym (bits-read f n j h ∙ rw t) in
-    let d : bit j (bitsTo f n) ≡ 0 = ap (bit j) z ∙ ap (λ (y : ℕ). y % 2) (zero-div (2 ^ j)) in omega arith)
 
 pub marks-bits : (e : Entry) → e .marks < 8 → bitsTo (λ j. hasMark j e) 3 ≡ e .marks
 marks-bits e h = sum (hasMark 0 e) (hasMark 1 e) (hasMark 2 e) ∙ marks-sum e h

@@ -86,3 +86,8 @@ pub distinct-to : (l : List Entry) (h : ℕ) → Distinct (nodesTo h l)
 distinct-to l zero = d-end
 distinct-to l (suc h) = distinct-at (suc h) (asc-blocks (suc h) l)
     (each (nodesTo h l) (λ p k. omega (arith, nodesTo-in l h k .0))) (distinct-to l h)
+
+-- a node is over some entry of a lower order
+pub has-within : (l : List Entry) (u b : ℕ) → has l u b ≡ true → any (within (tierOrder u) b) l ≡ true
+unfolding has
+has-within l u b t = both-r (leb u (height l)) (any (within (tierOrder u) b) l) t

@@ -158,3 +158,9 @@ empty-marks l u c n o m d q =
     (in-any (within (tierOrder (suc u)) c) i (rw (f, eq-eqb _ _ s))) n)
     (λ f. look o i (ltb-false _ _ f) (eq-eqb _ _ (block-up {j = tierOrder (suc u)} {k = x .order}
     (c * 2 ^ (tierOrder (suc u))) (x .base) (ltb-false _ _ f) (block-at (tierOrder (suc u)) c ∙ sym s))))))
+
+-- a slot under two numberings that give its node the same number
+pub slot-num : (l : List Entry) (ν ν′ : Numbering) (u c : ℕ) →
+    (any (within (tierOrder u) c) l ≡ true → ν′ u c ≡ ν u c) → slot l ν′ u c ≡ slot l ν u c
+unfolding slot
+slot-num l ν ν′ u c e = byT (any (within (tierOrder u) c) l) (λ t. rw (t, e t)) (λ t. rw t)
