@@ -1,5 +1,6 @@
 //! Cases 14 and 15 of document 01, the empty batch, and batches of 8,192 and 8,193 bytes, with the
-//! document's own figures; the cases without a star that need no random input.
+//! document's own figures; and cases 2 to 12 command by command against reference, all words and
+//! replies (their figures are computed by the proved table and tested in host/).
 
 use crate::lend::{Call, Given, Lender};
 use crate::program::Input;
@@ -76,6 +77,47 @@ fn empty_batch() -> Vec<Case> {
     ]
 }
 
+fn store_order(index: u64, order: u8, word: u64) -> Command {
+    Command::Store { index, order, word: Word(word) }
+}
+
+/// Whether library and reference agree on every word and reply byte after each of the commands.
+fn agree(nodes: usize, commands: &[Command]) -> bool {
+    let mut pool = vec![0; 4 + 69 * nodes];
+    let mut lender = Lender::new();
+    lender.set_pool(&pool);
+    let mut same = lender.difference(&Call::Init, &mut pool).1.is_none();
+    for command in commands {
+        let batch = records(std::slice::from_ref(command));
+        same &= lender.difference(&Call::Run { batch, reply: 24 }, &mut pool).1.is_none();
+    }
+    same
+}
+
+fn starred() -> Vec<Case> {
+    let (load, erase) = (|index| Command::Load { index }, |index| Command::Erase { index });
+    let mark = |index, mark| Command::Mark { index, mark };
+    let (two, three) = (store(0, 3), store(64, 5));
+    let eight = store_order(13, 3, 5);
+    let ten = [store(64, 5), mark(64, 0), store(65, 7), mark(65, 1), store_order(64, 6, 9)];
+    vec![
+        ("case 2 against reference", agree(1, &[two])),
+        ("case 3 against reference, N = 2", agree(2, &[two, three])),
+        ("case 3 against reference, N = 3", agree(3, &[two, three])),
+        ("case 4 against reference, 4096", agree(6, &[two, three, store(4096, 7)])),
+        ("case 4 against reference, 4095", agree(4, &[two, three, store(4095, 7)])),
+        ("case 5 against reference", agree(11, &[store(u64::MAX, 5)])),
+        ("case 6 against reference, N = 20", agree(20, &[two, store(u64::MAX, 5)])),
+        ("case 6 against reference, N = 21", agree(21, &[two, store(u64::MAX, 5)])),
+        ("case 7 against reference", agree(1, &[store_order(0, 6, 5), load(63)])),
+        ("case 8 against reference", agree(1, &[eight])),
+        ("case 9 against reference", agree(1, &[eight, store(10, 9), load(15), erase(11)])),
+        ("case 10 against reference", agree(2, &ten)),
+        ("case 11 against reference", agree(3, &[two, three, erase(64)])),
+        ("case 12 against reference", agree(1, &[store_order(1 << 63, 63, 5), store_order(1 << 63, 64, 5)])),
+    ]
+}
+
 fn programs(with_program: bool) -> Vec<Case> {
     if !with_program {
         return Vec::new();
@@ -95,7 +137,7 @@ fn programs(with_program: bool) -> Vec<Case> {
 
 /// How many cases there are, and the names of those that failed.
 pub fn run_all(with_program: bool) -> (usize, Vec<&'static str>) {
-    let all = [case_14(), case_15(), empty_batch(), programs(with_program)].concat();
+    let all = [starred(), case_14(), case_15(), empty_batch(), programs(with_program)].concat();
     let failed = all.iter().filter(|(_, right)| !right).map(|(name, _)| *name).collect();
     (all.len(), failed)
 }
