@@ -13,6 +13,7 @@ mod list;
 mod os;
 mod pools;
 mod program;
+mod shapes;
 mod stretch;
 #[cfg(test)]
 mod tests;
