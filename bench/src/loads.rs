@@ -1,6 +1,7 @@
-//! The three loads: dense stores, sparse stores at random, marked finds.
+//! What a load is, and the three loads of docs/BENCHMARKS.md: dense stores, sparse stores at random,
+//! marked finds. finds.rs and stores.rs have more, for the comparison of two builds.
 
-use xapool_host::{BatchBuilder, Command, Word};
+use xapool_host::{BatchBuilder, Command, Word, MOST_NODES};
 
 /// The work on one pool: what is run before the clock starts, and what is timed.
 pub struct Work {
@@ -12,14 +13,24 @@ pub struct Load {
     pub name: &'static str,
     pub about: String,
     pub pools: Vec<Work>,
+    /// The nodes of each pool.
+    pub nodes: usize,
+    /// What every timed command is answered with.
+    pub answer: u8,
+}
+
+impl Load {
+    pub fn new(name: &'static str, about: impl Into<String>, pools: Vec<Work>) -> Load {
+        Load { name, about: about.into(), pools, nodes: MOST_NODES, answer: 0 }
+    }
 }
 
 /// Every 97th entry is marked, so that a find passes some entries and some nodes.
-const MARKED_EVERY: u64 = 97;
-const MARK: u8 = 0;
+pub const MARKED_EVERY: u64 = 97;
+pub const MARK: u8 = 0;
 
-/// So many stores, or finds, fill a batch.
-const STORES_A_BATCH: usize = 409;
+/// So many stores fill a batch.
+pub const STORES_A_BATCH: usize = 409;
 
 /// A small generator (splitmix64), the same numbers in every run.
 pub struct Random(pub u64);
@@ -33,45 +44,72 @@ impl Random {
     }
 }
 
-fn store(index: u64) -> Command {
-    Command::Store { index, order: 0, word: Word(2 * (index % 1_000_000) + 1) }
+impl Random {
+    /// All of them in a random order.
+    pub fn shuffled<T>(&mut self, mut all: Vec<T>) -> Vec<T> {
+        for last in (1..all.len()).rev() {
+            all.swap(last, self.below(last as u64 + 1) as usize);
+        }
+        all
+    }
 }
 
-fn dense_stores(indices: u64) -> Vec<Command> {
+pub fn store_order(index: u64, order: u8) -> Command {
+    Command::Store { index, order, word: Word(2 * (index % 1_000_000) + 1) }
+}
+
+pub fn store(index: u64) -> Command {
+    store_order(index, 0)
+}
+
+pub fn dense_stores(indices: u64) -> Vec<Command> {
     (0..indices).map(store).collect()
 }
 
-fn find(first: u64) -> Command {
-    Command::Find { first, last: u64::MAX, filter: MARK, budget: u16::MAX }
+pub fn find(first: u64, filter: u8) -> Command {
+    Command::Find { first, last: u64::MAX, filter, budget: u16::MAX }
 }
 
 pub fn dense(indices: u64) -> Load {
     let about = format!("order 0 at indices 0 to {}, in order, one pool", indices - 1);
     let pools = vec![Work { setup: Vec::new(), timed: dense_stores(indices) }];
-    Load { name: "dense stores", about, pools }
+    Load::new("dense stores", about, pools)
+}
+
+/// The stores, so many to each pool.
+pub fn stores_by_pool(stores: &[Command], a_pool: usize) -> Vec<Work> {
+    let work = |part: &[Command]| Work { setup: Vec::new(), timed: part.to_vec() };
+    stores.chunks(a_pool).map(work).collect()
 }
 
 /// One full batch to a pool: each takes about 860 nodes.
 pub fn sparse(stores: u64) -> Load {
     let mut random = Random(1);
-    let indices: Vec<Command> = (0..stores).map(|_| store(random.below(1 << 24))).collect();
-    let work = |part: &[Command]| Work { setup: Vec::new(), timed: part.to_vec() };
-    let pools: Vec<Work> = indices.chunks(STORES_A_BATCH).map(work).collect();
+    let stores: Vec<Command> = (0..stores).map(|_| store(random.below(1 << 24))).collect();
+    let pools = stores_by_pool(&stores, STORES_A_BATCH);
     let about = format!("order 0 at random below 2^24, {} pools of one full batch", pools.len());
-    Load { name: "sparse stores", about, pools }
+    Load::new("sparse stores", about, pools)
+}
+
+pub fn mark(index: u64) -> Command {
+    Command::Mark { index, mark: MARK }
+}
+
+/// Every 97th index.
+pub fn one_in_97(indices: u64) -> impl Iterator<Item = u64> {
+    (0..indices).filter(|index| index % MARKED_EVERY == MARKED_EVERY - 1)
 }
 
 pub fn marked_finds(indices: u64, finds: u64) -> Load {
     let mut random = Random(2);
     let mut setup = dense_stores(indices);
-    let marked = (0..indices).filter(|index| index % MARKED_EVERY == MARKED_EVERY - 1);
-    setup.extend(marked.map(|index| Command::Mark { index, mark: MARK }));
+    setup.extend(one_in_97(indices).map(mark));
     // From here on there is a marked entry.
     let most = indices - indices % MARKED_EVERY;
-    let timed = (0..finds).map(|_| find(random.below(most))).collect();
+    let timed = (0..finds).map(|_| find(random.below(most), MARK)).collect();
     let about =
         format!("from random indices, {indices} dense entries, one in {MARKED_EVERY} marked");
-    Load { name: "marked finds", about, pools: vec![Work { setup, timed }] }
+    Load::new("marked finds", about, vec![Work { setup, timed }])
 }
 
 /// Stores at random in 12 blocks of 64 indices, which take at most 37 nodes.
@@ -81,7 +119,7 @@ fn sparse_in_few_blocks() -> Load {
     let mut index = || blocks[random.below(12) as usize] + random.below(64);
     let timed = (0..STORES_A_BATCH).map(|_| store(index())).collect();
     let pools = vec![Work { setup: Vec::new(), timed }];
-    Load { name: "sparse stores", about: "at random in 12 blocks of 64".into(), pools }
+    Load::new("sparse stores", "at random in 12 blocks of 64", pools)
 }
 
 /// The three loads, small enough for 40 nodes.

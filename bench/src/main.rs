@@ -1,13 +1,20 @@
-//! bench: three loads through xapool_run, the same over a BTreeMap, and the cost by nodes.
+//! bench: three loads through xapool_run, the same over a BTreeMap, and the cost by nodes. With
+//! `against`, two builds of the library in one run.
 
+mod against;
+mod checks;
+mod finds;
+mod library;
 mod loads;
 mod measure;
 mod plain;
 mod plot;
+mod stores;
 mod table;
 #[cfg(test)]
 mod tests;
 
+use library::Linked;
 use loads::Load;
 use std::path::Path;
 use std::process::ExitCode;
@@ -20,9 +27,8 @@ usage: bench [--indices N] [--repeats N] [--small-repeats N] [--write DIR]
   --repeats   of each load; of each batch the shortest time counts; 5 if not named
   --small-repeats   of the small loads, which take microseconds; 200 if not named
   --write     writes BENCHMARKS.md and benchmarks.svg to this folder
+       bench against ..   two builds in one run: scripts/bench-against
 Exit status: 0 fine, 1 a call was refused or a file could not be written, 2 bad usage.";
-
-const NODES_OF_A_LOAD: usize = 1000;
 
 struct Options {
     indices: u64,
@@ -51,15 +57,20 @@ fn options() -> Option<Options> {
 }
 
 fn main() -> ExitCode {
-    let Some(options) = options() else {
-        eprintln!("{USAGE}");
-        return ExitCode::from(2);
+    let is_against = env::args().nth(1).is_some_and(|word| word == "against");
+    let (measured, usage) = match is_against {
+        true => (against::run(env::args().skip(2)), against::USAGE),
+        false => (options().map(|options| measure_all(&options)), USAGE),
     };
-    match measure_all(&options) {
-        Ok(()) => ExitCode::SUCCESS,
-        Err(message) => {
+    match measured {
+        Some(Ok(())) => ExitCode::SUCCESS,
+        Some(Err(message)) => {
             eprintln!("bench: {message}");
             ExitCode::from(1)
+        }
+        None => {
+            eprintln!("{usage}");
+            ExitCode::from(2)
         }
     }
 }
@@ -84,15 +95,22 @@ fn measure_all(options: &Options) -> Result<(), String> {
 }
 
 fn row(load: Load, repeats: u32) -> Result<Row, String> {
-    let cost = measure::cost(&load, NODES_OF_A_LOAD, repeats)?;
+    let cost = cost(&load, load.nodes, repeats)?;
     let map = plain::cost(&load, repeats);
     Ok(Row { name: load.name, about: load.about, cost, map })
+}
+
+/// By the library that is linked.
+fn cost(load: &Load, nodes: usize, repeats: u32) -> Result<measure::Cost, String> {
+    let mut trial = measure::Trial::new(&[&Linked], load, nodes)?;
+    (0..repeats).try_for_each(|round| trial.round(&[&Linked], round))?;
+    Ok(trial.costs()[0])
 }
 
 fn costs_by_nodes(load: &Load, repeats: u32) -> Result<ByNodes, String> {
     let mut costs = [measure::Cost::default(); 3];
     for (cost, nodes) in costs.iter_mut().zip(NODES) {
-        *cost = measure::cost(load, nodes, repeats)?;
+        *cost = self::cost(load, nodes, repeats)?;
     }
     Ok(ByNodes { name: load.name, costs })
 }

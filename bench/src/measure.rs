@@ -1,8 +1,10 @@
-//! Times a load through xapool_run, and the check by itself.
+//! Times a load through the runs of one or more libraries, and the check by itself.
 
+use crate::library::Library;
 use crate::loads::{batches, Load, Work};
 use std::time::Instant;
-use xapool_host::{BatchBuilder, Pool, Refusal, REPLY_BYTES};
+use xapool_host::raw::RawResult;
+use xapool_host::{pool_words, BatchBuilder, REPLY_BYTES};
 
 /// Nanoseconds for all commands of a load.
 #[derive(Clone, Copy, Debug, Default)]
@@ -27,59 +29,198 @@ impl Cost {
     pub fn check_a_batch(self) -> f64 {
         self.check / self.batches as f64
     }
+
+    /// The check's part of a run, in percent.
+    pub fn check_share(self) -> f64 {
+        100.0 * self.check / self.run
+    }
 }
 
-/// The time of each batch: its run and the check before it.
-type Times = Vec<(f64, f64)>;
+/// The time of a batch: its run, and the check before it.
+#[derive(Clone, Copy)]
+struct Time {
+    run: f64,
+    check: f64,
+}
 
-/// The load on pools of so many nodes; of each batch the shortest time of all repeats.
-pub fn cost(load: &Load, nodes: usize, repeats: u32) -> Result<Cost, String> {
-    let mut total = Cost::default();
-    for work in &load.pools {
-        let mut best = times(work, nodes)?;
-        for _ in 1..repeats {
-            for (best, now) in best.iter_mut().zip(times(work, nodes)?) {
-                *best = (best.0.min(now.0), best.1.min(now.1));
+impl Time {
+    const LONGEST: Time = Time { run: f64::MAX, check: f64::MAX };
+
+    fn least(self, other: Time) -> Time {
+        Time { run: self.run.min(other.run), check: self.check.min(other.check) }
+    }
+}
+
+/// A load by one or more libraries, and the shortest time of each batch so far.
+pub struct Trial<'a> {
+    pub load: &'a Load,
+    /// One pool for all, so that none has the better place in memory.
+    pool: Vec<u64>,
+    ready: Vec<Ready>,
+    best: Vec<Vec<Time>>,
+}
+
+impl<'a> Trial<'a> {
+    /// On pools of so many nodes. That all libraries give the same replies and words is compared
+    /// here, batch by batch.
+    pub fn new(
+        libraries: &[&dyn Library],
+        load: &'a Load,
+        nodes: usize,
+    ) -> Result<Trial<'a>, String> {
+        let ready = load.pools.iter().map(|work| ready(libraries, load, work, nodes));
+        let ready: Vec<Ready> =
+            ready.collect::<Result<_, _>>().map_err(|error| format!("{}: {error}", load.name))?;
+        let batches: usize = ready.iter().map(|ready| ready.batches.len()).sum();
+        let best = vec![vec![Time::LONGEST; batches]; libraries.len()];
+        Ok(Trial { load, pool: empty_pool(libraries[0], nodes)?, ready, best })
+    }
+
+    /// The load once by each library, in turns that begin with another in each round.
+    pub fn round(&mut self, libraries: &[&dyn Library], round: u32) -> Result<(), String> {
+        for turn in 0..libraries.len() {
+            let at = (round as usize + turn) % libraries.len();
+            let times = times(libraries[at], &self.ready, &mut self.pool)
+                .map_err(|error| format!("{}: {error}", self.load.name))?;
+            self.best[at].iter_mut().zip(times).for_each(|(best, time)| *best = best.least(time));
+        }
+        Ok(())
+    }
+
+    /// By each library, from the shortest times.
+    pub fn costs(&self) -> Vec<Cost> {
+        let commands = self.load.pools.iter().map(|work| work.timed.len() as u64).sum();
+        self.best.iter().map(|times| total(commands, times)).collect()
+    }
+}
+
+fn total(commands: u64, times: &[Time]) -> Cost {
+    Cost {
+        commands,
+        batches: times.len() as u64,
+        run: times.iter().map(|time| time.run).sum(),
+        check: times.iter().map(|time| time.check).sum(),
+    }
+}
+
+/// Work made ready to be timed: the words after its setup (none: an empty pool), its batches, the
+/// replies to each, and a digest of the words at the end.
+struct Ready {
+    words: Option<Vec<u64>>,
+    batches: Vec<BatchBuilder>,
+    replies: Vec<Vec<u8>>,
+    end: u64,
+}
+
+fn ready(
+    libraries: &[&dyn Library],
+    load: &Load,
+    work: &Work,
+    nodes: usize,
+) -> Result<Ready, String> {
+    let mut pools = Vec::new();
+    for library in libraries {
+        pools.push(empty_pool(*library, nodes)?);
+    }
+    for batch in batches(&work.setup) {
+        all_gave(&run_by_each(libraries, &mut pools, &batch)?, 0)?;
+    }
+    let words = (!work.setup.is_empty()).then(|| pools[0].clone());
+    let batches = batches(&work.timed);
+    let mut replies = Vec::new();
+    for batch in &batches {
+        let reply = run_by_each(libraries, &mut pools, batch)?;
+        all_gave(&reply, load.answer)?;
+        replies.push(reply);
+    }
+    Ok(Ready { words, batches, replies, end: digest(&pools[0]) })
+}
+
+pub fn empty_pool(library: &dyn Library, nodes: usize) -> Result<Vec<u64>, String> {
+    let words = pool_words(nodes).ok_or("no pool has so many nodes")?;
+    let mut pool = vec![0; words];
+    done(library.init(&mut pool))?;
+    Ok(pool)
+}
+
+fn done(result: RawResult) -> Result<(), String> {
+    match result {
+        RawResult { answer: 0, .. } => Ok(()),
+        RawResult { answer, number } => Err(format!("a call is refused: {answer}, {number}")),
+    }
+}
+
+/// The batch by each library on a pool of its own: replies and words must be the same.
+fn run_by_each(
+    libraries: &[&dyn Library],
+    pools: &mut [Vec<u64>],
+    batch: &BatchBuilder,
+) -> Result<Vec<u8>, String> {
+    let mut first = None;
+    for (library, pool) in libraries.iter().zip(pools.iter_mut()) {
+        let mut reply = vec![0; REPLY_BYTES * batch.len()];
+        done(library.check(pool))?;
+        done(library.run(pool, batch.bytes(), &mut reply))?;
+        if *first.get_or_insert_with(|| reply.clone()) != reply {
+            return Err("the builds reply differently to a batch".into());
+        }
+    }
+    if pools.iter().any(|pool| *pool != pools[0]) {
+        return Err("the builds leave different words after a batch".into());
+    }
+    Ok(first.unwrap_or_default())
+}
+
+/// Every reply has this answer: a load of refused commands would measure nothing.
+fn all_gave(reply: &[u8], answer: u8) -> Result<(), String> {
+    match reply.chunks(REPLY_BYTES).find(|reply| reply.get(3) != Some(&answer)) {
+        None => Ok(()),
+        Some(reply) => Err(format!("a command was not answered with {answer}: {reply:?}")),
+    }
+}
+
+fn digest(words: &[u64]) -> u64 {
+    words.iter().fold(0, |sum: u64, word| (sum ^ word).wrapping_mul(0x9E37_79B9_7F4A_7C15))
+}
+
+/// One round by one library: the time of each batch of all pools, one after the other.
+fn times(library: &dyn Library, all: &[Ready], pool: &mut [u64]) -> Result<Vec<Time>, String> {
+    let mut times = Vec::new();
+    for ready in all {
+        match &ready.words {
+            Some(words) => pool.copy_from_slice(words),
+            None => done(library.init(pool))?,
+        }
+        for (batch, expected) in ready.batches.iter().zip(&ready.replies) {
+            let mut reply = vec![0; expected.len()];
+            times.push(timed_run(library, pool, batch, &mut reply)?);
+            if reply != *expected {
+                return Err("a build replies differently from round to round".into());
             }
         }
-        total.commands += work.timed.len() as u64;
-        total.batches += best.len() as u64;
-        total.run += best.iter().map(|time| time.0).sum::<f64>();
-        total.check += best.iter().map(|time| time.1).sum::<f64>();
+        if digest(pool) != ready.end {
+            return Err("a build leaves different words from round to round".into());
+        }
     }
-    Ok(total)
+    Ok(times)
 }
 
-fn times(work: &Work, nodes: usize) -> Result<Times, String> {
-    let refused = |refusal: Refusal| refusal.to_string();
-    let mut pool = Pool::new(nodes).map_err(refused)?;
-    for batch in batches(&work.setup) {
-        timed_run(&mut pool, &batch)?;
-    }
-    batches(&work.timed).iter().map(|batch| timed_run(&mut pool, batch)).collect()
-}
-
-fn nanoseconds(since: Instant) -> f64 {
+pub fn nanoseconds(since: Instant) -> f64 {
     since.elapsed().as_nanos() as f64
 }
 
-fn timed_run(pool: &mut Pool, batch: &BatchBuilder) -> Result<(f64, f64), String> {
-    let refused = |refusal: Refusal| refusal.to_string();
-    let mut reply = vec![0; REPLY_BYTES * batch.len()];
+fn timed_run(
+    library: &dyn Library,
+    pool: &mut [u64],
+    batch: &BatchBuilder,
+    reply: &mut [u8],
+) -> Result<Time, String> {
     let start = Instant::now();
-    pool.check().map_err(refused)?;
+    let checked = library.check(pool);
     let check = nanoseconds(start);
     let start = Instant::now();
-    pool.run_bytes(batch.bytes(), &mut reply).map_err(refused)?;
+    let ran = library.run(pool, batch.bytes(), reply);
     let run = nanoseconds(start);
-    all_done(&reply)?;
-    Ok((run, check))
-}
-
-/// A load of refused commands would measure nothing.
-fn all_done(reply: &[u8]) -> Result<(), String> {
-    match reply.chunks(REPLY_BYTES).find(|reply| reply.get(3) != Some(&0)) {
-        None => Ok(()),
-        Some(reply) => Err(format!("a command of the load was not done: {reply:?}")),
-    }
+    done(checked).and(done(ran))?;
+    Ok(Time { run, check })
 }

@@ -1,6 +1,9 @@
 //! The loads fit the pools they run on.
 
+use crate::library::Linked;
 use crate::loads::{batches, dense, marked_finds, small, sparse, Load, Work};
+use crate::measure::Trial;
+use crate::{checks, finds, stores};
 use std::collections::BTreeSet;
 use xapool_host::Command;
 
@@ -44,4 +47,23 @@ fn batches_are_full_and_lose_nothing() {
     assert_eq!(all.iter().map(|batch| batch.len()).collect::<Vec<_>>(), [409, 409, 182]);
     let again: Vec<Command> = all.iter().flat_map(|batch| batch.commands().flatten()).collect();
     assert_eq!(again, work.timed);
+}
+
+/// A command that is not answered as its load says is an error here.
+#[test]
+fn loads_for_two_builds_run() -> Result<(), String> {
+    for load in finds::loads(1000).into_iter().chain(stores::loads(1000)) {
+        let mut trial = Trial::new(&[&Linked, &Linked], &load, load.nodes)?;
+        trial.round(&[&Linked, &Linked], 0)?;
+        assert!(trial.costs().iter().all(|cost| cost.commands > 0 && cost.run < 1e12));
+    }
+    Ok(())
+}
+
+/// So is a good pool that the check refuses, or a bad one that it does not.
+#[test]
+fn pools_for_the_check_are_good_and_bad() -> Result<(), String> {
+    let mut trials = checks::trials(&[&Linked])?;
+    assert_eq!(trials.len(), 18);
+    trials.iter_mut().try_for_each(|trial| trial.round(&[&Linked], 0))
 }

@@ -20,6 +20,12 @@ fn typed(command: Plain) -> Command {
     }
 }
 
+pub fn record(command: Plain) -> Vec<u8> {
+    let mut bytes = Vec::new();
+    typed(command).write(&mut bytes);
+    bytes
+}
+
 pub fn random_batch(random: &mut Random, source: &mut Source) -> Vec<u8> {
     match random.below(64) {
         0 | 1 => Vec::new(),

@@ -114,7 +114,10 @@ fn starred() -> Vec<Case> {
         ("case 9 against reference", agree(1, &[eight, store(10, 9), load(15), erase(11)])),
         ("case 10 against reference", agree(2, &ten)),
         ("case 11 against reference", agree(3, &[two, three, erase(64)])),
-        ("case 12 against reference", agree(1, &[store_order(1 << 63, 63, 5), store_order(1 << 63, 64, 5)])),
+        (
+            "case 12 against reference",
+            agree(1, &[store_order(1 << 63, 63, 5), store_order(1 << 63, 64, 5)]),
+        ),
     ]
 }
 

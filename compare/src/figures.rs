@@ -2,6 +2,7 @@
 
 use crate::lend::{Call, Given};
 use crate::os::shared_numbers;
+use crate::stretch::{counts, FindCounts};
 use std::sync::atomic::{AtomicU64, Ordering::Relaxed};
 
 #[derive(Clone, Copy)]
@@ -22,6 +23,16 @@ pub enum Of {
     ProgramBatches = 7,
     ProgramBytes = 8,
     Changes = 9,
+    FindLists = 48,
+    FindWords = 49,
+    FindReplyBytes = 50,
+    Finds = 51,
+    PausedInside = 52,
+    LastInside = 53,
+    AnyPausedInside = 54,
+    AnyLastInside = 55,
+    FromSibling = 56,
+    OverRuns = 57,
 }
 
 /// The first number of the answers of calls and of those in replies.
@@ -45,7 +56,7 @@ impl Figures {
         self.numbers[of as usize].fetch_add(number as u64, Relaxed);
     }
 
-    /// Counts a call on a pool of so many words, by what reference gave.
+    /// FindCounts a call on a pool of so many words, by what reference gave.
     pub fn count(self, call: &Call, words: usize, given: &Given) {
         self.add(Of::Calls, 1);
         self.add(Of::Words, words);
@@ -61,6 +72,20 @@ impl Figures {
                 self.numbers[REPLY_ANSWERS + usize::from(reply[3])].fetch_add(1, Relaxed);
             }
         }
+    }
+
+    /// FindCounts a call of a list that is made for finds, by reference's pool and what it gave.
+    pub fn count_finds(self, call: &Call, pool: &[u64], given: &Given) {
+        self.add(Of::FindWords, pool.len());
+        self.add(Of::FindReplyBytes, given.reply.len());
+        let found: FindCounts = counts(call, pool, &given.reply);
+        self.add(Of::Finds, found.finds);
+        self.add(Of::PausedInside, found.paused_inside);
+        self.add(Of::LastInside, found.last_inside);
+        self.add(Of::AnyPausedInside, found.any_paused_inside);
+        self.add(Of::AnyLastInside, found.any_last_inside);
+        self.add(Of::FromSibling, found.from_sibling);
+        self.add(Of::OverRuns, found.over_runs);
     }
 
     fn answers(self, from: usize, answers: std::ops::Range<usize>) -> String {
@@ -84,6 +109,28 @@ impl Figures {
         );
         println!("  answers of calls      {}", self.answers(CALL_ANSWERS, 0..5));
         println!("  answers in replies    {}", self.answers(REPLY_ANSWERS, 0..14));
+    }
+
+    pub fn print_finds(self) {
+        println!(
+            "finds: {} lists made for finds, {} finds, {} words and {} reply bytes compared",
+            self.get(Of::FindLists),
+            self.get(Of::Finds),
+            self.get(Of::FindWords),
+            self.get(Of::FindReplyBytes)
+        );
+        println!(
+            "  filter 0, 1, 2: {} paused and {} ended by last inside a stretch, {} over entries of several slots",
+            self.get(Of::PausedInside),
+            self.get(Of::LastInside),
+            self.get(Of::OverRuns)
+        );
+        println!(
+            "  filter 3: {} paused and {} ended by last inside a stretch; any filter: {} from a sibling slot",
+            self.get(Of::AnyPausedInside),
+            self.get(Of::AnyLastInside),
+            self.get(Of::FromSibling)
+        );
     }
 
     pub fn print_program(self) {

@@ -2,7 +2,7 @@
 
 use crate::batches::{parts, random_batch, show};
 use crate::figures::{Figures, Of};
-use crate::lend::{Call, Lender};
+use crate::lend::{Call, Given, Lender};
 use crate::pools::random_words;
 use reference::awkward::Commands as Source;
 use reference::batch::read;
@@ -28,27 +28,44 @@ impl CallList {
 
     /// The first difference, with the number of the call.
     pub fn difference(&self, figures: Option<Figures>) -> Option<String> {
-        // One lender for all lists: a new one would map its memory each time.
-        thread_local!(static LENDER: std::cell::RefCell<Lender> = Lender::new().into());
-        LENDER.with_borrow_mut(|lender| self.difference_by(lender, figures))
-    }
-
-    fn difference_by(&self, lender: &mut Lender, figures: Option<Figures>) -> Option<String> {
-        let mut pool = self.words.clone();
-        lender.set_pool(&pool);
-        for (number, call) in self.calls.iter().enumerate() {
-            let (given, difference) = lender.difference(call, &mut pool);
-            if let Some(text) = difference {
-                return Some(format!("call {}: {text}", number + 1));
-            }
-            if let Some(figures) = figures {
-                figures.count(call, pool.len(), &given);
-            }
-        }
-        if let Some(figures) = figures {
+        let count = |call: &Call, pool: &[u64], given: &Given| {
+            figures.iter().for_each(|figures| figures.count(call, pool.len(), given));
+        };
+        let difference = self.first_difference(count);
+        if let (None, Some(figures)) = (&difference, figures) {
             figures.add(Of::Lists, 1);
         }
-        None
+        difference
+    }
+
+    /// The same for a list that is made for finds, which are counted by their kinds.
+    pub fn difference_in_finds(&self, figures: Option<Figures>) -> Option<String> {
+        let count = |call: &Call, pool: &[u64], given: &Given| {
+            figures.iter().for_each(|figures| figures.count_finds(call, pool, given));
+        };
+        let difference = self.first_difference(count);
+        if let (None, Some(figures)) = (&difference, figures) {
+            figures.add(Of::FindLists, 1);
+        }
+        difference
+    }
+
+    /// Calls that do not differ are handed on, with the pool after them and what reference gave.
+    fn first_difference(&self, mut count: impl FnMut(&Call, &[u64], &Given)) -> Option<String> {
+        // One lender for all lists: a new one would map its memory each time.
+        thread_local!(static LENDER: std::cell::RefCell<Lender> = Lender::new().into());
+        LENDER.with_borrow_mut(|lender| {
+            let mut pool = self.words.clone();
+            lender.set_pool(&pool);
+            for (number, call) in self.calls.iter().enumerate() {
+                let (given, difference) = lender.difference(call, &mut pool);
+                if let Some(text) = difference {
+                    return Some(format!("call {}: {text}", number + 1));
+                }
+                count(call, &pool, &given);
+            }
+            None
+        })
     }
 
     /// Smaller lists, the much smaller ones first.

@@ -7,11 +7,14 @@ mod batches;
 mod cases;
 mod exhaustive;
 mod figures;
+mod finds;
 mod lend;
 mod list;
 mod os;
 mod pools;
 mod program;
+mod shapes;
+mod stretch;
 #[cfg(test)]
 mod tests;
 mod trial;
@@ -28,6 +31,7 @@ usage: compare [SECONDS [SEED]]     all of it, in about so many seconds (100 if 
        compare cases                cases 14 and 15, the empty batch, the longest batches
        compare changes              every single-word change of some pools
        compare again calls SEED     one list of calls, by the seed that was printed
+       compare again finds SEED     one list of calls made for finds
        compare again program SEED   one input of the program
 The long run: compare 3600
 Exit status: 0 no difference, 1 a difference, 2 bad usage or no program.";
@@ -92,11 +96,14 @@ fn compare(seconds: u64, seed: u64) -> Result<bool, String> {
     // At least half of the time is for random input.
     let all = Duration::from_secs(seconds);
     let left = all.saturating_sub(started.elapsed()).max(all / 2);
-    let calls = if program { left * 3 / 4 } else { left };
-    same &= random_trials(Kind::Calls, seed, calls, figures);
+    let programs = if program { left / 4 } else { Duration::ZERO };
+    let finds = left / 4;
+    same &= random_trials(Kind::Calls, seed, left - programs - finds, figures);
     figures.print_calls();
+    same &= random_trials(Kind::Finds, seed, finds, figures);
+    figures.print_finds();
     if program {
-        same &= random_trials(Kind::Program, seed, left - calls, figures);
+        same &= random_trials(Kind::Program, seed, programs, figures);
         figures.print_program();
     } else {
         println!("program: not compared (TAMBURISH_BIN=none)");
@@ -173,6 +180,7 @@ fn report(kind: Kind, seed: u64) {
 fn again(kind: &str, seed: &str) -> Result<bool, String> {
     let kind = match kind {
         "calls" => Kind::Calls,
+        "finds" => Kind::Finds,
         "program" => Kind::Program,
         _ => return Err(USAGE.into()),
     };

@@ -56,7 +56,7 @@ pub fn well_formed(random: &mut Random, source: &mut Source, nodes: usize) -> Ve
     state.words()
 }
 
-fn shuffle<T>(random: &mut Random, all: &mut [T]) {
+pub fn shuffle<T>(random: &mut Random, all: &mut [T]) {
     for last in (1..all.len()).rev() {
         all.swap(last, random.below(last as u64 + 1) as usize);
     }

@@ -1,8 +1,10 @@
 //! The random lists reach what they are to reach: this is a test of the test, by reference alone.
 
+use crate::finds::random_list;
 use crate::lend::Call;
 use crate::list::CallList;
 use crate::program::Input;
+use crate::stretch::{counts, FindCounts};
 use reference::batch::{read, Command};
 use reference::calls::{check, init, run};
 use reference::command::{execute, needed};
@@ -70,10 +72,41 @@ fn every_answer_and_both_sides_of_11_are_met() {
     assert!(many(met.places.get(&8192)) && met.places.len() > 50, "{:?}", met.places);
 }
 
+/// By reference alone; every run of the list must be done, and every store in it.
+fn follow_finds(list: &CallList) -> FindCounts {
+    let mut all = FindCounts::default();
+    let mut pool = list.words.clone();
+    for call in &list.calls {
+        let Call::Run { batch, reply } = call else { continue };
+        let mut space = vec![0; *reply];
+        assert_eq!(run(&mut pool, batch, &mut space).answer, 0);
+        assert!(space.chunks(24).all(|reply| [0, 12, 13].contains(&reply[3])), "{}", list.show());
+        all.add(counts(call, &pool, &space));
+    }
+    all
+}
+
+#[test]
+fn lists_for_finds_have_every_kind_of_find() {
+    let mut met = FindCounts::default();
+    (0..40).for_each(|seed| met.add(follow_finds(&random_list(seed))));
+    // Each at least once in so many finds.
+    let once_in = |times: usize, count: usize| assert!(count * times >= met.finds, "{met:?}");
+    assert!(met.finds >= 4000, "{met:?}");
+    once_in(10, met.paused_inside);
+    once_in(10, met.last_inside);
+    once_in(10, met.from_sibling);
+    once_in(20, met.over_runs);
+    // A fourth of the finds have filter 3.
+    once_in(60, met.any_paused_inside);
+    once_in(60, met.any_last_inside);
+}
+
 #[test]
 fn a_seed_gives_the_same_list_again() {
     for seed in 0..50 {
         assert_eq!(CallList::random(seed), CallList::random(seed));
+        assert_eq!(random_list(seed), random_list(seed));
         assert_eq!(Input::random(seed), Input::random(seed));
     }
 }

@@ -1,6 +1,7 @@
-//! Something compared, of either kind; and the search for a smaller one that still differs.
+//! Something compared, of any kind; and the search for a smaller one that still differs.
 
 use crate::figures::Figures;
+use crate::finds;
 use crate::list::CallList;
 use crate::os::{end_after, in_child, End};
 use crate::program::Input;
@@ -9,6 +10,7 @@ use std::time::{Duration, Instant};
 #[derive(Clone, Copy, Debug, PartialEq, Eq)]
 pub enum Kind {
     Calls,
+    Finds,
     Program,
 }
 
@@ -16,6 +18,7 @@ impl Kind {
     pub fn name(self) -> &'static str {
         match self {
             Kind::Calls => "calls",
+            Kind::Finds => "finds",
             Kind::Program => "program",
         }
     }
@@ -24,6 +27,7 @@ impl Kind {
 #[derive(Clone, Debug, PartialEq, Eq)]
 pub enum Trial {
     Calls(CallList),
+    Finds(CallList),
     Program(Input),
 }
 
@@ -35,6 +39,7 @@ impl Trial {
     pub fn random(kind: Kind, seed: u64) -> Trial {
         match kind {
             Kind::Calls => Trial::Calls(CallList::random(seed)),
+            Kind::Finds => Trial::Finds(finds::random_list(seed)),
             Kind::Program => Trial::Program(Input::random(seed)),
         }
     }
@@ -42,6 +47,7 @@ impl Trial {
     pub fn difference(&self, figures: Option<Figures>) -> Option<String> {
         match self {
             Trial::Calls(list) => list.difference(figures),
+            Trial::Finds(list) => list.difference_in_finds(figures),
             Trial::Program(input) => input.difference(figures),
         }
     }
@@ -49,13 +55,14 @@ impl Trial {
     fn smaller(&self) -> Vec<Trial> {
         match self {
             Trial::Calls(list) => list.smaller().into_iter().map(Trial::Calls).collect(),
+            Trial::Finds(list) => list.smaller().into_iter().map(Trial::Finds).collect(),
             Trial::Program(input) => input.smaller().into_iter().map(Trial::Program).collect(),
         }
     }
 
     fn show(&self) -> String {
         match self {
-            Trial::Calls(list) => list.show(),
+            Trial::Calls(list) | Trial::Finds(list) => list.show(),
             Trial::Program(input) => input.show(),
         }
     }

@@ -5,15 +5,19 @@ use mathlib.Core.Bool.{true, false}
 use mathlib.Core.List.{List}
 use mathlib.Core.Option.{none, some}
 use native.Mathlib.Omega.{arith}
-use borrow.Author.Tests.{eqb-true, eqb-false, lt-ltb, le-ltb, eq-eqb, ne-eqb}
+use native.Mathlib.Nat.{le-refl}
+use lib.Dec.{ltb, eqb}
+use borrow.Author.Tests.{eqb-true, eqb-false, ltb-true, lt-ltb, le-ltb, eq-eqb, ne-eqb}
+use Rattle.blocks.specs.Choice.{both}
 use Rattle.blocks.specs.Lists.{any, All}
 use Rattle.blocks.specs.Blocks.{block}
+use Rattle.blocks.proofs.BoolLaws.{byT}
 use Rattle.model.specs.declared.Entry.{Entry}
 use Rattle.model.specs.Model.{EntryOk, covering, within}
 use Rattle.tree.specs.Slots.{slot, nodeWord, siblingWord, Numbering, nodeOffset}
 use Rattle.tree.proofs.ReadLaws.{Seen, nothing, lower, entry, sibling, see, word-kind}
 use Rattle.tree.specs.Tree.{slots, tierOrder}
-use Rattle.layout.specs.Pool.{slotOf}
+use Rattle.layout.specs.Pool.{slotOf, siblingBit}
 use Rattle.layout.specs.declared.Slot.{Slot}
 use Rattle.layout.specs.declared.Slot.the-variants.{Empty, Held, Sibling, Child}
 
@@ -32,6 +36,17 @@ slot-sibling w m h = rw (ne-eqb w 0 (omega arith), eq-eqb (w % 4) 2 m, lt-ltb w 
 pub slot-child : (w : ℕ) → w % 4 ≡ 2 → 4096 ≤ w → slotOf w ≡ Child (w / 4 - nodeOffset)
 unfolding slotOf
 slot-child w m h = rw (ne-eqb w 0 (omega arith), eq-eqb (w % 4) 2 m, le-ltb w (4 * nodeOffset) h) refl
+
+-- a sibling's bit
+pub sibling-bit-0 : (w : ℕ) → (w % 4 ≡ 2 → w < 4096 → ⊥) → siblingBit w ≡ 0
+sibling-bit-0 w f = byT (eqb (w % 4) 2)
+    (λ s. byT (ltb w 4096) (λ t. absurd (f (eqb-true _ _ s) (ltb-true _ _ t))) (λ t. rw (s, t) refl)) (λ s. rw s refl)
+
+pub sibling-bit-1 : (w : ℕ) → w % 4 ≡ 2 → w < 4096 → siblingBit w ≡ 1
+sibling-bit-1 w e h = rw (eq-eqb (w % 4) 2 e, lt-ltb w 4096 h) refl
+
+pub sibling-bit-le : (w : ℕ) → siblingBit w ≤ 1
+sibling-bit-le w = byT (both (eqb (w % 4) 2) (ltb w 4096)) (λ t. rw t (le-refl 1)) (λ t. rw t (omega arith))
 
 pub data View (l : List Entry) (ν : Numbering) (u c : ℕ) : Slot → Type 0 where
   v-empty : any (within (tierOrder u) c) l ≡ false → covering l (c * 2 ^ (tierOrder u)) ≡ none → View l ν u c Empty

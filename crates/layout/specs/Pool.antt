@@ -27,6 +27,10 @@ slotOf w =
     pick (eqb w 0) Empty
     (pick (eqb (w % 4) 2) (pick (ltb w (4 * nodeOffset)) (Sibling (w / 4)) (Child (w / 4 - nodeOffset))) Held)
 
+-- 1 for the word of a sibling slot, else 0
+abbrev pub siblingBit : ℕ → ℕ
+siblingBit w = pick (both (eqb (w % 4) 2) (ltb w (4 * nodeOffset))) 1 0
+
 -- the words of a pool
 pub record Pool : Type 0 where
   pub count : ℕ

@@ -3,12 +3,12 @@
 // pool: the borrowed words; n, m: numbers of nodes; f: a field of a node; o: the offset of a slot in its node;
 // tier: the tier of a block (64^tier indices).
 ghost use mathlib.Core.Path.{_≡_};
-ghost use Prim.Native.Nat.{_+_, _*_, _<_, _≤_, _^_};
+ghost use Prim.Native.Nat.{_+_, _*_, _%_, _<_, _≤_, _^_};
 ghost use lib.ListN.{getD, set};
-ghost use Rattle.blocks.specs.Blocks.{block};
-ghost use Rattle.tree.specs.Tree.{tierOrder, topTier};
+ghost use Rattle.blocks.specs.Blocks.{block, NextBit};
+ghost use Rattle.tree.specs.Tree.{slots, tierOrder, topTier};
 ghost use Rattle.layout.specs.Words.{place};
-ghost use Rattle.layout.specs.Pool.{slotOf};
+ghost use Rattle.layout.specs.Pool.{slotOf, siblingBit};
 ghost use Rattle.layout.specs.Fill.{filled};
 
 // The layout's constants, as specs/Words has them.
@@ -107,4 +107,34 @@ pub fn read_slot(w: u64) -> Slot
         return Slot::Sibling(w / 4);
     }
     Slot::Child(w / 4 - NODE_OFFSET)
+}
+
+// 1 for the word of a sibling slot, else 0.
+pub fn sibling_bit(w: u64) -> u64
+    ensures { λ r. ⌜ r ≡ siblingBit w ⌝ }
+{
+    if w % 4 != 2 {
+        return 0;
+    }
+    if w < NODES_FROM { 1 } else { 0 }
+}
+
+// Odd for the word of a sibling slot or of a node.
+pub fn internal_bit(w: u64) -> u64
+    ensures { λ r. ⌜ (r % 2 ≡ 0 → w % 4 ≡ 2 → ⊥) ⌝ }
+{
+    (w >> 1) & !w
+}
+
+// The least slot from o on whose bit is set in a mark word, or 64 if there is none.
+pub fn next_marked(w: u64, o: u64) -> u64
+    requires { ⌜ o < slots ⌝ }
+    ensures { λ r. ⌜ NextBit slots w o r ⌝ }
+{
+    let x = w >> o;
+    let t = u64::trailing_zeros(x) as u64;
+    if SLOTS - o <= t {
+        return SLOTS;
+    }
+    o + t
 }

@@ -1,0 +1,163 @@
+//! Two builds of the library measured in one run: `bench against BEFORE AFTER`.
+
+use crate::checks;
+use crate::library::{Library, Loaded};
+use crate::loads::{dense, marked_finds, sparse, Load};
+use crate::measure::{Cost, Trial};
+use crate::{finds, stores};
+
+pub const USAGE: &str = "\
+usage: bench against BEFORE AFTER [--only find|store|check] [--rounds N] [--indices N]
+  BEFORE, AFTER   shared objects, made of two builds of libxapool.a by scripts/bench-against
+  --only      finds, or stores and all else that writes or loads, or the check; all if not named
+  --rounds    of all loads by each build, in turns; of each batch the shortest time counts; 20 if not named
+  --indices   of the dense loads; 60,000 if not named
+Exit status: 0 fine, 1 the builds differ in a word or a reply, or a call was refused, 2 bad usage.";
+
+struct Options {
+    builds: [String; 2],
+    only: Option<String>,
+    rounds: u32,
+    indices: u64,
+}
+
+fn options(mut words: impl Iterator<Item = String>) -> Option<Options> {
+    let builds = [words.next()?, words.next()?];
+    let mut options = Options { builds, only: None, rounds: 20, indices: 60_000 };
+    while let Some(name) = words.next() {
+        let value = words.next()?;
+        match name.as_str() {
+            "--only" => {
+                let known = ["find", "store", "check"].contains(&value.as_str());
+                options.only = Some(known.then_some(value)?)
+            }
+            "--rounds" => options.rounds = value.parse().ok().filter(|n| *n > 0)?,
+            "--indices" => {
+                options.indices = value.parse().ok().filter(|n| (500..=60_000).contains(n))?
+            }
+            _ => return None,
+        }
+    }
+    Some(options)
+}
+
+/// None: bad usage.
+pub fn run(words: impl Iterator<Item = String>) -> Option<Result<(), String>> {
+    Some(measure(&options(words)?))
+}
+
+/// The loads of each table.
+struct Loads {
+    find: Vec<Load>,
+    store: Vec<Load>,
+    full: Vec<Load>,
+}
+
+impl Loads {
+    fn wanted(options: &Options) -> Loads {
+        let wanted = |name: &str| options.only.as_ref().is_none_or(|only| only == name);
+        let count = options.indices;
+        let full = || vec![dense(count), sparse(count / 2), marked_finds(count, count / 2)];
+        Loads {
+            find: if wanted("find") { finds::loads(count) } else { Vec::new() },
+            store: if wanted("store") { stores::loads(count) } else { Vec::new() },
+            full: if wanted("check") { full() } else { Vec::new() },
+        }
+    }
+}
+
+fn measure(options: &Options) -> Result<(), String> {
+    let [before, after] = [&options.builds[0], &options.builds[1]].map(|path| Loaded::open(path));
+    let (before, after) = (before?, after?);
+    let libraries: [&dyn Library; 2] = [&before, &after];
+    let loads = Loads::wanted(options);
+    let trials = |loads| trials(&libraries, loads);
+    let mut sets = [trials(&loads.find)?, trials(&loads.store)?, trials(&loads.full)?];
+    let checks = !loads.full.is_empty();
+    let mut checks = if checks { checks::trials(&libraries)? } else { Vec::new() };
+    // All loads in each round: a machine that is busy for a while is so for a part of each.
+    for round in 0..options.rounds {
+        sets.iter_mut().flatten().try_for_each(|trial| trial.round(&libraries, round))?;
+        checks.iter_mut().try_for_each(|trial| trial.round(&libraries, round))?;
+    }
+    let [find, store, full] = sets;
+    print!("{}{}", load_table(&find), load_table(&store));
+    print!("{}{}{}", check_table(&checks), bad_table(&checks), share_table(&full));
+    Ok(())
+}
+
+fn trials<'a>(libraries: &[&dyn Library], loads: &'a [Load]) -> Result<Vec<Trial<'a>>, String> {
+    loads.iter().map(|load| Trial::new(libraries, load, load.nodes)).collect()
+}
+
+/// A heading and its lines, and a line between tables; nothing if there are none.
+fn table(heading: &str, lines: Vec<String>) -> String {
+    if lines.is_empty() {
+        return String::new();
+    }
+    let columns = heading.matches('|').count() - 1;
+    format!("{heading}\n|{}\n{}\n", "---|".repeat(columns), lines.concat())
+}
+
+fn load_table(trials: &[Trial]) -> String {
+    let line = |trial: &Trial| {
+        let (name, about, costs) = (trial.load.name, &trial.load.about, trial.costs());
+        let [before, after] = [costs[0], costs[1]].map(Cost::run_less_check);
+        let (commands, ratio) = (costs[0].commands, after / before);
+        format!("| {name}: {about} | {commands} | {before:.1} | {after:.1} | {ratio:.2} |\n")
+    };
+    let heading =
+        "| load | commands | ns a command without the check, before | after | after / before |";
+    table(heading, trials.iter().map(line).collect())
+}
+
+fn share_table(trials: &[Trial]) -> String {
+    let line = |trial: &Trial| {
+        let costs = trial.costs();
+        let [a, b] = [costs[0], costs[1]].map(|cost| cost.check_a_batch() / 1000.0);
+        let [c, d] = [costs[0], costs[1]].map(Cost::check_share);
+        format!("| {} | {a:.1} | {b:.1} | {c:.0} % | {d:.0} % |\n", trial.load.name)
+    };
+    let heading =
+        "| full batches | check, µs a batch, before | after | its share of a run, before | after |";
+    table(heading, trials.iter().map(line).collect())
+}
+
+fn check_table(trials: &[checks::Trial]) -> String {
+    let line = |trial: &checks::Trial| {
+        let (before, after) = (trial.good()[0], trial.good()[1]);
+        let pace = |time: f64| 8.0 * trial.words() as f64 / time;
+        format!(
+            "| {} | {} | {:.2} | {:.2} | {:.2} | {:.1} | {:.1} | {:.2} | {:.1} | {:.1} |\n",
+            trial.name,
+            trial.nodes,
+            before / 1000.0,
+            after / 1000.0,
+            after / before,
+            pace(before),
+            pace(after),
+            trial.or / 1000.0,
+            before / trial.or,
+            after / trial.or
+        )
+    };
+    let heading = "| check of a good pool | N | µs before | µs after | after / before | GB/s before | GB/s after \
+                   | an OR, µs | times the OR, before | after |";
+    table(heading, trials.iter().map(line).collect())
+}
+
+fn bad_table(trials: &[checks::Trial]) -> String {
+    let line = |trial: &checks::Trial| {
+        let micros = |times: Option<&[f64]>| match times {
+            Some(times) => format!(" {:.2} | {:.2} |", times[0] / 1000.0, times[1] / 1000.0),
+            None => " - | - |".into(),
+        };
+        let slowest = trial.bad().into_iter().flatten().map(|times| times[1]).fold(0.0, f64::max);
+        let times = trial.bad().map(micros).concat();
+        let ratio = slowest / trial.good()[1];
+        format!("| {} | {} |{times} {ratio:.2} |\n", trial.name, trial.nodes)
+    };
+    let columns = checks::WRONG.map(|name| format!(" {name}, µs before | after |")).concat();
+    let heading = format!("| one wrong word | N |{columns} the slowest after / good after |");
+    table(&heading, trials.iter().map(line).collect())
+}

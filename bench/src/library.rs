@@ -1,0 +1,109 @@
+//! A build of the library: the one that is linked, or one loaded from a shared object, so that two
+//! builds can be measured in one process. All `unsafe` code of this crate is here.
+
+use std::ffi::{c_char, c_int, c_void, CStr, CString};
+use xapool_host::raw::{self, RawResult};
+
+pub trait Library {
+    fn init(&self, pool: &mut [u64]) -> RawResult;
+    fn check(&self, pool: &[u64]) -> RawResult;
+    fn run(&self, pool: &mut [u64], batch: &[u8], reply: &mut [u8]) -> RawResult;
+}
+
+/// The library that this program is linked with.
+pub struct Linked;
+
+impl Library for Linked {
+    fn init(&self, pool: &mut [u64]) -> RawResult {
+        raw::init(pool)
+    }
+
+    fn check(&self, pool: &[u64]) -> RawResult {
+        raw::check(pool)
+    }
+
+    fn run(&self, pool: &mut [u64], batch: &[u8], reply: &mut [u8]) -> RawResult {
+        raw::run(pool, batch, reply)
+    }
+}
+
+type Init = unsafe extern "C" fn(*mut u64, usize) -> RawResult;
+type Check = unsafe extern "C" fn(*const u64, usize) -> RawResult;
+type Run = unsafe extern "C" fn(*mut u64, usize, *const u8, usize, *mut u8, usize) -> RawResult;
+
+/// A library loaded from a shared object; it is never unloaded.
+pub struct Loaded {
+    init: Init,
+    check: Check,
+    run: Run,
+}
+
+extern "C" {
+    fn dlopen(path: *const c_char, flags: c_int) -> *mut c_void;
+    fn dlsym(object: *mut c_void, name: *const c_char) -> *mut c_void;
+    fn dlerror() -> *const c_char;
+}
+
+/// All symbols at once, none of them seen by other objects.
+const RTLD_NOW: c_int = 2;
+
+impl Loaded {
+    pub fn open(path: &str) -> Result<Loaded, String> {
+        let name = CString::new(path).map_err(|error| error.to_string())?;
+        // SAFETY: a name that ends in 0; the objects that are named have no code that runs here.
+        let object = unsafe { dlopen(name.as_ptr(), RTLD_NOW) };
+        if object.is_null() {
+            return Err(last_error());
+        }
+        let [init, check, run] = [c"xapool_init", c"xapool_check", c"xapool_run"];
+        // SAFETY: functions of these names have these types (include/xapool.h).
+        unsafe {
+            Ok(Loaded {
+                init: std::mem::transmute::<*mut c_void, Init>(symbol(object, init)?),
+                check: std::mem::transmute::<*mut c_void, Check>(symbol(object, check)?),
+                run: std::mem::transmute::<*mut c_void, Run>(symbol(object, run)?),
+            })
+        }
+    }
+}
+
+fn symbol(object: *mut c_void, name: &CStr) -> Result<*mut c_void, String> {
+    // SAFETY: an object that dlopen gave, and a name that ends in 0.
+    let found = unsafe { dlsym(object, name.as_ptr()) };
+    if found.is_null() {
+        Err(last_error())
+    } else {
+        Ok(found)
+    }
+}
+
+fn last_error() -> String {
+    // SAFETY: called just after a call that failed, so there is a text, and it is read at once.
+    unsafe { CStr::from_ptr(dlerror()) }.to_string_lossy().into_owned()
+}
+
+impl Library for Loaded {
+    fn init(&self, pool: &mut [u64]) -> RawResult {
+        // SAFETY: pointer and length are those of a slice borrowed for the call.
+        unsafe { (self.init)(pool.as_mut_ptr(), pool.len()) }
+    }
+
+    fn check(&self, pool: &[u64]) -> RawResult {
+        // SAFETY: as in `init`; the call only reads.
+        unsafe { (self.check)(pool.as_ptr(), pool.len()) }
+    }
+
+    fn run(&self, pool: &mut [u64], batch: &[u8], reply: &mut [u8]) -> RawResult {
+        // SAFETY: three slices borrowed for the call; the two that are written are borrowed alone.
+        unsafe {
+            (self.run)(
+                pool.as_mut_ptr(),
+                pool.len(),
+                batch.as_ptr(),
+                batch.len(),
+                reply.as_mut_ptr(),
+                reply.len(),
+            )
+        }
+    }
+}
