@@ -270,7 +270,11 @@ pub fn erase(pool: &mut [u64], i: u64, low: u64) -> Erased
 {
     let k = locate(pool, i);
     match k {
-        Located::Uncovered(_) => Erased {
+        Located::Apart => Erased {
+            entry: Covered::Nothing,
+            low: low,
+        },
+        Located::Vacant(_, _, _) => Erased {
             entry: Covered::Nothing,
             low: low,
         },

@@ -1,59 +1,42 @@
-use Prim.Native.Nat.{_≤_, _-_}
-use mathlib.Core.Path.{sym, _∙_}
-use native.Mathlib.Omega.{arith}
-use borrow.Author.Needs.{needs}
-use lib.ListN.{length}
-use Rattle.batch.proofs.ParseLaws.{Onward, next-after, plus-zero, CountedTo, count-end, count-bad, count-next}
 use Rattle.batch.proofs.count_records.Statement.{statement}
 use Rattle.batch.proofs.count_records.Tie as tie
+use Rattle.batch.proofs.count_records.Reads as reads
+use Rattle.batch.proofs.count_records.Lts as lts
+use Rattle.batch.proofs.skip_at.Reads as skip-at-reads
 
 abbrev Inv-loop : tie.InvT-loop
-Inv-loop batch at₀ n₀ at n = (n ≤ at) × (at ≤ length batch) × CountedTo batch n at
+Inv-loop batch at₀ n₀ at n = ?
 
 abbrev μ-loop : tie.MeasureT-loop
-μ-loop batch at₀ n₀ at n = length batch - at
+μ-loop batch at₀ n₀ at n = ?
 
--- the record that was read ends within the batch
-onward : (c : tie.After-r Inv-loop μ-loop) → Onward (c .before .before .before .before .before .args .batch .now)
-    (c .before .before .before .loop .at) (c .r .given .0 .1 .0 .at)
-onward c = next-after _ _ (sym (c .before .before .read-at .ensures) ∙ c .r .given .1)
-
+-- src/lib.rt:248:5
 loop-holds : tie.Need-loop-holds Inv-loop μ-loop
-loop-holds c = (omega arith, omega arith, sym (plus-zero _))
+loop-holds c = ?
 
-read-at-requires : tie.Need-read-at-requires Inv-loop μ-loop
-read-at-requires c κs = search needs
+-- src/lib.rt:249:13
+skip-at-requires : tie.Need-skip-at-requires Inv-loop μ-loop
+skip-at-requires c κs = ?
 
-enum-told : tie.Need-enum-told Inv-loop μ-loop
-enum-told c = search needs
-
+-- src/lib.rt:251:13
 returns : tie.Need-returns Inv-loop μ-loop
-returns c = count-end _ _ _ (c .before .before .before .loop .inv .2)
-    (sym (c .enum-told .given .1) ∙ c .before .before .read-at .ensures)
+returns c = ?
 
-enum-told-2 : tie.Need-enum-told-2 Inv-loop μ-loop
-enum-told-2 c = search needs
-
-returns-2 : tie.Need-returns-2 Inv-loop μ-loop
-returns-2 c = count-bad _ _ _ (c .before .before .before .loop .inv .2)
-    (sym (c .enum-told2 .given .1) ∙ c .before .before .read-at .ensures)
-
-enum-known-r : tie.Need-enum-known-r Inv-loop μ-loop
-enum-known-r c = search needs
-
+-- src/lib.rt:254:13
 add-n : tie.Need-add-n Inv-loop μ-loop
-add-n c = omega (arith, onward (c .before))
+add-n c = ?
 
+-- src/lib.rt:248:5
 loop-less : tie.Need-loop-less Inv-loop μ-loop
-loop-less c = omega (arith, onward (c .before))
+loop-less c = ?
 
+-- src/lib.rt:248:5
 loop-again : tie.Need-loop-again Inv-loop μ-loop
-loop-again c = (
-  omega (arith, onward (c .before)),
-  onward (c .before) .within,
-  count-next _ _ _ (c .before .before .before .before .loop .inv .2)
-      (sym (c .before .r .given .1) ∙ c .before .before .before .read-at .ensures),
-)
+loop-again c = ?
+
+-- src/lib.rt:243:1
+returns-2 : tie.Need-returns-2 Inv-loop μ-loop
+returns-2 c = ?
 
 pub count-records-spec : {M : Type 1} → statement M
 count-records-spec =
@@ -62,12 +45,9 @@ count-records-spec =
     Inv-loop
     μ-loop
     loop-holds
-    read-at-requires
-    enum-told
+    skip-at-requires
     returns
-    enum-told-2
-    returns-2
-    enum-known-r
     add-n
     loop-less
-    loop-again)
+    loop-again
+    returns-2)
