@@ -1,39 +1,42 @@
+use Prim.Native.Nat.{ℕ, _+_}
+use mathlib.Core.Path.{_≡_, sym, ap, _∙_}
+use native.Mathlib.Omega.{arith}
+use lib.ListN.{getD}
+use Rattle.batch.specs.Batch.{fieldBytes, headBytes, commandAt}
+use Rattle.batch.proofs.BatchLaws.{one-byte, read-end, read-bad, read-next, skipped-whole}
+use Rattle.batch.proofs.ParseLaws.{whole}
 use borrow.Author.Needs.{needs}
 use Rattle.batch.proofs.read_at.Statement.{statement}
 use Rattle.batch.proofs.read_at.Tie as tie
-use Rattle.batch.proofs.read_at.Reads as reads
-use Rattle.batch.proofs.read_at.Lts as lts
-use Rattle.batch.proofs.command_at.Reads as command-at-reads
-use Rattle.batch.proofs.number1.Reads as number1-reads
-use Rattle.batch.proofs.skip_at.Reads as skip-at-reads
 
--- src/lib.rt:229:9
 returns : tie.Need-returns
-returns c = ?
+returns c = read-end _ _ (c .if1 .taken)
 
--- src/lib.rt:231:9
 skip-at-requires : tie.Need-skip-at-requires
 skip-at-requires c κs = search needs
 
--- src/lib.rt:233:9
 returns-2 : tie.Need-returns-2
-returns-2 c = ?
+returns-2 c = read-bad _ _ (c .before .before .if1 .left) _ (c .before .skip-at .ensures) (c .if2 .taken)
 
--- src/lib.rt:235:9
 number1-requires : tie.Need-number1-requires
 number1-requires c κs = search needs
 
--- src/lib.rt:237:32
 add-command-at : tie.Need-add-command-at
 add-command-at c = search needs
 
--- src/lib.rt:237:9
 command-at-requires : tie.Need-command-at-requires
-command-at-requires c κs = ?
+command-at-requires c κs = let a = c .before .before .before .before .before .args in
+    let w = whole (a .batch .now) (a .at) (skipped-whole (a .batch .now) (a .at) (c .before .before .before .if1 .left) _
+    (c .before .before .skip-at .ensures) (c .before .if2 .left)) in
+    let e : fieldBytes (c .number1 .result) ≡ fieldBytes (getD (a .batch .now) (a .at) 0) =
+    ap fieldBytes (one-byte (a .batch .now) (a .at) (c .number1 .ensures .0)) in
+    (λ z. w .some-fields (sym e ∙ z), omega (arith, w .ends))
 
--- src/lib.rt:225:1
 returns-3 : tie.Need-returns-3
-returns-3 c = ?
+returns-3 c = let a = c .before .before .before .before .before .before .args in
+    read-next (a .batch .now) (a .at) (c .before .before .before .before .if1 .left) _ (c .before .before .before .skip-at .ensures) (c .before .before .if2 .left)
+    (c .command-at .ensures ∙ ap (λ (y : ℕ). commandAt (a .batch .now) y (a .at + headBytes))
+    (one-byte (a .batch .now) (a .at) (c .before .number1 .ensures .0)))
 
 pub read-at-spec : {M : Type 1} → statement M
 read-at-spec =

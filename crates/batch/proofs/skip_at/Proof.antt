@@ -1,63 +1,60 @@
+use native.Mathlib.Omega.{arith}
+use mathlib.Core.Path.{sym, _∙_}
+use Rattle.batch.proofs.BatchLaws.{no-head, no-tag, other-length, is-cut, skip-bad, skip-whole}
 use borrow.Author.Needs.{needs}
 use Rattle.batch.proofs.skip_at.Statement.{statement}
 use Rattle.batch.proofs.skip_at.Tie as tie
-use Rattle.batch.proofs.skip_at.Reads as reads
-use Rattle.batch.proofs.skip_at.Lts as lts
-use Rattle.batch.proofs.field_bytes.Reads as field-bytes-reads
-use Rattle.batch.proofs.number1.Reads as number1-reads
-use Rattle.batch.proofs.number2.Reads as number2-reads
 
--- src/lib.rt:206:8
 sub-if1 : tie.Need-sub-if1
 sub-if1 c = search needs
 
--- src/lib.rt:207:9
 returns : tie.Need-returns
-returns c = ?
+returns c = let a = c .before .before .args in
+    skip-bad (a .batch .now) (a .at) (no-head (a .batch .now) (a .at) (c .if1 .taken) (omega arith))
 
--- src/lib.rt:209:9
 number1-requires : tie.Need-number1-requires
 number1-requires c κs = search needs
 
--- src/lib.rt:210:9
 field-bytes-requires : tie.Need-field-bytes-requires
 field-bytes-requires c κs = search needs
 
--- src/lib.rt:212:9
 returns-2 : tie.Need-returns-2
-returns-2 c = ?
+returns-2 c = let a = c .before .before .before .before .before .args in
+    skip-bad (a .batch .now) (a .at) (no-tag (a .batch .now) (a .at) _ _ (c .before .before .number1 .ensures .0) (c .before .field-bytes .ensures .0)
+    (omega arith) (c .if2 .taken))
 
--- src/lib.rt:214:23
 add-number2 : tie.Need-add-number2
 add-number2 c = search needs
 
--- src/lib.rt:214:8
 number2-requires : tie.Need-number2-requires
 number2-requires c κs = search needs
 
--- src/lib.rt:215:9
 returns-3 : tie.Need-returns-3
-returns-3 c = ?
+returns-3 c = let a = c .before .before .before .before .before .before .before .args in
+    skip-bad (a .batch .now) (a .at) (other-length (a .batch .now) (a .at) _ _ (c .before .before .before .before .number1 .ensures .0)
+    (c .before .before .before .field-bytes .ensures .0) (omega arith) (c .before .before .if2 .left)
+    (λ e. c .if3 .taken (c .before .number2 .ensures .0 ∙ e)))
 
--- src/lib.rt:217:17
 add-start : tie.Need-add-start
 add-start c = search needs
 
--- src/lib.rt:218:8
 sub-if4 : tie.Need-sub-if4
 sub-if4 c = search needs
 
--- src/lib.rt:219:9
 returns-4 : tie.Need-returns-4
-returns-4 c = ?
+returns-4 c = let a = c .before .before .before .before .before .before .before .before .args in
+    skip-bad (a .batch .now) (a .at) (is-cut (a .batch .now) (a .at) _ _ (c .before .before .before .before .before .number1 .ensures .0)
+    (c .before .before .before .before .field-bytes .ensures .0) (omega arith) (c .before .before .before .if2 .left)
+    (sym (c .before .before .number2 .ensures .0) ∙ c .before .if3 .left) (omega arith))
 
--- src/lib.rt:221:5
 add-result : tie.Need-add-result
 add-result c = search needs
 
--- src/lib.rt:202:1
 returns-5 : tie.Need-returns-5
-returns-5 c = ?
+returns-5 c = let a = c .before .before .before .before .before .before .before .before .args in
+    skip-whole (a .batch .now) (a .at) _ _ (c .before .before .before .before .before .number1 .ensures .0)
+    (c .before .before .before .before .field-bytes .ensures .0) (omega arith) (c .before .before .before .if2 .left)
+    (sym (c .before .before .number2 .ensures .0) ∙ c .before .if3 .left) (omega arith)
 
 pub skip-at-spec : {M : Type 1} → statement M
 skip-at-spec =
