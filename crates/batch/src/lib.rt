@@ -233,10 +233,7 @@ pub fn read_at(batch: &[u8], at: usize) -> Read
         return Read::Bad;
     }
     let tag = number1(batch, at);
-    Read::Next(
-        command_at(batch, tag, at + HEAD_BYTES),
-        Cursor { at: next },
-    )
+    Read::Next(command_at(batch, tag, at + HEAD_BYTES), Cursor { at: next })
 }
 
 // The whole batch from its beginning, where it is not too long; no field is decoded.
