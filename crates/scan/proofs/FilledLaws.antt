@@ -1,22 +1,18 @@
 -- A word with a bit for each filled slot, built in parts of 16 slots from the last one down.
-use Prim.Native.Nat.{ℕ, zero, suc, _+_, _*_, _-_, _/_, _%_, _^_, _≤_, _<_, min}
-use mathlib.Core.Path.{_≡_, refl, sym, ap, _∙_, subst}
-use mathlib.Core.Bool.{Bool, true, false}
-use mathlib.Core.Logic.{_≢_}
+use Prim.Native.Nat.{ℕ, zero, suc, _+_, _*_, _-_, _/_, _%_, _^_, _≤_, _<_}
+use mathlib.Core.Path.{_≡_, sym, ap, _∙_, subst}
 use native.Mathlib.Omega.{arith}
-use native.Mathlib.Nat.{div-one, pow-suc, zero-div, mod-eq-of-lt, not-suc-le-zero, le-of-suc-le-suc}
-use lib.Pow.{pow-pos, pow-mono, shr-shr}
-use lib.Dec.{eqb, ltb, lit<}
-use lib.Arith.{digits-div}
-use lib.Bits.{bitAnd, and-shr, and-lt, block-half, block-odd}
-use lib.Count.{trailingZeros, under}
-use borrow.Author.Tests.{eqb-true, eqb-false, eq-eqb, ne-eqb, ltb-true, ltb-false}
+use native.Mathlib.Nat.{div-one, pow-suc}
+use lib.Pow.{pow-mono}
+use lib.Dec.{eqb, ltb}
+use lib.Bits.{bitAnd}
+use lib.Count.{trailingZeros}
+use borrow.Author.Tests.{eqb-true, eq-eqb, ltb-true, ltb-false}
 use Rattle.blocks.specs.Choice.{pick}
 use Rattle.blocks.specs.Blocks.{bit}
 use Rattle.blocks.proofs.BoolLaws.{byT}
 use Rattle.tree.specs.Tree.{slots}
 use Rattle.layout.specs.Pool.{Pool}
-use Rattle.decode.proofs.ChainLaws.{bit-lt}
 use Rattle.scan.specs.Local.{Decides}
 use Rattle.scan.specs.Passes.{fillBit, FilledFrom, Filled, NextSet, NoLoose}
 use Rattle.scan.proofs.TestLaws.{decide-eqb}
