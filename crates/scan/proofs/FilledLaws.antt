@@ -6,7 +6,6 @@ use native.Mathlib.Nat.{div-one, pow-suc}
 use lib.Pow.{pow-mono}
 use lib.Dec.{eqb, ltb}
 use lib.Bits.{bitAnd}
-use lib.Count.{trailingZeros}
 use borrow.Author.Tests.{eqb-true, eq-eqb, ltb-true, ltb-false}
 use Rattle.blocks.specs.Choice.{pick}
 use Rattle.blocks.specs.Blocks.{bit}
@@ -14,18 +13,10 @@ use Rattle.blocks.proofs.BoolLaws.{byT}
 use Rattle.tree.specs.Tree.{slots}
 use Rattle.layout.specs.Pool.{Pool}
 use Rattle.scan.specs.Local.{Decides}
-use Rattle.scan.specs.Passes.{fillBit, FilledFrom, Filled, NextSet, NoLoose}
+use Rattle.scan.specs.Passes.{fillBit, FilledFrom, Filled, NoLoose}
 use Rattle.scan.proofs.TestLaws.{decide-eqb}
 use Rattle.decode.proofs.CoverLaws.{bit-suc}
-use Rattle.scan.proofs.WordLaws.{join-low, join-high, zeros-below, shifted, among-clear, clear-among}
-
--- THE NEXT FILLED SLOT
-pub next-set : (f j t r : ℕ) → t ≡ trailingZeros 64 (f / 2 ^ j) → j ≤ r → r ≤ slots → r ≤ j + t → NextSet f j r
-next-set f j t r e a b c = record {
-  past = a;
-  most = b;
-  first = λ i p q. shifted f j i p ∙ zeros-below 64 (f / 2 ^ j) (i - j) (omega arith);
-}
+use Rattle.scan.proofs.WordLaws.{join-low, join-high, among-clear, clear-among}
 
 -- SIXTEEN SLOTS
 pub zero-one : (w r : ℕ) → r ≡ pick (eqb w 0) 1 0 → r ≤ 1

@@ -1,14 +1,13 @@
--- The bits of words: OR, AND and NOT, words beside each other, and the zeros at the low end.
+-- The bits of words: OR, AND and NOT, and words beside each other.
 use Prim.Native.Nat.{ℕ, zero, suc, _+_, _*_, _-_, _/_, _%_, _^_, _≤_, _<_, min, max}
 use mathlib.Core.Path.{_≡_, refl, sym, ap, _∙_, subst}
 use mathlib.Core.Logic.{_≢_}
 use native.Mathlib.Omega.{arith}
-use native.Mathlib.Nat.{mod-lt, div-one, pow-suc, mod-one, zero-div, mod-eq-of-lt, not-suc-le-zero, le-of-suc-le-suc}
+use native.Mathlib.Nat.{mod-lt, div-one, pow-suc, mod-one, zero-div, mod-eq-of-lt}
 use lib.Pow.{pow-pos, shr-shr}
 use lib.Dec.{eqb, lit<}
 use lib.Arith.{digits-div, digits-mod, mod-mul}
 use lib.Bits.{bitAnd, bitOr, or-shr, and-shr, or-step, and-step, and-lt, or-add-and, and-le-l, and-le-r, and-mask, block-half, block-odd}
-use lib.Count.{trailingZeros, under}
 use borrow.Author.Tests.{eqb-true, eqb-false}
 use Rattle.blocks.specs.Blocks.{bit}
 use Rattle.blocks.proofs.BoolLaws.{byT}
@@ -152,22 +151,6 @@ not-bit (suc k) x i h l = go i l (pow-suc 2 k) (λ j. not-bit k (x / 2) j)
         ap (λ (y : ℕ). bit (suc i) (y - 1 - x) + bit (suc i) x) e
         ∙ ap (λ (y : ℕ). y + bit (suc i) x) (bit-suc i (2 ^ k * 2 - 1 - x) ∙ ap (bit i) (flip-half (2 ^ k) x (omega arith)))
         ∙ ap (λ (y : ℕ). bit i (2 ^ k - 1 - x / 2) + y) (bit-suc i x) ∙ rest i (omega arith) (omega arith)
-
--- the bits below the count of zeros at the low end are clear
-pub zeros-below : (k n i : ℕ) → i < trailingZeros k n → bit i n ≡ 0
-unfolding trailingZeros
-zeros-below zero n i h = absurd (not-suc-le-zero h)
-zeros-below (suc k) n i h = go (λ j l. zeros-below k (n / 2) j l) (n % 2) refl i h
-  where
-    go : ((j : ℕ) → j < trailingZeros k (n / 2) → bit j (n / 2) ≡ 0) → (r : ℕ) → n % 2 ≡ r → (i : ℕ) →
-        i < under r (trailingZeros k (n / 2)) → bit i n ≡ 0
-    go rest zero e zero l = ap (λ (x : ℕ). x % 2) (div-one n) ∙ e
-    go rest zero e (suc i) l = bit-suc i n ∙ rest i (le-of-suc-le-suc l)
-    go rest (suc r) e i l = absurd (not-suc-le-zero l)
-
-pub shifted : (w o i : ℕ) → o ≤ i → bit i w ≡ bit (i - o) (w / 2 ^ o)
-shifted w o i h = let e : o + (i - o) ≡ i = omega arith in
-    ap (λ (x : ℕ). x % 2) (ap (λ (x : ℕ). w / 2 ^ x) (sym e) ∙ sym (shr-shr w o (i - o)))
 
 -- the bits of m are among those of f
 pub among-clear : (f m : ℕ) → f < 2 ^ 64 → bitAnd (2 ^ 64 - 1 - f) m ≡ 0 → (j : ℕ) → j < slots → bit j f ≡ 0 → bit j m ≡ 0

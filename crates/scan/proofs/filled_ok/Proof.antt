@@ -27,17 +27,17 @@ returns c = no! (λ s. c .if1 .taken (clear-among _ _ (omega arith) (omega arith
 loop-holds : tie.Need-loop-holds Inv-loop μ-loop
 loop-holds c = gone-start _ _ _
 
-next-set-requires : tie.Need-next-set-requires Inv-loop μ-loop
-next-set-requires c κs = omega arith
+next-marked-requires : tie.Need-next-marked-requires Inv-loop μ-loop
+next-marked-requires c κs = omega arith
 
 returns-2 : tie.Need-returns-2 Inv-loop μ-loop
 returns-2 c = let g = gone-past _ _ _ _ _ (c .before .before .before .before .before .filled-slots .ensures) (c .before .before .before .before .before .before .all-marks .ensures) _ _ (c .before .before .before .loop .inv)
-    (among-clear _ _ (omega arith) (c .before .before .before .before .if1 .left)) (c .before .next-set .ensures) in
+    (among-clear _ _ (omega arith) (c .before .before .before .before .if1 .left)) (c .before .next-marked .ensures) in
     yes! (λ j lt. g .ok j (omega arith))
 
 step-requires : tie.Need-step-requires Inv-loop μ-loop
 step-requires c κs = let g = gone-past _ _ _ _ _ (c .before .before .before .before .before .filled-slots .ensures) (c .before .before .before .before .before .before .all-marks .ensures) _ _ (c .before .before .before .loop .inv)
-    (among-clear _ _ (omega arith) (c .before .before .before .before .if1 .left)) (c .before .next-set .ensures) in
+    (among-clear _ _ (omega arith) (c .before .before .before .before .if1 .left)) (c .before .next-marked .ensures) in
     (c .before .before .before .before .before .before .before .before .pre .0, ((omega (arith, g .inside), omega arith), (c .before .before .before .before .before .before .all-marks .ensures, g .past)))
 
 returns-3 : tie.Need-returns-3 Inv-loop μ-loop
@@ -47,11 +47,11 @@ add-j : tie.Need-add-j Inv-loop μ-loop
 add-j c = omega (arith, c .before .step .ensures .inside)
 
 loop-less : tie.Need-loop-less Inv-loop μ-loop
-loop-less c = omega (arith, c .before .step .ensures .inside, c .before .before .before .next-set .ensures .past)
+loop-less c = omega (arith, c .before .step .ensures .inside, c .before .before .before .next-marked .ensures .past)
 
 loop-again : tie.Need-loop-again Inv-loop μ-loop
 loop-again c = let g = gone-past _ _ _ _ _ (c .before .before .before .before .before .before .before .filled-slots .ensures) (c .before .before .before .before .before .before .before .before .all-marks .ensures) _ _ (c .before .before .before .before .before .loop .inv)
-    (among-clear _ _ (omega arith) (c .before .before .before .before .before .before .if1 .left)) (c .before .before .before .next-set .ensures) in
+    (among-clear _ _ (omega arith) (c .before .before .before .before .before .before .if1 .left)) (c .before .before .before .next-marked .ensures) in
     gone-on _ _ _ _ _ g (c .before .step .ensures) (c .if3 .left)
 
 returns-4 : tie.Need-returns-4 Inv-loop μ-loop
@@ -67,7 +67,7 @@ filled-ok-spec =
     filled-slots-requires
     returns
     loop-holds
-    next-set-requires
+    next-marked-requires
     returns-2
     step-requires
     returns-3
