@@ -1,17 +1,18 @@
 -- Laws of reading a batch, as the code tests it.
 use Prim.Native.Nat.{ℕ, _+_, _≤_, _<_, _-_}
-use mathlib.Core.Path.{_≡_, sym, ap, subst, _∙_}
+use mathlib.Core.Path.{_≡_, refl, sym, ap, subst, _∙_}
 use mathlib.Core.Logic.{_≢_}
-use mathlib.Core.Bool.{false}
+use mathlib.Core.Bool.{true, false}
 use mathlib.Core.List.{List}
 use native.Mathlib.Omega.{arith}
 use native.Mathlib.Nat.{add-zero}
 use lib.Dec.{eqb}
 use lib.ListN.{length, getD}
 use borrow.Author.Tests.{eqb-true, le-leb, lt-leb, eq-eqb, ne-eqb}
+use Rattle.blocks.specs.Choice.{pick}
 use Rattle.blocks.proofs.BoolLaws.{byT}
 use Rattle.batch.specs.Bytes.{numberAt}
-use Rattle.batch.specs.Batch.{fieldBytes, headBytes, commandAt, isRecord, readAt, Next, Bad, End, Command}
+use Rattle.batch.specs.Batch.{fieldBytes, headBytes, commandAt, isRecord, nextAt, readAt, Next, Bad, End, Command}
 
 -- the last tag that has fields
 pub last-tag : (tag : ℕ) → fieldBytes tag ≢ 0 → tag ≢ 1 → tag ≢ 2 → tag ≢ 3 → tag ≢ 4 → tag ≢ 5 → tag ≡ 6
@@ -27,68 +28,74 @@ room {tag} {n} t at e h = subst (λ (x : ℕ). at + fieldBytes x ≤ n) e h
 pub one-byte : (s : List ℕ) (at : ℕ) {tag : ℕ} → tag ≡ numberAt s at 1 → tag ≡ getD s at 0
 one-byte s at e = e ∙ omega arith ∙ ap (λ (k : ℕ). getD s k 0) (add-zero at)
 
--- READING, test by test as the code has them
+-- WHETHER A RECORD IS WHOLE, test by test as the code has them
 module _ (s : List ℕ) (at : ℕ) where
-  pub read-end : length s ≤ at → End ≡ readAt s at
-  unfolding readAt
-  read-end h = rw (le-leb (length s) at h)
-
-  -- a record that fails a test
-  bad : at < length s → isRecord s at ≡ false → Bad ≡ readAt s at
-  unfolding readAt
-  bad h f = rw (lt-leb (length s) at h, f)
-
-  pub read-head : at < length s → length s - at < headBytes → Bad ≡ readAt s at
-  read-head g h = bad g (rw (lt-leb (at + headBytes) (length s) (omega arith)))
+  pub no-head : length s - at < headBytes → at < length s → isRecord s at ≡ false
+  no-head h g = rw (lt-leb (at + headBytes) (length s) (omega arith))
 
   -- the tag and the length of its fields
-  module _ (tag size : ℕ) (t : tag ≡ numberAt s at 1) (z : size ≡ fieldBytes tag) where
+  module _ (tag size : ℕ) (t : tag ≡ numberAt s at 1) (z : size ≡ fieldBytes tag) (h : at + headBytes ≤ length s) where
     size-is : size ≡ fieldBytes (getD s at 0)
     size-is = z ∙ ap fieldBytes (one-byte s at t)
 
-    pub read-tag : at + headBytes ≤ length s → size ≡ 0 → Bad ≡ readAt s at
-    read-tag h e =
-        bad (omega arith)
-        (rw (le-leb (at + headBytes) (length s) h, eq-eqb (fieldBytes (getD s at 0)) 0 (sym size-is ∙ e)))
+    pub no-tag : size ≡ 0 → isRecord s at ≡ false
+    no-tag e = rw (le-leb (at + headBytes) (length s) h, eq-eqb (fieldBytes (getD s at 0)) 0 (sym size-is ∙ e))
 
-    module _ (h : at + headBytes ≤ length s) (f : size ≢ 0) where
+    module _ (f : size ≢ 0) where
       some-fields : fieldBytes (getD s at 0) ≢ 0
       some-fields e = f (size-is ∙ e)
 
-      pub read-length : numberAt s (at + 1) 2 ≢ size → Bad ≡ readAt s at
-      read-length n =
-          bad (omega arith)
-          (rw (
-            le-leb (at + headBytes) (length s) h,
-            ne-eqb (fieldBytes (getD s at 0)) 0 some-fields,
-            ne-eqb (numberAt s (at + 1) 2) (fieldBytes (getD s at 0)) (λ e. n (e ∙ sym size-is)),
-          ))
+      pub other-length : numberAt s (at + 1) 2 ≢ size → isRecord s at ≡ false
+      other-length n = rw (
+        le-leb (at + headBytes) (length s) h,
+        ne-eqb (fieldBytes (getD s at 0)) 0 some-fields,
+        ne-eqb (numberAt s (at + 1) 2) (fieldBytes (getD s at 0)) (λ e. n (e ∙ sym size-is)),
+      )
 
       module _ (e : numberAt s (at + 1) 2 ≡ size) where
         whole-head : numberAt s (at + 1) 2 ≡ fieldBytes (getD s at 0)
         whole-head = e ∙ size-is
 
-        pub read-cut : length s < at + headBytes + size → Bad ≡ readAt s at
-        read-cut g =
-            bad (omega arith)
-            (rw (
-              le-leb (at + headBytes) (length s) h,
-              ne-eqb (fieldBytes (getD s at 0)) 0 some-fields,
-              eq-eqb (numberAt s (at + 1) 2) (fieldBytes (getD s at 0)) whole-head,
-              lt-leb (at + headBytes + fieldBytes (getD s at 0)) (length s) (rw (← size-is) g),
-            ))
+        pub is-cut : length s < at + headBytes + size → isRecord s at ≡ false
+        is-cut g = rw (
+          le-leb (at + headBytes) (length s) h,
+          ne-eqb (fieldBytes (getD s at 0)) 0 some-fields,
+          eq-eqb (numberAt s (at + 1) 2) (fieldBytes (getD s at 0)) whole-head,
+          lt-leb (at + headBytes + fieldBytes (getD s at 0)) (length s) (rw (← size-is) g),
+        )
 
-        pub read-next : at + headBytes + size ≤ length s → (c : Command) → c ≡ commandAt s tag (at + headBytes) →
-            Next c (record { at = at + headBytes + size }) ≡ readAt s at
-        unfolding readAt
-        read-next g c q =
-            let q′ : c ≡ commandAt s (getD s at 0) (at + headBytes) =
-            q ∙ ap (λ (k : ℕ). commandAt s k (at + headBytes)) (one-byte s at t) in
-            rw (
-              lt-leb (length s) at (omega arith),
-              le-leb (at + headBytes) (length s) h,
-              ne-eqb (fieldBytes (getD s at 0)) 0 some-fields,
-              eq-eqb (numberAt s (at + 1) 2) (fieldBytes (getD s at 0)) whole-head,
-              le-leb (at + headBytes + fieldBytes (getD s at 0)) (length s) (rw (← size-is) g),
-            )
-            (λ i. Next (q′ i) (record { at = at + headBytes + size-is i }))
+        pub skip-whole : at + headBytes + size ≤ length s →
+            at + headBytes + size ≡ pick (isRecord s at) (nextAt s at .at) 0
+        skip-whole g = rw (
+          le-leb (at + headBytes) (length s) h,
+          ne-eqb (fieldBytes (getD s at 0)) 0 some-fields,
+          eq-eqb (numberAt s (at + 1) 2) (fieldBytes (getD s at 0)) whole-head,
+          le-leb (at + headBytes + fieldBytes (getD s at 0)) (length s) (rw (← size-is) g),
+        ) (ap (λ (y : ℕ). at + headBytes + y) size-is)
+
+  pub skip-bad : isRecord s at ≡ false → 0 ≡ pick (isRecord s at) (nextAt s at .at) 0
+  skip-bad e = rw e refl
+
+  -- SKIPPING AGREES WITH READING
+  pub read-end : length s ≤ at → End ≡ readAt s at
+  unfolding readAt
+  read-end h = rw (le-leb (length s) at h)
+
+  module _ (before : at < length s) (next : ℕ) (skipped : next ≡ pick (isRecord s at) (nextAt s at .at) 0) where
+    pub read-bad : next ≡ 0 → Bad ≡ readAt s at
+    unfolding readAt
+    read-bad z = byT (isRecord s at)
+        (λ r. let e : next ≡ at + headBytes + fieldBytes (getD s at 0) = rw r at skipped in absurd (omega arith))
+        (λ r. rw (lt-leb (length s) at before, r))
+
+    pub skipped-whole : next ≢ 0 → isRecord s at ≡ true
+    skipped-whole ne = byT (isRecord s at) (λ r. r)
+        (λ r. let e : next ≡ 0 = rw r at skipped in absurd (ne e))
+
+    pub read-next : next ≢ 0 → {c : Command} → c ≡ commandAt s (getD s at 0) (at + headBytes) →
+        Next c (record { at = next }) ≡ readAt s at
+    unfolding readAt
+    read-next ne {c} q =
+        let r : isRecord s at ≡ true = skipped-whole ne in
+        let e : next ≡ at + headBytes + fieldBytes (getD s at 0) = rw r at skipped in
+        rw (lt-leb (length s) at before, r) (λ i. Next (q i) (record { at = e i }))

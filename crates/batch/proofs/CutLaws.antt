@@ -10,12 +10,15 @@ use lib.ListN.{length, getD, take, length-take}
 use lib.Seq.{getD-take}
 use borrow.Author.Tests.{ltb-true, ltb-false}
 use Rattle.blocks.proofs.BoolLaws.{byT}
+use Rattle.blocks.specs.Choice.{pick}
 use Rattle.batch.specs.Bytes.{numberAt}
 use Rattle.batch.specs.Batch.{
   maxBatch,
   headBytes,
   fieldBytes,
   commandAt,
+  isRecord,
+  nextAt,
   readAt,
   Read,
   Next,
@@ -36,7 +39,7 @@ use Rattle.batch.specs.Batch.{
   restAt,
   parse,
 }
-use Rattle.batch.proofs.BatchLaws.{one-byte, read-end, read-next}
+use Rattle.batch.proofs.BatchLaws.{one-byte, skip-whole, read-end, read-next}
 use Rattle.batch.proofs.ParseLaws.{
   WasRead,
   was-read,
@@ -102,9 +105,12 @@ module _ (s : List ℕ) (p : ℕ) (fits : p ≤ length s) where
       let q : c ≡ commandAt (take p s) tag (at + headBytes) =
       sym (r .command-is) ∙ ap (λ (x : ℕ). commandAt s x (at + headBytes)) (sym t)
       ∙ sym (command-cut tag (at + headBytes) f (omega arith)) in
+      let skipped : at + headBytes + fieldBytes tag ≡ pick (isRecord (take p s) at) (nextAt (take p s) at .at) 0 =
+      skip-whole (take p s) at tag (fieldBytes tag) refl refl (rw cut-length (omega arith)) f
+      (number-cut (at + 1) 2 (omega arith) ∙ w .length-is ∙ sym z) (rw cut-length (omega arith)) in
       let n : Next c (record { at = at + headBytes + fieldBytes tag }) ≡ readAt (take p s) at =
-      read-next (take p s) at tag (fieldBytes tag) refl refl (rw cut-length (omega arith)) f
-      (number-cut (at + 1) 2 (omega arith) ∙ w .length-is ∙ sym z) (rw cut-length (omega arith)) c q in
+      read-next (take p s) at (rw cut-length (omega arith)) _ skipped (λ x. omega arith)
+      (q ∙ ap (λ (x : ℕ). commandAt (take p s) x (at + headBytes)) (one-byte (take p s) at {tag = tag} refl)) in
       ap (λ (x : ℕ). Next c (record { at = x })) (sym place ∙ ap (λ (x : ℕ). at + headBytes + x) (sym z)) ∙ n
 
 -- a batch read from a place on, cut after its first commands

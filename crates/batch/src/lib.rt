@@ -8,7 +8,8 @@ ghost use mathlib.Core.List.{[], _∷_};
 ghost use Prim.Native.Nat.{_+_, _*_, _<_, _≤_, _%_};
 ghost use lib.ListN.{length};
 ghost use Rattle.batch.specs.Bytes.{numberAt, bytesThen, overwrite};
-ghost use Rattle.batch.specs.Batch.{fieldBytes, headBytes, commandAt, readAt, restAt, counted, parse};
+ghost use Rattle.batch.specs.Batch.{fieldBytes, headBytes, commandAt, isRecord, nextAt, readAt, restAt, counted, parse};
+ghost use Rattle.blocks.specs.Choice.{pick};
 ghost use Rattle.batch.specs.Reply.{replyBytes, encode, replyTag};
 
 // The longest batch, the bytes of a record before its fields, and the bytes of a reply.
@@ -197,6 +198,29 @@ fn command_at(s: &[u8], tag: u64, at: usize) -> Command
     find_at(s, at)
 }
 
+// The place after the record at a place, by its tag and length alone; 0 where the record is bad.
+fn skip_at(batch: &[u8], at: usize) -> usize
+    requires { ⌜ at < length (now batch) ⌝ }
+    ensures { λ r. ⌜ r ≡ pick (isRecord (now (batch .entry)) at) (nextAt (now (batch .entry)) at .at) 0 ⌝ }
+{
+    if batch.len() - at < HEAD_BYTES {
+        return 0;
+    }
+    let tag = number1(batch, at);
+    let size = field_bytes(tag);
+    if size == 0 {
+        return 0;
+    }
+    if number2(batch, at + 1) != size as u64 {
+        return 0;
+    }
+    let start = at + HEAD_BYTES;
+    if batch.len() - start < size {
+        return 0;
+    }
+    start + size
+}
+
 // What stands at a place of a batch.
 pub fn read_at(batch: &[u8], at: usize) -> Read
     ensures { λ r. ⌜ r ≡ readAt (now (batch .entry)) at ⌝ }
@@ -204,45 +228,29 @@ pub fn read_at(batch: &[u8], at: usize) -> Read
     if batch.len() <= at {
         return Read::End;
     }
-    if batch.len() - at < HEAD_BYTES {
+    let next = skip_at(batch, at);
+    if next == 0 {
         return Read::Bad;
     }
     let tag = number1(batch, at);
-    let size = field_bytes(tag);
-    if size == 0 {
-        return Read::Bad;
-    }
-    if number2(batch, at + 1) != size as u64 {
-        return Read::Bad;
-    }
-    let start = at + HEAD_BYTES;
-    if batch.len() - start < size {
-        return Read::Bad;
-    }
-    Read::Next(command_at(batch, tag, start), Cursor { at: start + size })
+    Read::Next(command_at(batch, tag, at + HEAD_BYTES), Cursor { at: next })
 }
 
-// The whole batch from its beginning, where it is not too long.
+// The whole batch from its beginning, where it is not too long; no field is decoded.
 fn count_records(batch: &[u8]) -> Counted
     ensures { λ r. ⌜ r ≡ counted (restAt (now (batch .entry)) 0) ⌝ }
 {
     let mut at: usize = 0;
     let mut n: u64 = 0;
-    loop {
-        let r = read_at(batch, at);
-        match r {
-            Read::End => {
-                return Counted::Commands(n);
-            }
-            Read::Bad => {
-                return Counted::Refused(at as u64);
-            }
-            Read::Next(_, next) => {
-                at = next.at;
-                n = n + 1;
-            }
+    while at < batch.len() {
+        let next = skip_at(batch, at);
+        if next == 0 {
+            return Counted::Refused(at as u64);
         }
+        at = next;
+        n = n + 1;
     }
+    Counted::Commands(n)
 }
 
 // How many commands a batch has, or the place of its first bad record.

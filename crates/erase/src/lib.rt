@@ -182,6 +182,19 @@ fn shrink(pool: &mut [u64], top: u64, low: u64) -> u64
 
 // TAKING THE ENTRY OUT
 
+// Empties the slots of node n from o on, c of them; one of them, the most frequent case, by one write.
+fn empty_slots(pool: &mut [u64], n: u64, o: u64, c: u64)
+    requires { do ⌜ place n lastField < (← ⟦pool.len()⟧) ⌝ }
+    requires { ⌜ o + c ≤ slots ⌝ }
+    ensures { λ _. ⌜ now (pool .exit) ≡ filled (now (pool .entry)) (place n (slotField + o)) 0 c ⌝ }
+{
+    if c == 1 {
+        put(pool, n, SLOT_FIELD + o, 0);
+        return;
+    }
+    fill(pool, ANCHOR_WORDS + NODE_WORDS * n + (SLOT_FIELD + o), 0, c);
+}
+
 // Empties the slots of the entry that covers i.
 fn cut_run(pool: &mut [u64], i: u64, at: Spot)
     requires { ⌜ Leaves i (at .node) (at .tier) (at .slot) (at .top) (now pool) ⌝ }
@@ -194,7 +207,7 @@ fn cut_run(pool: &mut [u64], i: u64, at: Spot)
     let o = at.slot;
     let k = order_of(pool, n, o);
     let c = pow2(k);
-    fill(pool, ANCHOR_WORDS + NODE_WORDS * n + (SLOT_FIELD + o), 0, c);
+    empty_slots(pool, n, o, c);
 }
 
 // Frees node first, which lost the entry that covered i, and those over it, as far as they are empty; the number below
@@ -270,7 +283,11 @@ pub fn erase(pool: &mut [u64], i: u64, low: u64) -> Erased
 {
     let k = locate(pool, i);
     match k {
-        Located::Uncovered(_) => Erased {
+        Located::Apart => Erased {
+            entry: Covered::Nothing,
+            low: low,
+        },
+        Located::Vacant(_, _, _) => Erased {
             entry: Covered::Nothing,
             low: low,
         },

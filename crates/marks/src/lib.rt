@@ -124,7 +124,8 @@ pub fn set_mark(pool: &mut [u64], i: u64, m: u64, on: bool) -> Covered
 {
     let k = locate(pool, i);
     match k {
-        Located::Uncovered(_) => Covered::Nothing,
+        Located::Apart => Covered::Nothing,
+        Located::Vacant(_, _, _) => Covered::Nothing,
         Located::AtHead(e) => {
             mark_anchor(pool, m, on);
             Covered::By(remarked(e, m, on))

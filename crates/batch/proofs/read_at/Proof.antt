@@ -1,6 +1,10 @@
+use Prim.Native.Nat.{ℕ, _+_}
+use mathlib.Core.Path.{_≡_, sym, ap, _∙_}
 use native.Mathlib.Omega.{arith}
-use mathlib.Core.Path.{sym, _∙_}
-use Rattle.batch.proofs.BatchLaws.{read-end, read-head, read-tag, read-length, read-cut, read-next}
+use lib.ListN.{getD}
+use Rattle.batch.specs.Batch.{fieldBytes, headBytes, commandAt}
+use Rattle.batch.proofs.BatchLaws.{one-byte, read-end, read-bad, read-next, skipped-whole}
+use Rattle.batch.proofs.ParseLaws.{whole}
 use borrow.Author.Needs.{needs}
 use Rattle.batch.proofs.read_at.Statement.{statement}
 use Rattle.batch.proofs.read_at.Tie as tie
@@ -8,73 +12,40 @@ use Rattle.batch.proofs.read_at.Tie as tie
 returns : tie.Need-returns
 returns c = read-end _ _ (c .if1 .taken)
 
-sub-if2 : tie.Need-sub-if2
-sub-if2 c = search needs
+skip-at-requires : tie.Need-skip-at-requires
+skip-at-requires c κs = search needs
 
 returns-2 : tie.Need-returns-2
-returns-2 c = read-head _ _ (c .before .if1 .left) (c .if2 .taken)
+returns-2 c = read-bad _ _ (c .before .before .if1 .left) _ (c .before .skip-at .ensures) (c .if2 .taken)
 
 number1-requires : tie.Need-number1-requires
 number1-requires c κs = search needs
 
-field-bytes-requires : tie.Need-field-bytes-requires
-field-bytes-requires c κs = search needs
-
-returns-3 : tie.Need-returns-3
-returns-3 c = read-tag _ _ _ _ (c .before .before .number1 .ensures .0) (c .before .field-bytes .ensures .0)
-    (omega arith) (c .if3 .taken)
-
-add-number2 : tie.Need-add-number2
-add-number2 c = search needs
-
-number2-requires : tie.Need-number2-requires
-number2-requires c κs = search needs
-
-returns-4 : tie.Need-returns-4
-returns-4 c = read-length _ _ _ _ (c .before .before .before .before .number1 .ensures .0)
-    (c .before .before .before .field-bytes .ensures .0) (omega arith) (c .before .before .if3 .left)
-    (λ e. c .if4 .taken (c .before .number2 .ensures .0 ∙ e))
-
-add-start : tie.Need-add-start
-add-start c = search needs
-
-sub-if5 : tie.Need-sub-if5
-sub-if5 c = search needs
-
-returns-5 : tie.Need-returns-5
-returns-5 c = read-cut _ _ _ _ (c .before .before .before .before .before .number1 .ensures .0)
-    (c .before .before .before .before .field-bytes .ensures .0) (omega arith) (c .before .before .before .if3 .left)
-    (sym (c .before .before .number2 .ensures .0) ∙ c .before .if4 .left) (omega arith)
+add-command-at : tie.Need-add-command-at
+add-command-at c = search needs
 
 command-at-requires : tie.Need-command-at-requires
-command-at-requires c κs = search needs
+command-at-requires c κs = let a = c .before .before .before .before .before .args in
+    let w = whole (a .batch .now) (a .at) (skipped-whole (a .batch .now) (a .at) (c .before .before .before .if1 .left) _
+    (c .before .before .skip-at .ensures) (c .before .if2 .left)) in
+    let e : fieldBytes (c .number1 .result) ≡ fieldBytes (getD (a .batch .now) (a .at) 0) =
+    ap fieldBytes (one-byte (a .batch .now) (a .at) (c .number1 .ensures .0)) in
+    (λ z. w .some-fields (sym e ∙ z), omega (arith, w .ends))
 
-add-t8 : tie.Need-add-t8
-add-t8 c = search needs
-
-returns-6 : tie.Need-returns-6
-returns-6 c = read-next _ _ _ _ (c .before .before .before .before .before .before .number1 .ensures .0)
-    (c .before .before .before .before .before .field-bytes .ensures .0) (omega arith)
-    (c .before .before .before .before .if3 .left)
-    (sym (c .before .before .before .number2 .ensures .0) ∙ c .before .before .if4 .left) (omega arith) _
-    (c .command-at .ensures)
+returns-3 : tie.Need-returns-3
+returns-3 c = let a = c .before .before .before .before .before .before .args in
+    read-next (a .batch .now) (a .at) (c .before .before .before .before .if1 .left) _ (c .before .before .before .skip-at .ensures) (c .before .before .if2 .left)
+    (c .command-at .ensures ∙ ap (λ (y : ℕ). commandAt (a .batch .now) y (a .at + headBytes))
+    (one-byte (a .batch .now) (a .at) (c .before .number1 .ensures .0)))
 
 pub read-at-spec : {M : Type 1} → statement M
 read-at-spec =
     tie.close
     (tie.spec
     returns
-    sub-if2
+    skip-at-requires
     returns-2
     number1-requires
-    field-bytes-requires
-    returns-3
-    add-number2
-    number2-requires
-    returns-4
-    add-start
-    sub-if5
-    returns-5
+    add-command-at
     command-at-requires
-    add-t8
-    returns-6)
+    returns-3)

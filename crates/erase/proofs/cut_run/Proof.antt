@@ -34,28 +34,12 @@ pow2-requires : tie.Need-pow2-requires
 pow2-requires c κs = let l = c .before .before .before .pre in
     run-small (l .formed) (l .holds) (l .unmarked) _ (order c (l .formed) (l .holds) (l .unmarked))
 
-mul-fill : tie.Need-mul-fill
-mul-fill c = let l = c .before .before .before .before .before .pre in
-    let f = run-fits (l .formed) (l .holds) (l .unmarked) in omega (arith, f .1)
-
-add-fill : tie.Need-add-fill
-add-fill c = let l = c .before .before .before .before .before .pre in
-    let f = run-fits (l .formed) (l .holds) (l .unmarked) in omega (arith, f .1)
-
-add-fill-2 : tie.Need-add-fill-2
-add-fill-2 c = let l = c .before .before .before .before .before .pre in
-    let f = run-fits (l .formed) (l .holds) (l .unmarked) in omega (arith, f .2)
-
-add-fill-3 : tie.Need-add-fill-3
-add-fill-3 c = let l = c .before .before .before .before .before .pre in
-    let f = run-fits (l .formed) (l .holds) (l .unmarked) in omega (arith, f .1, f .2)
-
-fill-requires : tie.Need-fill-requires
-fill-requires c κs = let l = c .before .before .before .before .before .pre in
+empty-slots-requires : tie.Need-empty-slots-requires
+empty-slots-requires c κs = let l = c .before .before .before .before .before .pre in
     let f = run-fits (l .formed) (l .holds) (l .unmarked) in
     let w = run-wide (l .formed) (l .holds) (l .unmarked) _
     (order (c .before .before) (l .formed) (l .holds) (l .unmarked)) in
-    omega (arith, f .0, c .before .pow2 .ensures)
+    (f .0, omega (arith, c .before .pow2 .ensures))
 
 same-length : tie.Need-same-length
 same-length c = search needs
@@ -67,13 +51,13 @@ returns c = let l = c .before .before .before .before .before .before .before .b
     let f = run-fits (l .formed) (l .holds) (l .unmarked) in
     let e = c .before .before .before .before .pow2 .ensures in (
       (λ s h un. cut-start s h un _ (order (c .before .before .before .before .before) s h un)
-          (c .before .before .fill .kept .0)
-          (λ j a b. ap (λ (ws : List ℕ). getD ws j 0) (c .before .before .fill .ensures) ∙
+          (c .before .before .empty-slots .kept .0)
+          (λ j a b. ap (λ (ws : List ℕ). getD ws j 0) (c .before .before .empty-slots .ensures) ∙
           filled-in _ _ 0 _ j (omega (arith, f .0)) a (omega arith))
-          (λ j a. ap (λ (ws : List ℕ). getD ws j 0) (c .before .before .fill .ensures) ∙ filled-before _ _ 0 _ j a)
-          (λ j a. ap (λ (ws : List ℕ). getD ws j 0) (c .before .before .fill .ensures) ∙ filled-after _ _ 0 _ j
+          (λ j a. ap (λ (ws : List ℕ). getD ws j 0) (c .before .before .empty-slots .ensures) ∙ filled-before _ _ 0 _ j a)
+          (λ j a. ap (λ (ws : List ℕ). getD ws j 0) (c .before .before .empty-slots .ensures) ∙ filled-after _ _ 0 _ j
           (omega arith))),
-      run-spares _ _ _ (omega arith) (c .before .before .fill .ensures),
+      run-spares _ _ _ (omega arith) (c .before .before .empty-slots .ensures),
     )
 
 pub cut-run-spec : {M : Type 1} → statement M
@@ -82,10 +66,6 @@ cut-run-spec =
     (tie.spec
     order-of-requires
     pow2-requires
-    mul-fill
-    add-fill
-    add-fill-2
-    add-fill-3
-    fill-requires
+    empty-slots-requires
     same-length
     returns)

@@ -3,7 +3,7 @@ use native.Mathlib.Omega.{arith}
 use lib.ListN.{length-set}
 use Rattle.model.specs.Model.{covered}
 use Rattle.lookup.proofs.WordLaws.{pool-length}
-use Rattle.lookup.proofs.HeadLaws.{at-nothing, at-head, at-spot}
+use Rattle.lookup.proofs.HeadLaws.{at-apart, at-vacant, at-head, at-spot}
 use Rattle.erase.proofs.ErasedLaws.{words-gap, words-head, in-use-head}
 use borrow.Author.Needs.{needs}
 use Rattle.erase.proofs.erase.Statement.{statement}
@@ -14,6 +14,9 @@ locate-requires c κs = search needs
 
 enum-told : tie.Need-enum-told
 enum-told c = search needs
+
+enum-told-2 : tie.Need-enum-told-2
+enum-told-2 c = search needs
 
 enum-known-k : tie.Need-enum-known-k
 enum-known-k c = search needs
@@ -44,10 +47,10 @@ same-length c = search needs
 
 returns : tie.Need-returns
 returns c = (
-  (λ s. let (q, d) = at-nothing _ (c .before .before .locate .ensures s) (c .enum-told .given .1) in
+  (λ s. let (q, d) = at-apart (c .before .before .locate .ensures s) (c .enum-told .given .1) in
       ap covered (sym q)),
   (
-    (λ s. let (q, d) = at-nothing _ (c .before .before .locate .ensures s) (c .enum-told .given .1) in
+    (λ s. let (q, d) = at-apart (c .before .before .locate .ensures s) (c .enum-told .given .1) in
         words-gap s _ q),
     c .before .before .before .before .before .pre .1,
   ),
@@ -58,6 +61,20 @@ same-length-2 c = search needs
 
 returns-2 : tie.Need-returns-2
 returns-2 c = (
+  (λ s. let (t, q, b, le, d) = at-vacant _ _ _ (c .before .before .locate .ensures s) (c .enum-told2 .given .1) in
+      ap covered (sym q)),
+  (
+    (λ s. let (t, q, b, le, d) = at-vacant _ _ _ (c .before .before .locate .ensures s) (c .enum-told2 .given .1) in
+        words-gap s _ q),
+    c .before .before .before .before .before .pre .1,
+  ),
+)
+
+same-length-3 : tie.Need-same-length-3
+same-length-3 c = search needs
+
+returns-3 : tie.Need-returns-3
+returns-3 c = (
   (λ s. let (z, q) = at-head _ (c .before .before .before .locate .ensures s) (c .before .k .given .1) in
       ap covered (sym q)),
   (
@@ -67,11 +84,11 @@ returns-2 c = (
   ),
 )
 
-same-length-3 : tie.Need-same-length-3
-same-length-3 c = search needs
+same-length-4 : tie.Need-same-length-4
+same-length-4 c = search needs
 
-returns-3 : tie.Need-returns-3
-returns-3 c = (
+returns-4 : tie.Need-returns-4
+returns-4 c = (
   (λ s. let (q, h, t, le, d) = at-spot _ _ _
       (c .before .before .before .before .before .before .before .locate .ensures s)
       (c .before .before .before .before .before .k2 .given .1) in
@@ -90,6 +107,7 @@ erase-spec =
     (tie.spec
     locate-requires
     enum-told
+    enum-told-2
     enum-known-k
     slice-write-pool
     slice-write-pool-2
@@ -100,4 +118,6 @@ erase-spec =
     same-length-2
     returns-2
     same-length-3
-    returns-3)
+    returns-3
+    same-length-4
+    returns-4)

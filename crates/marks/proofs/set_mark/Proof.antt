@@ -1,7 +1,7 @@
 use native.Mathlib.Omega.{arith}
 use mathlib.Core.Path.{_∙_}
 use Rattle.lookup.proofs.WordLaws.{pool-length}
-use Rattle.lookup.proofs.HeadLaws.{at-nothing, at-head, at-spot}
+use Rattle.lookup.proofs.HeadLaws.{at-apart, at-vacant, at-head, at-spot}
 use Rattle.marks.proofs.RemarkLaws.{words-none, head-mark, answer-none, answer-some}
 use borrow.Author.Needs.{needs}
 use Rattle.marks.proofs.set_mark.Statement.{statement}
@@ -12,6 +12,9 @@ locate-requires c κs = search needs
 
 enum-told : tie.Need-enum-told
 enum-told c = search needs
+
+enum-told-2 : tie.Need-enum-told-2
+enum-told-2 c = search needs
 
 enum-known-k : tie.Need-enum-known-k
 enum-known-k c = search needs
@@ -50,9 +53,9 @@ same-length c = search needs
 
 returns : tie.Need-returns
 returns c = let a = c .before .before .before .before .before .args in (
-  (λ s. let (q, d) = at-nothing _ (c .before .before .locate .ensures s) (c .enum-told .given .1) in
+  (λ s. let (q, d) = at-apart (c .before .before .locate .ensures s) (c .enum-told .given .1) in
       answer-none (s .list) (a .i) (a .m) (a .on) q),
-  λ s. let (q, d) = at-nothing _ (c .before .before .locate .ensures s) (c .enum-told .given .1) in
+  λ s. let (q, d) = at-apart (c .before .before .locate .ensures s) (c .enum-told .given .1) in
       words-none s (a .i) (a .m) (a .on) q,
 )
 
@@ -60,7 +63,18 @@ same-length-2 : tie.Need-same-length-2
 same-length-2 c = search needs
 
 returns-2 : tie.Need-returns-2
-returns-2 c = let a = c .before .before .before .before .before .before .before .before .before .before .before .args
+returns-2 c = let a = c .before .before .before .before .before .args in (
+  (λ s. let (t, q, b, le, d) = at-vacant _ _ _ (c .before .before .locate .ensures s) (c .enum-told2 .given .1) in
+      answer-none (s .list) (a .i) (a .m) (a .on) q),
+  λ s. let (t, q, b, le, d) = at-vacant _ _ _ (c .before .before .locate .ensures s) (c .enum-told2 .given .1) in
+      words-none s (a .i) (a .m) (a .on) q,
+)
+
+same-length-3 : tie.Need-same-length-3
+same-length-3 c = search needs
+
+returns-3 : tie.Need-returns-3
+returns-3 c = let a = c .before .before .before .before .before .before .before .before .before .before .before .args
     in (
       (λ s. let (z, q) = at-head _ (c .before .before .before .before .before .before .before .before .locate .ensures
           s)
@@ -73,11 +87,11 @@ returns-2 c = let a = c .before .before .before .before .before .before .before 
           (c .before .before .before .before .before .before .before .before .before .before .before .pre .1) _ q z,
     )
 
-same-length-3 : tie.Need-same-length-3
-same-length-3 c = search needs
+same-length-4 : tie.Need-same-length-4
+same-length-4 c = search needs
 
-returns-3 : tie.Need-returns-3
-returns-3 c = let a = c .before .before .before .before .before .before .before .before .before .before .before .args
+returns-4 : tie.Need-returns-4
+returns-4 c = let a = c .before .before .before .before .before .before .before .before .before .before .before .args
     in (
       (λ s. let (q, h, t, le, d) = at-spot _ _ _ (c .before .before .before .before .before .before .before .before
           .locate .ensures s) (c .before .before .before .before .before .before .k2 .given .1) in
@@ -94,6 +108,7 @@ set-mark-spec =
     (tie.spec
     locate-requires
     enum-told
+    enum-told-2
     enum-known-k
     mark-anchor-requires
     remarked-requires
@@ -105,4 +120,6 @@ set-mark-spec =
     same-length-2
     returns-2
     same-length-3
-    returns-3)
+    returns-3
+    same-length-4
+    returns-4)

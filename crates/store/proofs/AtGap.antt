@@ -1,0 +1,446 @@
+-- A store where the way down ends at an empty slot and nothing starts in the target range. The head and the nodes over that
+-- slot stay; those between it and the entry are new, each the only child of the one above.
+use Prim.Native.Nat.{ℕ, zero, suc, _+_, _*_, _-_, _/_, _%_, _^_, _≤_, _<_, max}
+use mathlib.Core.Path.{_≡_, refl, sym, ap, ap₂, subst, _∙_}
+use mathlib.Core.Bool.{true, false}
+use mathlib.Core.List.{List, []}
+use mathlib.Core.Option.{Option}
+use native.Mathlib.Omega.{arith}
+use native.Mathlib.Numerals.{add-one}
+use native.Mathlib.Nat.{zero-add, le-refl}
+use lib.Dec.{T, ltb, eqb}
+use lib.ListN.{getD, set}
+use borrow.Author.Tests.{eqb-true, eqb-false, ltb-true, ltb-false, lt-ltb, le-ltb, le-leb, eq-eqb}
+use Rattle.blocks.specs.Choice.{pick, both}
+use Rattle.blocks.specs.Lists.{any, In, All, upTo}
+use Rattle.blocks.specs.Blocks.{block}
+use Rattle.blocks.proofs.BoolLaws.{clash, byT, is-false, both-l}
+use Rattle.blocks.proofs.ListLaws.{each, look, any-in, in-any}
+use Rattle.blocks.proofs.BlockLaws.{block-up, block-at, block-block}
+use Rattle.blocks.proofs.UpToLaws.{getD-upTo}
+use Rattle.model.specs.declared.Entry.{Entry}
+use Rattle.model.specs.Model.{storable, over, within, newEntry, storeNew}
+use Rattle.model.proofs.ValidLaws.{sorted-ok}
+use Rattle.tree.specs.Tree.{slots, tierOrder, fits, height, has, Node, needed}
+use Rattle.tree.specs.Slots.{Numbering, nodeWord, slot}
+use Rattle.tree.proofs.HeightLaws.{height-fits, fits-i, fits-base, fits-tall}
+use Rattle.tree.proofs.NeededLaws.{path-up}
+use Rattle.tree.proofs.SlotLaws.{tier-up, zero-starts}
+use Rattle.tree.proofs.StoreLaws.{within-only}
+use Rattle.layout.specs.Words.{place, nodeWords, shiftField, shiftWord, ownerField, slotField, field, fieldAt}
+use Rattle.layout.specs.Places.{Places, numberIn, freeCount, newPlaces, render}
+use Rattle.layout.specs.WellFormed.{WellFormed, InUse, num}
+use Rattle.layout.proofs.OwnerLaws.{parent, owner-same}
+use Rattle.layout.proofs.NewNumberLaws.{kept, was}
+use Rattle.layout.proofs.RenderWordLaws.{field-slot, slot-node}
+use Rattle.lookup.specs.Views.{AtNode}
+use Rattle.lookup.proofs.WordLaws.{pool-length, pool-anchor, pool-node, slot-at}
+use Rattle.plan.specs.Plan.{Plan, Found, Walked, before, freeAt}
+use Rattle.plan.proofs.AfterStore.{has-le, has-within, has-in, lows, tops, has-path}
+use Rattle.plan.proofs.FreeNumbers.{none-before, size-is}
+use Rattle.plan.proofs.FreshNumbers.{Tiers, tiers-same, needed-is, path-number}
+use Rattle.store.specs.Writes.{span, offset, joins, headAt, linked, entered, Laid, built}
+use Rattle.store.specs.Stored.{AtGap, Stores, Done, Short, entryOf}
+use Rattle.store.proofs.Right.{Long, Right, EdgeAt, set-stays, joins-same, joins-split, joins-keeps, joins-stay}
+use Rattle.store.proofs.Target.{field₁, field₁-shift, field₁-owner, field₁-slot, X, X-anchor, X-node, num-lt, edge-of}
+use Rattle.store.proofs.Final.{shift-ok, owner-ok, head-ok}
+use Rattle.store.proofs.RunLaws.{run-fits, run-slot}
+use Rattle.store.proofs.EmptyRange.{has-keeps, in-use-after, stores-unmarked, path-chain-entry}
+use Rattle.store.proofs.Results.{low-le, low-used}
+
+-- how many of the e widest tiers have a new node, where those from v + 1 to u do
+before-is : (h v u top : ℕ) → u ≤ top → (e : ℕ) → e ≤ top → before false h v (suc u) top e ≡ u - max (top - e) v
+unfolding before
+before-is h v u top le zero g = let z : top - 0 ≡ top = omega arith in rw z (omega arith)
+before-is h v u top le (suc e) g =
+    step (before false h v (suc u) top e) (top - e) (before-is h v u top le e (omega arith)) ∙
+    ap (λ (m : ℕ). u - max m v) (omega arith)
+  where
+    step : (r m : ℕ) → r ≡ u - max m v → r + (0 + pick (both (ltb v m) (ltb m (suc u))) 1 0) ≡ u - max (m - 1) v
+    step r m q = byT (ltb v m)
+        (λ a. let a′ : v < m = ltb-true _ _ a in
+        byT (ltb m (suc u))
+        (λ b. let b′ : m < suc u = ltb-true _ _ b in rw (a, b) (omega arith))
+        (λ b. let b′ : suc u ≤ m = ltb-false _ _ b in rw (a, b) (omega arith)))
+        (λ a. let a′ : m ≤ v = ltb-false _ _ a in rw a (omega arith))
+
+module _ {ws : List ℕ} (s : WellFormed ws) (i k w u first : ℕ) (i< : i < 2 ^ 64) (k≤ : k ≤ 63)
+    (new : any (over i k) (s .list) ≡ false)
+    (none-start : All (λ x. block k (x .base) ≡ block k i → ⊥) (s .list)) (high : k / 6 ≤ u)
+    (at : AtNode (s .list) (num s) u (block (tierOrder (suc u)) i) first)
+    (not-there : (t : ℕ) → k / 6 < t → t ≤ u → has (s .list) t (block (tierOrder t) i) ≡ false) where
+  abbrev l : List Entry
+  l = s .list
+
+  abbrev l′ : List Entry
+  l′ = storeNew l i k w
+
+  abbrev os : Places
+  os = s .places
+
+  abbrev ν : Numbering
+  ν = numberIn os
+
+  abbrev ν′ : Numbering
+  ν′ = numberIn (newPlaces l l′ os)
+
+  abbrev v : ℕ
+  v = k / 6
+
+  abbrev H : ℕ
+  H = height l
+
+  abbrev H′ : ℕ
+  H′ = height l′
+
+  -- THE NODES OVER THE SLOT
+  -- an entry of the node's block
+  mate : (x : Entry) × In x l × (x .order < tierOrder (suc u)) ×
+      (block (tierOrder (suc u)) (x .base) ≡ block (tierOrder (suc u)) i)
+  mate = let (x, m, t) = any-in (within (tierOrder (suc u)) (block (tierOrder (suc u)) i)) l
+      (has-within l (suc u) (block (tierOrder (suc u)) i) (at .there)) in (
+        x,
+        m,
+        ltb-true _ _ (both-l (ltb (x .order) (tierOrder (suc u))) _ t),
+        within-only (tierOrder (suc u)) (block (tierOrder (suc u)) i) x t,
+      )
+
+  tier-le : suc u ≤ H
+  tier-le = has-le l (suc u) (block (tierOrder (suc u)) i) (at .there)
+
+  has-over : (t : ℕ) → suc u ≤ t → t ≤ H → has l t (block (tierOrder t) i) ≡ true
+  has-over t h g =
+      let (x, m, o, e) = mate in
+      has-in l t (block (tierOrder t) i) g (in-any (within (tierOrder t) (block (tierOrder t) i)) m
+      (rw (
+        lt-ltb (x .order) (tierOrder t) (omega arith),
+        eq-eqb _ _ (block-up {j = tierOrder (suc u)} {k = tierOrder t} (x .base) i (omega arith) e),
+      )))
+
+  top-zero : block (tierOrder H) i ≡ 0
+  top-zero =
+      let (x, m, o, e) = mate in
+      let f : fits H x ≡ true = look (height-fits {h = H} (lows l (s .valid) i k w i< k≤ new) (le-refl _)) m in
+      sym (block-up {j = tierOrder (suc u)} {k = tierOrder H} (x .base) i (omega (arith, tier-le)) e) ∙ fits-base H x f
+
+  height-same : H′ ≡ H
+  height-same =
+      let fit : fits H (newEntry l i k w) ≡ true = fits-i H (newEntry l i k w) (omega (arith, tier-le))
+      (block-up {j = k} {k = tierOrder H} (block k i * 2 ^ k) i (omega (arith, tier-le)) (block-at k (block k i)) ∙
+      top-zero) in
+      omega (arith, tops l (s .valid) i k w i< k≤ new, fits-tall H (newEntry l i k w) fit)
+
+  path-has : (t : ℕ) → v < t → t ≤ H → has l′ t (block (tierOrder t) i) ≡ true
+  path-has t a b = has-path l (s .valid) i k w i< k≤ new t (omega arith) (omega (arith, height-same))
+
+  -- THE NUMBERS
+  abbrev ps₀ : List ℕ
+  ps₀ = upTo (λ t. ν t (block (tierOrder t) i)) 0 (suc H)
+
+  walked : Walked l ν i v H ps₀ (suc u)
+  walked = record {
+    low = omega arith;
+    high = tier-le;
+    there = λ t a b. has-over t a b;
+    numbers = λ t a b. getD-upTo (λ t. ν t (block (tierOrder t) i)) 0 (suc H) t (omega arith) ∙
+        ap (λ (y : ℕ). ν y (block (tierOrder y) i)) (zero-add t);
+    not-there = λ t a b. not-there t a (omega arith);
+  }
+
+  tiers : Tiers l i k w false (suc u)
+  tiers = tiers-same (s .n) l os (s .placed) (s .valid) i k w i< k≤ new ν ps₀ false (suc u) (sym height-same) walked
+
+  over-top : H < H′ → H′ < suc u
+  over-top g = absurd (omega (arith, height-same))
+
+  pub need-is : needed l l′ ≡ u - v
+  need-is = needed-is (s .n) l os (s .placed) (s .valid) i k w i< k≤ new false (suc u) tiers over-top ∙
+      (before-is H v u H′ (omega (arith, tier-le, height-same)) H′ (le-refl _) ∙
+      (let z : H′ - H′ ≡ 0 = omega arith in rw z (omega arith)))
+
+  module _ (enough : needed l l′ ≤ freeCount os) where
+    pub number-is : (t : ℕ) → v < t → t ≤ u → (ν′ t (block (tierOrder t) i) ≡ freeAt os (u - t)) ×
+        (u - t < needed l l′)
+    number-is t a b =
+        let le : t ≤ H′ = omega (arith, tier-le, height-same) in
+        let (x, y) = path-number (s .n) l os (s .placed) (s .valid) i k w i< k≤ new false (suc u) tiers over-top enough t
+        (omega arith) le (rw (lt-ltb v t a, lt-ltb t (suc u) (omega arith)) refl)
+        (path-has t a (omega (arith, tier-le))) (not-there t a b) in
+        let back : H′ - (H′ - t) ≡ t = omega arith in
+        let q : before false H v (suc u) H′ (H′ - t) ≡ u - max t v = before-is H v u H′
+        (omega (arith, tier-le, height-same)) (H′ - t) (omega arith) ∙ ap (λ (m : ℕ). u - max m v) back in
+        let z : before false H v (suc u) H′ (H′ - t) + 0 ≡ u - t = omega arith in
+        (x ∙ ap (freeAt os) z, subst (λ (y : ℕ). y < needed l l′) z y)
+
+    keeps : (t b : ℕ) → has l t b ≡ true → has l′ t b ≡ true
+    keeps = has-keeps l (s .valid) i k w i< k≤ new none-start
+
+    pub first-is : ν′ (suc u) (block (tierOrder (suc u)) i) ≡ first
+    first-is = kept (s .n) l os (s .placed) l′ enough (suc u) (block (tierOrder (suc u)) i) (at .there)
+        (keeps (suc u) (block (tierOrder (suc u)) i) (at .there)) ∙ sym (at .number)
+
+    pub path-lt : (t : ℕ) → v < t → t ≤ u + 1 → ν′ t (block (tierOrder t) i) < s .n
+    path-lt t a b = num-lt (s .n) l os (s .placed) l′ enough t (block (tierOrder t) i)
+        (path-has t a (omega (arith, tier-le)))
+
+    abbrev ps′ : List ℕ
+    ps′ = upTo (λ t. ν′ t (block (tierOrder t) i)) 0 (suc H)
+
+    ps′-is : (t : ℕ) → t ≤ H → getD ps′ t 0 ≡ ν′ t (block (tierOrder t) i)
+    ps′-is t h = getD-upTo (λ t. ν′ t (block (tierOrder t) i)) 0 (suc H) t (omega arith) ∙
+        ap (λ (y : ℕ). ν′ y (block (tierOrder y) i)) (zero-add t)
+
+    plan : Plan l i k w ν′ ps′ []
+    plan = record {
+      path-is = λ t a b. ps′-is t (omega (arith, height-same));
+      chain-is = λ g. absurd (omega (arith, height-same));
+    }
+
+    some-node : 1 ≤ H′
+    some-node = omega (arith, tier-le, height-same)
+
+    -- THE EDGES OVER THE SLOT stand already
+    abbrev Y : ℕ → ℕ
+    Y = X (s .n) l os (s .placed) l′ enough
+
+    abbrev R : ℕ → List ℕ → Type 0
+    R = Right (s .n) Y
+
+    lg : Long (s .n) Y ws
+    lg = record { len = pool-length s }
+
+    -- a field of a node that stays, if it is to be what it is
+    same : (t b f : ℕ) → has l t b ≡ true → f < nodeWords → field l ν t b f ≡ field₁ l l′ ν′ t b f →
+        R (place (ν′ t b) f) ws
+    same t b f o h e = record {
+      is = pool-node s (ν′ t b) f (num-lt (s .n) l os (s .placed) l′ enough t b (keeps t b o)) h ∙
+          (ap (λ (q : Option Node). fieldAt l ν q f) (was (s .n) l os (s .placed) l′ enough t b (keeps t b o) o) ∙
+          (e ∙ sym (X-node (s .n) l os (s .placed) l′ enough t b f (keeps t b o) h)));
+    }
+
+    shift-there : (t b : ℕ) → has l t b ≡ true → R (place (ν′ t b) shiftField) ws
+    shift-there t b o = same t b 0 o (omega arith) (sym (field₁-shift l l′ ν′ t b))
+
+    owner-there : (t b : ℕ) → t < H → has l t b ≡ true → R (place (ν′ t b) ownerField) ws
+    owner-there t b h o =
+        let h′ : t < H′ = omega (arith, height-same) in
+        same t b 1 o (omega arith) (sym (owner-same l l′ ν ν′ t b h h′ (kept (s .n) l os (s .placed) l′ enough (suc t)
+        (b / slots) (parent l t b o h) (parent l′ t b (keeps t b o) h′))) ∙ sym (field₁-owner l l′ ν′ t b))
+
+    slot-there : (t : ℕ) → suc u ≤ t → t < H →
+        R (place (ν′ (suc t) (block (tierOrder (suc t)) i)) (slotField + block (tierOrder t) i % slots)) ws
+    slot-there t a h =
+        let e₁ : suc t - 1 ≡ t = omega arith in
+        let e₂ : slots * block (tierOrder (suc t)) i + block (tierOrder t) i % slots ≡ block (tierOrder t) i =
+        ap (λ (y : ℕ). slots * y + block (tierOrder t) i % slots) (tier-up t i) ∙ omega arith in
+        let x : has l t (block (tierOrder t) i) ≡ true = has-over t a (omega arith) in
+        let x′ : has l′ t (block (tierOrder t) i) ≡ true = keeps t (block (tierOrder t) i) x in
+        same (suc t) (block (tierOrder (suc t)) i) (5 + block (tierOrder t) i % slots) (has-over (suc t) (omega arith) h)
+        (omega arith)
+        (field-slot l ν (suc t) (block (tierOrder (suc t)) i) (block (tierOrder t) i % slots) ∙
+        (ap₂ (slot l ν) e₁ e₂ ∙ (slot-node l ν t (block (tierOrder t) i) (has-within l t (block (tierOrder t) i) x) ∙
+        (ap nodeWord (sym (kept (s .n) l os (s .placed) l′ enough t (block (tierOrder t) i) x x′)) ∙
+        (sym (slot-node l′ ν′ t (block (tierOrder t) i) (has-within l′ t (block (tierOrder t) i) x′)) ∙
+        sym (field₁-slot l l′ ν′ (suc t) (block (tierOrder (suc t)) i) (block (tierOrder t) i % slots) ∙
+        ap₂ (slot l′ ν′) e₁ e₂))))))
+
+    head-has : has l H 0 ≡ true
+    head-has = subst (λ (c : ℕ). has l H c ≡ true) top-zero (has-over H tier-le (le-refl _))
+
+    head-there : R 1 ws
+    head-there = record {
+      is = pool-anchor s 1 (omega arith) ∙ (slot-node l ν H 0 (has-within l H 0 head-has) ∙
+          (ap nodeWord (sym (kept (s .n) l os (s .placed) l′ enough H 0 head-has (keeps H 0 head-has))) ∙
+          (sym (slot-node l′ ν′ H 0 (has-within l′ H 0 (keeps H 0 head-has))) ∙
+          (ap (λ (y : ℕ). slot l′ ν′ y 0) (sym height-same) ∙ sym (X-anchor (s .n) l os (s .placed) l′ enough 1
+          (omega arith))))));
+    }
+
+    head-owner : R (place (ν′ H 0) ownerField) ws
+    head-owner = same H 0 1 head-has (omega arith)
+        (rw (eq-eqb H H refl, field₁-owner l l′ ν′ H 0, eq-eqb H H′ (sym height-same)))
+
+    head-num : getD ps′ H′ 0 ≡ ν′ H 0
+    head-num = ap (λ (y : ℕ). getD ps′ y 0) height-same ∙ (ps′-is H (le-refl _) ∙ ap (ν′ H) top-zero)
+
+    edge : (t : ℕ) → v + 1 ≤ t → t < H → EdgeAt (s .n) Y ps′ i t
+    edge t a b = rw (ps′-is (t + 1) (omega arith), ps′-is t (omega arith))
+        (edge-of (s .n) l os (s .placed) l′ enough i t (omega (arith, height-same)) (path-has t (omega arith) (omega arith)))
+
+    abbrev d₀ : ℕ
+    d₀ = u + 1 - (v + 1)
+
+    abbrev d₁ : ℕ
+    d₁ = H′ - (u + 1)
+
+    abbrev J : List ℕ
+    J = joins ps′ i ws (v + 1) d₀
+
+    keeps-J : {q : ℕ} → R q ws → R q J
+    keeps-J r = joins-keeps (s .n) Y ps′ i (v + 1) d₀ lg (λ t a b. edge t a (omega (arith, tier-le))) r
+
+    joins-is : joins ps′ i ws (v + 1) (H′ - (v + 1)) ≡ J
+    joins-is =
+        let e₁ : H′ - (v + 1) ≡ d₀ + d₁ = omega (arith, tier-le, height-same) in
+        let e₂ : v + 1 + d₀ ≡ u + 1 = omega arith in
+        ap (λ (d : ℕ). joins ps′ i ws (v + 1) d) e₁ ∙ (joins-split ps′ i ws (v + 1) d₀ d₁ ∙
+        (ap (λ (t : ℕ). joins ps′ i J t d₁) e₂ ∙
+        joins-stay (s .n) Y ps′ i (u + 1) d₁ (λ t a b. edge t (omega arith) (omega (arith, height-same)))
+        (λ t a b. let lt : t < H = omega (arith, height-same) in
+        let o : has l t (block (tierOrder t) i) ≡ true = has-over t (omega arith) (omega arith) in (
+          rw (ps′-is t (omega arith)) (keeps-J (shift-there t (block (tierOrder t) i) o)),
+          rw (ps′-is t (omega arith)) (keeps-J (owner-there t (block (tierOrder t) i) lt o)),
+          rw (ps′-is (t + 1) (omega arith), add-one t) (keeps-J (slot-there t (omega arith) lt)),
+        ))))
+
+    linked-is : linked ws ps′ i v H′ ≡ J
+    linked-is =
+        let shift-stays : set J (place (getD ps′ H′ 0) shiftField) (shiftWord H′) ≡ J = set-stays (s .n) Y _ _
+        (shift-ok (s .n) l os (s .placed) (s .valid) i k w i< k≤ new enough some-node ps′ [] plan lg)
+        (rw head-num (keeps-J (shift-there H 0 head-has))) in
+        let owner-stays : set J (place (getD ps′ H′ 0) ownerField) 0 ≡ J = set-stays (s .n) Y _ _
+        (owner-ok (s .n) l os (s .placed) (s .valid) i k w i< k≤ new enough some-node ps′ [] plan lg)
+        (rw head-num (keeps-J head-owner)) in
+        let head-stays : set J 1 (nodeWord (getD ps′ H′ 0)) ≡ J = set-stays (s .n) Y _ _
+        (head-ok (s .n) l os (s .placed) (s .valid) i k w i< k≤ new enough some-node ps′ [] plan lg)
+        (keeps-J head-there) in
+        ap (λ (y : List ℕ). headAt y (getD ps′ H′ 0) H′) joins-is ∙
+        (ap (λ (y : List ℕ). set (set y (place (getD ps′ H′ 0) ownerField) 0) 1 (nodeWord (getD ps′ H′ 0))) shift-stays ∙
+        (ap (λ (y : List ℕ). set y 1 (nodeWord (getD ps′ H′ 0))) owner-stays ∙ head-stays))
+
+    pub words-after : (ps : List ℕ) → ((t : ℕ) → v < t → t ≤ u + 1 → getD ps t 0 ≡ ν′ t (block (tierOrder t) i)) →
+        built ws ps i k w u ≡ render l′ (newPlaces l l′ os) (s .n)
+    unfolding built
+    words-after ps is =
+        let agree : (t : ℕ) → v < t → t ≤ u + 1 → getD ps t 0 ≡ getD ps′ t 0 =
+        λ t a b. is t a b ∙ sym (ps′-is t (omega (arith, tier-le))) in
+        ap (λ (y : List ℕ). entered y (getD ps (v + 1) 0) (offset i k) (span k) w)
+        (joins-same ps ps′ i ws (v + 1) d₀ (λ t a b. agree t (omega arith) (omega arith)) ∙ sym linked-is) ∙
+        (ap (λ (a : ℕ). entered (linked ws ps′ i v H′) a (offset i k) (span k) w) (agree (v + 1) (omega arith) (omega arith)) ∙
+        (sym (rw (le-ltb H H′ (omega (arith, height-same))) refl) ∙
+        path-chain-entry s i k w i< k≤ new none-start enough some-node ps′ [] plan))
+
+-- AS THE CODE HAS IT: new nodes below the slot
+module _ {ws : List ℕ} (s : WellFormed ws) (i k w u first : ℕ) (i< : i < 2 ^ 64) (k≤ : k ≤ 63) (deep : k / 6 < u)
+    (g : AtGap (s .list) (num s) i k u first) (ns : List ℕ) (r next : ℕ)
+    (found : Found (s .places) (u - k / 6) ns r next) where
+  none-below : All (λ x. block k (x .base) ≡ block k i → ⊥) (s .list)
+  none-below = each (s .list) (λ x m q. byT (ltb (x .order) (tierOrder u))
+      (λ t. clash (in-any (within (tierOrder u) (block (tierOrder u) i)) m
+      (rw (t, eq-eqb _ _ (block-up {j = k} {k = tierOrder u} (x .base) i (omega arith) q)))) (g .nothing))
+      (λ t. let h : tierOrder u ≤ x .order = ltb-false _ _ t in
+      clash (in-any (over i k) m
+      (rw (
+        eq-eqb _ _ (sym (block-up {j = k} {k = x .order} (x .base) i (omega arith) q)),
+        le-leb k (x .order) (omega arith),
+      ))) (g .new)))
+
+  no-node : (t : ℕ) → k / 6 < t → t ≤ u → has (s .list) t (block (tierOrder t) i) ≡ false
+  no-node t a h = is-false (λ y. clash (path-up i {j = tierOrder t} {k = tierOrder u} (s .list) (omega arith)
+      (has-within (s .list) t (block (tierOrder t) i) y)) (g .nothing))
+
+  abbrev high : k / 6 ≤ u
+  high = omega arith
+
+  needed-as : needed (s .list) (storeNew (s .list) i k w) ≡ u - k / 6
+  needed-as = need-is s i k w u first i< k≤ (g .new) none-below high (g .at-node) no-node
+
+  pub below-short : r < u - k / 6 →
+      Stores (s .n) (s .list) (s .places) (storeNew (s .list) i k w) i ws ws Short
+  below-short h = record {
+    done = λ z. absurd (omega (arith, needed-as, found .count-is));
+    short = λ z. (refl, refl);
+  }
+
+  module _ (ge : u - k / 6 ≤ r) (ps : List ℕ) (laid : Laid ns ps first (k / 6) u) where
+    enough : needed (s .list) (storeNew (s .list) i k w) ≤ freeCount (s .places)
+    enough = omega (arith, needed-as, found .count-is)
+
+    ps-is : (t : ℕ) → k / 6 < t → t ≤ u + 1 → getD ps t 0 ≡ numberIn
+        (newPlaces (s .list) (storeNew (s .list) i k w) (s .places)) t (block (tierOrder t) i)
+    ps-is t a b = byT (eqb t (u + 1))
+        (λ z. let e : t ≡ suc u = eqb-true _ _ z ∙ add-one u in
+        ap (λ (y : ℕ). getD ps y 0) (eqb-true _ _ z) ∙ (laid .top-is ∙
+        rw e (sym (first-is s i k w u first i< k≤ (g .new) none-below high (g .at-node) no-node enough))))
+        (λ z. let ne : t ≡ u + 1 → ⊥ = eqb-false _ _ z in
+        let (x, y) = number-is s i k w u first i< k≤ (g .new) none-below high (g .at-node) no-node enough t a (omega arith)
+        in
+        laid .rest-are t a (omega arith) ∙ (found .numbers (u - t) (omega (arith, needed-as)) ∙ sym x))
+
+    pub laid-lt : (t : ℕ) → k / 6 < t → t ≤ u + 1 → getD ps t 0 < s .n
+    laid-lt t a b = rw (ps-is t a b)
+        (path-lt s i k w u first i< k≤ (g .new) none-below high (g .at-node) no-node enough t a b)
+
+    words : {ws′ : List ℕ} → ws′ ≡ built ws ps i k w u → ws′ ≡ render (storeNew (s .list) i k w)
+        (newPlaces (s .list) (storeNew (s .list) i k w) (s .places)) (s .n)
+    words e = e ∙ words-after s i k w u first i< k≤ (g .new) none-below high (g .at-node) no-node enough ps ps-is
+
+    pub below-done : {ws′ : List ℕ} {e : Entry} → e ≡ entryOf i k w 0 → ws′ ≡ built ws ps i k w u →
+        Stores (s .n) (s .list) (s .places) (storeNew (s .list) i k w) i ws ws′ (Done e)
+    below-done q e = stores-unmarked s i k w i< k≤ (g .new) none-below enough q (words e)
+
+    pub below-used : {ws′ : List ℕ} → T (storable w) → w < 2 ^ 64 → ws′ ≡ built ws ps i k w u → InUse next ws′
+    below-used st w< e = in-use-after s i k w i< k≤ (g .new) none-below enough st w< (words e) next (found .next-le)
+        (omega (arith, needed-as, found .count-is, found .next-is))
+
+-- AS THE CODE HAS IT: empty slots of the entry's node
+module _ {ws : List ℕ} (s : WellFormed ws) (i k w u a o c : ℕ) (i< : i < 2 ^ 64) (k≤ : k ≤ 63)
+    (g : AtGap (s .list) (num s) i k u a) (tier-is : k / 6 ≡ u) (o-is : o ≡ offset i k) (c-is : c ≡ span k)
+    (empty : (t : ℕ) → t < c → getD ws (place a (slotField + (o + t))) 0 ≡ 0) where
+  abbrev b₀ : ℕ
+  b₀ = block (tierOrder (k / 6 + 1)) i
+
+  at₀ : AtNode (s .list) (num s) (k / 6) b₀ a
+  at₀ = subst (λ (y : ℕ). AtNode (s .list) (num s) (k / 6) (block (tierOrder y) i) a) (sym (add-one (k / 6)))
+      (subst (λ (v : ℕ). AtNode (s .list) (num s) v (block (tierOrder (suc v)) i) a) (sym tier-is) (g .at-node))
+
+  slot-zero : (t : ℕ) → t < span k → slot (s .list) (num s) (k / 6) (slots * b₀ + (offset i k + t)) ≡ 0
+  slot-zero t h = sym (slot-at s at₀ (offset i k + t) (omega (arith, run-fits i k))) ∙
+      subst (λ (y : ℕ). getD ws (place a (slotField + (y + t))) 0 ≡ 0) o-is (empty t (omega (arith, c-is)))
+
+  none-in : All (λ x. block k (x .base) ≡ block k i → ⊥) (s .list)
+  none-in = each (s .list) (λ x m q.
+      let y : ℕ = block (tierOrder (k / 6)) (x .base) in
+      let t₁ : tierOrder (suc (k / 6)) ≡ tierOrder (k / 6 + 1) = omega arith in
+      let up : y / slots ≡ b₀ = sym (tier-up (k / 6) (x .base)) ∙ (ap (λ (z : ℕ). block z (x .base)) t₁ ∙
+      block-up {j = k} {k = tierOrder (k / 6 + 1)} (x .base) i (omega arith) q) in
+      let (t, p, e) = run-slot i k y up (sym (block-block {j = tierOrder (k / 6)} {k = k} (x .base) (omega arith)) ∙ q)
+      in
+      look (zero-starts (s .list) (num s) (k / 6) (slots * b₀ + (offset i k + t)) (sorted-ok (s .valid)) (slot-zero t p)) m
+      e)
+
+  abbrev no-tier : (t : ℕ) → k / 6 < t → t ≤ u → has (s .list) t (block (tierOrder t) i) ≡ false
+  no-tier t a b = absurd (omega arith)
+
+  abbrev high₀ : k / 6 ≤ u
+  high₀ = omega arith
+
+  none-needed : needed (s .list) (storeNew (s .list) i k w) ≡ 0
+  none-needed = need-is s i k w u a i< k≤ (g .new) none-in high₀ (g .at-node) no-tier ∙ omega arith
+
+  enough₀ : needed (s .list) (storeNew (s .list) i k w) ≤ freeCount (s .places)
+  enough₀ = omega (arith, none-needed)
+
+  words₀ : {ws′ : List ℕ} → ws′ ≡ entered ws a o c w → ws′ ≡ render (storeNew (s .list) i k w)
+      (newPlaces (s .list) (storeNew (s .list) i k w) (s .places)) (s .n)
+  unfolding built joins
+  words₀ e =
+      let ps : List ℕ = upTo (λ t. a) 0 (k / 6 + 2) in
+      let num-is : getD (upTo (λ t. a) 0 (k / 6 + 2)) (k / 6 + 1) 0 ≡ a = getD-upTo (λ t. a) 0 (k / 6 + 2) (k / 6 + 1)
+      (omega arith) in
+      let z : u + 1 - (k / 6 + 1) ≡ 0 = omega arith in
+      let same : entered ws a o c w ≡ built ws (upTo (λ t. a) 0 (k / 6 + 2)) i k w u = rw (z, num-is, o-is, c-is) refl in
+      e ∙ (same ∙ words-after s i k w u a i< k≤ (g .new) none-in high₀ (g .at-node) no-tier enough₀ ps
+      (λ t p q. let f : t ≡ k / 6 + 1 = omega arith in
+      let f′ : t ≡ suc u = omega arith in
+      ap (λ (y : ℕ). getD (upTo (λ t. a) 0 (k / 6 + 2)) y 0) f ∙ (num-is ∙
+      rw f′ (sym (first-is s i k w u a i< k≤ (g .new) none-in high₀ (g .at-node) no-tier enough₀)))))
+
+  pub slots-done : {ws′ : List ℕ} {e : Entry} → e ≡ entryOf i k w 0 → ws′ ≡ entered ws a o c w →
+      Stores (s .n) (s .list) (s .places) (storeNew (s .list) i k w) i ws ws′ (Done e)
+  slots-done q e = stores-unmarked s i k w i< k≤ (g .new) none-in enough₀ q (words₀ e)
+
+  pub slots-used : {ws′ : List ℕ} {low : ℕ} → T (storable w) → w < 2 ^ 64 → InUse low ws → ws′ ≡ entered ws a o c w →
+      InUse low ws′
+  slots-used {ws′} {low} st w< h e = in-use-after s i k w i< k≤ (g .new) none-in enough₀ st w< (words₀ e) low
+      (omega (arith, size-is s, low-le s h)) (omega (arith, none-before (s .places) low (low-used s h)))

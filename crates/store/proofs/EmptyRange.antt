@@ -1,0 +1,183 @@
+-- A store where nothing starts in the target range: no node goes, no mark changes, and the path, the chain and the entry
+-- are all that is written.
+use Prim.Native.Nat.{ℕ, suc, _+_, _*_, _-_, _/_, _^_, _≤_, _<_}
+use mathlib.Core.Path.{_≡_, refl, sym, ap, subst, _∙_}
+use mathlib.Core.Bool.{true, false, not}
+use mathlib.Core.List.{List}
+use mathlib.Core.Option.{Option, none, some}
+use native.Mathlib.Omega.{arith}
+use lib.Dec.{T, leb, ltb, eqb}
+use lib.ListN.{length, getD}
+use borrow.Author.Tests.{leb-true, eqb-true, ltb-true}
+use Rattle.blocks.specs.Choice.{both}
+use Rattle.blocks.specs.Lists.{any, All, nonempty}
+use Rattle.blocks.specs.Blocks.{block}
+use Rattle.blocks.proofs.BoolLaws.{byT, both-l, both-r, both-no}
+use Rattle.blocks.proofs.ListLaws.{All-map, any-none, any-in, any-keep-both, look}
+use Rattle.blocks.proofs.BitLaws.{bits-same}
+use Rattle.model.specs.declared.Entry.{Entry}
+use Rattle.model.specs.Model.{Valid, storable, over, starts, within, hasMark, marksOf, inside, newEntry, storeNew}
+use Rattle.model.proofs.RangeLaws.{Inside}
+use Rattle.model.proofs.ValidLaws.{room, store-at-valid}
+use Rattle.tree.specs.Tree.{slots, tierOrder, height, has, Node, newNodes, needed, slotMark}
+use Rattle.tree.specs.Slots.{Numbering, slot}
+use Rattle.tree.proofs.StoreLaws.{within-only, store-covering, mark-apart, mark-path, mark-inside}
+use Rattle.layout.specs.Words.{field, fieldAt}
+use Rattle.layout.specs.Places.{Places, numberIn, freeCount, keepIf, newPlaces, render}
+use Rattle.layout.specs.WellFormed.{WellFormed, InUse}
+use Rattle.layout.proofs.NewNumberLaws.{number-none, new-stays}
+use Rattle.layout.proofs.NumberLaws.{in-standing}
+use Rattle.layout.proofs.PlacesLaws.{placed-new}
+use Rattle.layout.proofs.RenderLaws.{render-is}
+use Rattle.layout.proofs.RenderWordLaws.{field-mark}
+use Rattle.plan.specs.Plan.{Plan, freeTo}
+use Rattle.plan.proofs.AfterStore.{Lies, lies, on-path, in-run, off, has-le, has-within, rooms, tops, has-path, stays}
+use Rattle.plan.proofs.FreeNumbers.{below-taken}
+use Rattle.store.specs.Writes.{span, offset, linked, grownWords, entered}
+use Rattle.store.specs.Stored.{Stores, Done, entryOf}
+use Rattle.store.proofs.Freeing.{Freed, freed-none}
+use Rattle.store.proofs.Target.{field₁, fieldAt₁, X-anchor, X-at}
+use Rattle.store.proofs.Final.{enter-long, grow-long, link-long, lg₁, anchor-right, node-right}
+use Rattle.store.proofs.Results.{in-use}
+
+-- THE TREE
+module _ (l : List Entry) (valid : Valid l) (i k w : ℕ) (i< : i < 2 ^ 64) (k≤ : k ≤ 63)
+    (new : any (over i k) l ≡ false) (none-start : All (λ x. block k (x .base) ≡ block k i → ⊥) l) where
+  abbrev l′ : List Entry
+  l′ = storeNew l i k w
+
+  -- the new entry has no marks
+  no-marks : (m : ℕ) → any (hasMark m) (inside l i k) ≡ false
+  no-marks m = any-keep-both (hasMark m) (starts k (block k i)) l ∙
+      any-none (λ x. both (starts k (block k i) x) (hasMark m x))
+      (All-map (λ x n t. n (eqb-true _ _ (both-l (starts k (block k i) x) (hasMark m x) t))) none-start)
+
+  marks-zero : marksOf (inside l i k) ≡ 0
+  marks-zero = rw (no-marks 0, no-marks 1, no-marks 2) refl
+
+  mark-same : (m u c : ℕ) → m < 3 → slotMark l m u c ≡ slotMark l′ m u c
+  unfolding slotMark
+  mark-same m u c h = go (lies i k u c)
+    where
+      none-here : Inside i k (tierOrder u) c → slotMark l m u c ≡ false
+      none-here n = any-none (λ e. both (starts (tierOrder u) c e) (hasMark m e))
+          (All-map (λ x z t. z (n (x .base) (eqb-true _ _ (both-l (starts (tierOrder u) c x) (hasMark m x) t))))
+          none-start)
+
+      go : Lies i k u c → slotMark l m u c ≡ slotMark l′ m u c
+      go (on-path g e) = rw e (sym (mark-path i k w l m u h (omega arith)))
+      go (in-run g n) = none-here n ∙ sym (mark-inside i k w l m u c h n ∙ rw (no-marks m, both-no))
+      go (off n) = sym (mark-apart i k w l m u c n)
+
+  -- a node that was there is there
+  pub has-keeps : (t b : ℕ) → has l t b ≡ true → has l′ t b ≡ true
+  has-keeps t b h = go (lies i k t b)
+    where
+      go : Lies i k t b → has l′ t b ≡ true
+      go (on-path g e) = rw e (has-path l valid i k w i< k≤ new t g
+          (omega (arith, has-le l t b h, tops l valid i k w i< k≤ new)))
+      go (in-run g n) = let (x, m, e) = any-in (within (tierOrder t) b) l (has-within l t b h) in
+          absurd (look none-start m (n (x .base) (within-only (tierOrder t) b x e)))
+      go (off n) = stays l valid i k w i< k≤ new t b h n
+
+-- THE WORDS
+module _ {ws : List ℕ} (s : WellFormed ws) (i k w : ℕ) (i< : i < 2 ^ 64) (k≤ : k ≤ 63)
+    (new : any (over i k) (s .list) ≡ false)
+    (none-start : All (λ x. block k (x .base) ≡ block k i → ⊥) (s .list))
+    (enough : needed (s .list) (storeNew (s .list) i k w) ≤ freeCount (s .places)) where
+  abbrev l : List Entry
+  l = s .list
+
+  abbrev l₁ : List Entry
+  l₁ = storeNew l i k w
+
+  abbrev os : Places
+  os = s .places
+
+  abbrev os₁ : Places
+  os₁ = newPlaces l l₁ os
+
+  -- a place that is free after was free before
+  was-free : (m : ℕ) → getD os₁ m none ≡ none → getD os m none ≡ none
+  was-free m e = go (getD os m none) refl (number-none (s .n) l os (s .placed) l₁ enough m e)
+    where
+      go : (o : Option Node) → getD os m none ≡ o → keepIf l₁ o ≡ none → o ≡ none
+      go none d q = refl
+      go (some p) d q =
+          let t : has l₁ (p .tier) (p .number) ≡ true =
+          has-keeps l (s .valid) i k w i< k≤ new none-start (p .tier) (p .number)
+          (s .placed .sound p (in-standing p os m d)) in
+          let z : _≡_ {A = ℕ} 0 1 = cc (sym (rw t at q)) in absurd (omega arith)
+
+  -- below next every node is in use then
+  pub next-used : (next : ℕ) → next ≤ length os → freeTo os next ≤ needed l l₁ → (m : ℕ) → m < next →
+      getD os₁ m none ≡ none → ⊥
+  next-used next le tk m h z = new-stays l l₁ os m (was-free m z) (below-taken os (newNodes l l₁) next m le tk h) z
+
+  pub in-use-after : T (storable w) → w < 2 ^ 64 → {ws′ : List ℕ} → ws′ ≡ render l₁ os₁ (s .n) → (next : ℕ) →
+      next ≤ length os → freeTo os next ≤ needed l l₁ → InUse next ws′
+  in-use-after st w< {ws′} e next le tk = in-use after next (omega (arith, s .placed .size)) (next-used next le tk)
+    where
+      after : WellFormed ws′
+      after = record {
+        n = s .n;
+        list = l₁;
+        places = os₁;
+        least = s .least;
+        most = s .most;
+        valid = store-at-valid i k w l (s .valid) (room l i k new) i< k≤ st w<;
+        placed = placed-new (s .n) l os (s .placed) l₁ enough;
+        words-are = e;
+      }
+
+  pub stores-unmarked : {ws′ : List ℕ} {e : Entry} → e ≡ entryOf i k w 0 → ws′ ≡ render l₁ os₁ (s .n) →
+      Stores (s .n) l os l₁ i ws ws′ (Done e)
+  stores-unmarked q e = record {
+    done = λ _. record {
+      entry = newEntry l i k w;
+      covering-is = store-covering i k w l (rooms l (s .valid) i k w i< k≤ new) i refl;
+      outcome-is = ap Done (q ∙ ap (entryOf i k w) (sym (marks-zero l (s .valid) i k w i< k≤ new none-start)));
+      words-are = e;
+    };
+    short = λ z. absurd (omega arith);
+  }
+
+  module _ (some-node : 1 ≤ height l₁) (ps cs : List ℕ) (plan : Plan l i k w (numberIn os₁) ps cs) where
+    abbrev ν₁ : Numbering
+    ν₁ = numberIn os₁
+
+    freed : Freed (s .n) (λ m. false) (render l os (s .n)) ws
+    freed = subst (λ (y : List ℕ). Freed (s .n) (λ m. false) (render l os (s .n)) y) (sym (s .words-are))
+        (freed-none (s .n) (render l os (s .n)))
+
+    -- the marks of the old list are those of the new
+    field-same : (t b f : ℕ) → field₁ l l₁ ν₁ t b f ≡ field l₁ ν₁ t b f
+    unfolding field₁
+    field-same t b f = byT (both (leb 2 f) (ltb f 5))
+        (λ c. let lo : 2 ≤ f = leb-true _ _ (both-l (leb 2 f) _ c) in
+        let hi : f < 5 = ltb-true _ _ (both-r (leb 2 f) _ c) in
+        let e : 2 + (f - 2) ≡ f = omega arith in
+        rw c (bits-same (λ j. slotMark l (f - 2) (t - 1) (slots * b + j)) (λ j. slotMark l₁ (f - 2) (t - 1) (slots * b + j))
+        slots (λ j g. mark-same l (s .valid) i k w i< k≤ new none-start (f - 2) (t - 1) (slots * b + j) (omega arith)) ∙
+        (sym (field-mark l₁ ν₁ t b (f - 2) (omega arith)) ∙ ap (field l₁ ν₁ t b) e)))
+        (λ c. rw c)
+
+    pub path-chain-entry : entered (grownWords (linked ws ps i (k / 6) (height l₁)) ps cs (marksOf l) (height l)
+        (height l₁) (slot l (numberIn os) (height l) 0) (both (nonempty l) (not (eqb (block k i) 0))))
+        (getD ps (k / 6 + 1) 0) (offset i k) (span k) w ≡ render l₁ os₁ (s .n)
+    unfolding fieldAt₁
+    path-chain-entry = render-is l₁ os₁ (s .n) _
+        (enter-long (s .n) l os (s .placed) (s .valid) i k w i< k≤ new enough some-node ps cs plan
+        (grow-long (s .n) l os (s .placed) (s .valid) i k w i< k≤ new enough some-node ps cs plan
+        (link-long (s .n) l os (s .placed) (s .valid) i k w i< k≤ new enough some-node ps cs plan
+        (lg₁ (s .n) l os (s .placed) (s .valid) i k w i< k≤ new enough some-node ps cs plan ws (λ m. false) freed
+        (λ u b t. refl) (λ m a e q. was-free m e)))) .len)
+        (λ p h. anchor-right (s .n) l os (s .placed) (s .valid) i k w i< k≤ new enough some-node ps cs plan ws (λ m. false)
+        freed (λ u b t. refl) (λ m a e q. was-free m e) p h .is ∙ X-anchor (s .n) l os (s .placed) l₁ enough p h)
+        (λ m f a h. node-right (s .n) l os (s .placed) (s .valid) i k w i< k≤ new enough some-node ps cs plan ws
+        (λ m. false) freed (λ u b t. refl) (λ m a e q. was-free m e) m f a h .is ∙
+        (X-at (s .n) l os (s .placed) l₁ enough m f h ∙ go f (getD os₁ m none)))
+      where
+        go : (f : ℕ) (o : Option Node) → fieldAt₁ l l₁ ν₁ o f ≡ fieldAt l₁ ν₁ o f
+        go f none = refl
+        go f (some p) = field-same (p .tier) (p .number) f
