@@ -126,7 +126,7 @@ pub fn internal_bit(w: u64) -> u64
     (w >> 1) & !w
 }
 
-// The least slot from o on whose bit is set in a mark word, or 64 if there is none.
+// The least slot from o on whose bit is set in a mark word, or any word with a bit for each slot; 64 if there is none.
 pub fn next_marked(w: u64, o: u64) -> u64
     requires { ⌜ o < slots ⌝ }
     ensures { λ r. ⌜ NextBit slots w o r ⌝ }

@@ -1,0 +1,77 @@
+use native.Mathlib.Omega.{arith}
+use Prim.Native.Nat.{_-_}
+use Rattle.tree.specs.Tree.{slots}
+use Rattle.layout.specs.Pool.{poolOf}
+use Rattle.scan.proofs.TestLaws.{yes!, no! }
+use Rattle.scan.proofs.WordLaws.{among-clear, clear-among}
+use Rattle.scan.proofs.StepLaws.{Gone, gone-start, gone-on, gone-past, gap-clear}
+use Rattle.scan.proofs.filled_ok.Statement.{statement}
+use Rattle.scan.proofs.filled_ok.Tie as tie
+
+abbrev Inv-loop : tie.InvT-loop
+Inv-loop pool n v m f j₀ j = Gone (poolOf pool) n v j
+
+abbrev μ-loop : tie.MeasureT-loop
+μ-loop pool n v m f j₀ j = slots - j
+
+all-marks-requires : tie.Need-all-marks-requires Inv-loop μ-loop
+all-marks-requires c κs = omega arith
+
+filled-slots-requires : tie.Need-filled-slots-requires Inv-loop μ-loop
+filled-slots-requires c κs = omega arith
+
+returns : tie.Need-returns Inv-loop μ-loop
+returns c = no! (λ s. c .if1 .taken (clear-among _ _ (omega arith) (omega arith)
+    (gap-clear _ _ _ _ _ (c .before .filled-slots .ensures) (c .before .before .all-marks .ensures) s)))
+
+loop-holds : tie.Need-loop-holds Inv-loop μ-loop
+loop-holds c = gone-start _ _ _
+
+next-marked-requires : tie.Need-next-marked-requires Inv-loop μ-loop
+next-marked-requires c κs = omega arith
+
+returns-2 : tie.Need-returns-2 Inv-loop μ-loop
+returns-2 c = let g = gone-past _ _ _ _ _ (c .before .before .before .before .before .filled-slots .ensures) (c .before .before .before .before .before .before .all-marks .ensures) _ _ (c .before .before .before .loop .inv)
+    (among-clear _ _ (omega arith) (c .before .before .before .before .if1 .left)) (c .before .next-marked .ensures) in
+    yes! (λ j lt. g .ok j (omega arith))
+
+step-requires : tie.Need-step-requires Inv-loop μ-loop
+step-requires c κs = let g = gone-past _ _ _ _ _ (c .before .before .before .before .before .filled-slots .ensures) (c .before .before .before .before .before .before .all-marks .ensures) _ _ (c .before .before .before .loop .inv)
+    (among-clear _ _ (omega arith) (c .before .before .before .before .if1 .left)) (c .before .next-marked .ensures) in
+    (c .before .before .before .before .before .before .before .before .pre .0, ((omega (arith, g .inside), omega arith), (c .before .before .before .before .before .before .all-marks .ensures, g .past)))
+
+returns-3 : tie.Need-returns-3 Inv-loop μ-loop
+returns-3 c = no! (c .before .step .ensures .bad (c .if3 .taken))
+
+add-j : tie.Need-add-j Inv-loop μ-loop
+add-j c = omega (arith, c .before .step .ensures .inside)
+
+loop-less : tie.Need-loop-less Inv-loop μ-loop
+loop-less c = omega (arith, c .before .step .ensures .inside, c .before .before .before .next-marked .ensures .past)
+
+loop-again : tie.Need-loop-again Inv-loop μ-loop
+loop-again c = let g = gone-past _ _ _ _ _ (c .before .before .before .before .before .before .before .filled-slots .ensures) (c .before .before .before .before .before .before .before .before .all-marks .ensures) _ _ (c .before .before .before .before .before .loop .inv)
+    (among-clear _ _ (omega arith) (c .before .before .before .before .before .before .if1 .left)) (c .before .before .before .next-marked .ensures) in
+    gone-on _ _ _ _ _ g (c .before .step .ensures) (c .if3 .left)
+
+returns-4 : tie.Need-returns-4 Inv-loop μ-loop
+returns-4 c = let L = c .before .loop in yes! (λ j lt. L .inv .ok j (omega (arith, L .inv .inside)))
+
+pub filled-ok-spec : {M : Type 1} → statement M
+filled-ok-spec =
+    tie.close
+    (tie.spec
+    Inv-loop
+    μ-loop
+    all-marks-requires
+    filled-slots-requires
+    returns
+    loop-holds
+    next-marked-requires
+    returns-2
+    step-requires
+    returns-3
+    add-j
+    loop-less
+    loop-again
+    returns-4)
