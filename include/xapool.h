@@ -1,12 +1,28 @@
 /* xapool.h: entries kept by 64-bit index in a pool of words that the host lends.
  *
  * The library has no memory of its own and keeps nothing between two calls: all state is in the
- * pool. A pool may be moved, saved and loaded: it has no addresses in it. Two calls
- * at the same time must not share a pool, and no two buffers of one call may overlap.
+ * pool. A pool may be moved, saved and loaded: it has no addresses in it.
  *
  * An entry is a 64-bit word: odd (value v is the word 2v + 1), or a multiple of 4 above 0 (a handle,
  * never followed). It has an order k, 0 to 63, and covers the 2^k indices from a base that is a
  * multiple of 2^k. It has three marks, together a byte: mark m is worth 2^m.
+ *
+ * What a host must know:
+ *
+ * Platform   x86-64 Linux. libxapool.a is position-independent, so it can go into a shared library;
+ *            of other libraries it needs memset alone. It never allocates.
+ * Alignment  a pool begins at a multiple of 8, as any array of uint64_t does. Batch and reply may
+ *            begin anywhere.
+ * NULL       with length 0 any pointer may be NULL: an empty batch and no reply space are fine, a
+ *            pool of no words is refused with 1.
+ * Stack      a call needs less than 8 KiB of it, whatever the pool holds.
+ * Threads    calls on different pools may run at the same time. Two calls at the same time must not
+ *            share a pool, not even for finds, and no two buffers of one call may overlap.
+ * Time       each run checks the whole pool first, so many commands in one batch are far cheaper
+ *            than one command in each of many.
+ * Power cut  a run writes word by word and is not atomic: a pool in a mapped file that loses power
+ *            in mid-run may be lost. Where that matters, run on a copy and put the copy in place
+ *            when it is on disk, as the tool 'xabatch run' does.
  */
 #ifndef XAPOOL_H
 #define XAPOOL_H
@@ -17,6 +33,13 @@
 #ifdef __cplusplus
 extern "C" {
 #endif
+
+/* ---- Version ---- */
+
+#define XAPOOL_VERSION_MAJOR 0
+#define XAPOOL_VERSION_MINOR 2
+#define XAPOOL_VERSION_PATCH 0
+#define XAPOOL_VERSION "0.2.0"
 
 /* ---- Limits ---- */
 
@@ -38,8 +61,9 @@ extern "C" {
 /* The bytes of the replies to c commands. */
 #define XAPOOL_REPLIES(c) (XAPOOL_REPLY_BYTES * (c))
 
-/* The word of value v, v from 0 to 2^63 - 1. */
-#define XAPOOL_VALUE(v) (2 * (uint64_t)(v) + 1)
+/* The word of value v, v from 0 to 2^63 - 1; and the value of an odd word. */
+#define XAPOOL_VALUE(v) (UINT64_C(2) * (v) + 1)
+#define XAPOOL_VALUE_OF(word) ((word) / 2)
 
 /* ---- Answers ----
  *
@@ -148,6 +172,209 @@ xapool_result xapool_run(uint64_t *pool, size_t pool_words,
 /* How many commands a batch has, by itself: 0 and their number, or 3 and the place of its first bad
  * record, as a run would say. It looks at no pool. */
 xapool_result xapool_count(const uint8_t *batch, size_t batch_bytes);
+
+/* ---- Building a batch ----
+ *
+ *     uint8_t bytes[XAPOOL_BATCH_BYTES];
+ *     xapool_batch batch = xapool_batch_over(bytes, sizeof bytes);
+ *     xapool_put_store(&batch, 64, 0, XAPOOL_VALUE(2));
+ *     xapool_put_load(&batch, 64);
+ *     xapool_run(pool, XAPOOL_WORDS(40), batch.bytes, batch.used, reply, sizeof reply);
+ *
+ * Each xapool_put gives 1, or 0 if there is no room: then the batch is as it was. Run it, set used
+ * and commands to 0, and put the same command again. */
+
+typedef struct xapool_batch {
+    uint8_t *bytes;
+    size_t used;     /* bytes */
+    size_t room;     /* bytes in all, at most 8,192 */
+    size_t commands; /* so many replies of 24 bytes a run will write */
+} xapool_batch;
+
+/* An empty batch in these bytes; more than 8,192 of them are not used. */
+static inline xapool_batch xapool_batch_over(uint8_t *bytes, size_t room)
+{
+    xapool_batch batch;
+    batch.bytes = bytes;
+    batch.used = 0;
+    batch.room = room < XAPOOL_BATCH_BYTES ? room : XAPOOL_BATCH_BYTES;
+    batch.commands = 0;
+    return batch;
+}
+
+/* Casts that neither language warns of. */
+#ifdef __cplusplus
+#define XAPOOL_TO_BYTE(number) static_cast<uint8_t>((number) & 0xff)
+#define XAPOOL_TO_SHORT(number) static_cast<uint16_t>((number) & 0xffff)
+#else
+#define XAPOOL_TO_BYTE(number) ((uint8_t)((number) & 0xff))
+#define XAPOOL_TO_SHORT(number) ((uint16_t)((number) & 0xffff))
+#endif
+
+/* The lowest bytes of a number, highest first; for the functions below, which look at the room. */
+static inline void xapool_put_number(xapool_batch *batch, uint64_t number, unsigned bytes)
+{
+    while (bytes > 0) {
+        bytes--;
+        batch->bytes[batch->used] = XAPOOL_TO_BYTE(number >> (8 * bytes));
+        batch->used++;
+    }
+}
+
+/* The tag and the length of a record, if all of it has room. */
+static inline int xapool_put_tag(xapool_batch *batch, unsigned tag, unsigned record_bytes)
+{
+    if (batch->used > batch->room || batch->room - batch->used < record_bytes)
+        return 0;
+    xapool_put_number(batch, tag, 1);
+    xapool_put_number(batch, record_bytes - 3, 2);
+    batch->commands++;
+    return 1;
+}
+
+static inline int xapool_put_store(xapool_batch *batch, uint64_t index, uint8_t order, uint64_t entry)
+{
+    if (!xapool_put_tag(batch, XAPOOL_STORE, XAPOOL_STORE_BYTES))
+        return 0;
+    xapool_put_number(batch, index, 8);
+    xapool_put_number(batch, order, 1);
+    xapool_put_number(batch, entry, 8);
+    return 1;
+}
+
+static inline int xapool_put_load(xapool_batch *batch, uint64_t index)
+{
+    if (!xapool_put_tag(batch, XAPOOL_LOAD, XAPOOL_LOAD_BYTES))
+        return 0;
+    xapool_put_number(batch, index, 8);
+    return 1;
+}
+
+static inline int xapool_put_erase(xapool_batch *batch, uint64_t index)
+{
+    if (!xapool_put_tag(batch, XAPOOL_ERASE, XAPOOL_ERASE_BYTES))
+        return 0;
+    xapool_put_number(batch, index, 8);
+    return 1;
+}
+
+static inline int xapool_put_mark(xapool_batch *batch, uint64_t index, uint8_t mark)
+{
+    if (!xapool_put_tag(batch, XAPOOL_MARK, XAPOOL_MARK_BYTES))
+        return 0;
+    xapool_put_number(batch, index, 8);
+    xapool_put_number(batch, mark, 1);
+    return 1;
+}
+
+static inline int xapool_put_unmark(xapool_batch *batch, uint64_t index, uint8_t mark)
+{
+    if (!xapool_put_tag(batch, XAPOOL_UNMARK, XAPOOL_UNMARK_BYTES))
+        return 0;
+    xapool_put_number(batch, index, 8);
+    xapool_put_number(batch, mark, 1);
+    return 1;
+}
+
+static inline int xapool_put_find(xapool_batch *batch, uint64_t first, uint64_t last, uint8_t filter, uint16_t budget)
+{
+    if (!xapool_put_tag(batch, XAPOOL_FIND, XAPOOL_FIND_BYTES))
+        return 0;
+    xapool_put_number(batch, first, 8);
+    xapool_put_number(batch, last, 8);
+    xapool_put_number(batch, filter, 1);
+    xapool_put_number(batch, budget, 2);
+    return 1;
+}
+
+/* ---- Reading replies ---- */
+
+typedef struct xapool_reply {
+    uint8_t tag;    /* of the command: XAPOOL_STORE to XAPOOL_FIND */
+    uint8_t answer; /* enum xapool_answer, 0 and 5 to 13 */
+    uint8_t order;
+    uint8_t marks;
+    uint16_t count;
+    uint64_t index;
+    uint64_t entry;
+} xapool_reply;
+
+/* The big-endian number in so many bytes. */
+static inline uint64_t xapool_number_at(const uint8_t *bytes, unsigned count)
+{
+    uint64_t number = 0;
+    unsigned i;
+    for (i = 0; i < count; i++)
+        number = number << 8 | bytes[i];
+    return number;
+}
+
+/* Reads the reply to command 'number', from 0, out of the replies to a batch. Gives 0, and leaves
+ * *reply, if there is none: the bytes end before it, or are no reply. */
+static inline int xapool_read_reply(const uint8_t *replies, size_t bytes, size_t number, xapool_reply *reply)
+{
+    const uint8_t *at;
+    if (number >= bytes / XAPOOL_REPLY_BYTES)
+        return 0;
+    at = replies + XAPOOL_REPLY_BYTES * number;
+    if (at[0] < XAPOOL_REPLY + XAPOOL_STORE || at[0] > XAPOOL_REPLY + XAPOOL_FIND ||
+        xapool_number_at(at + 1, 2) != XAPOOL_REPLY_BYTES - 3 || at[XAPOOL_AT_ANSWER] > XAPOOL_PAUSED)
+        return 0;
+    reply->tag = XAPOOL_TO_BYTE(at[0] - XAPOOL_REPLY);
+    reply->answer = at[XAPOOL_AT_ANSWER];
+    reply->index = xapool_number_at(at + XAPOOL_AT_INDEX, 8);
+    reply->order = at[XAPOOL_AT_ORDER];
+    reply->entry = xapool_number_at(at + XAPOOL_AT_ENTRY, 8);
+    reply->marks = at[XAPOOL_AT_MARKS];
+    reply->count = XAPOOL_TO_SHORT(xapool_number_at(at + XAPOOL_AT_COUNT, 2));
+    return 1;
+}
+
+/* The last index that an entry covers. The one after it is not this plus 1: at 2^64 - 1 there is none. */
+static inline uint64_t xapool_last_index(uint64_t base, uint8_t order)
+{
+    return base | (order > XAPOOL_MAX_ORDER ? UINT64_MAX : (UINT64_C(1) << order) - 1);
+}
+
+/* Where a find up to 'last' goes on after this reply to it: after the run of the entry that it found,
+ * or where it paused. Gives 1 and sets *first, or 0 if there is nothing left. */
+static inline int xapool_next_first(const xapool_reply *reply, uint64_t last, uint64_t *first)
+{
+    uint64_t end;
+    if (reply->tag != XAPOOL_FIND)
+        return 0;
+    if (reply->answer == XAPOOL_PAUSED) {
+        *first = reply->index;
+        return reply->index <= last;
+    }
+    end = xapool_last_index(reply->index, reply->order);
+    if (reply->answer != XAPOOL_DONE || end >= last)
+        return 0;
+    *first = end + 1;
+    return 1;
+}
+
+/* An answer as text. */
+static inline const char *xapool_answer_text(uint64_t answer)
+{
+    switch (answer) {
+    case XAPOOL_DONE: return "done";
+    case XAPOOL_POOL_LENGTH: return "pool length is not 4 + 69 N words, N from 1 to 1,000";
+    case XAPOOL_NOT_WELL_FORMED: return "pool is not well-formed";
+    case XAPOOL_BAD_BATCH: return "batch too long, or a record is cut, of unknown tag or wrong length";
+    case XAPOOL_REPLY_SPACE: return "reply space under 24 bytes a command";
+    case XAPOOL_BAD_ORDER: return "order above 63";
+    case XAPOOL_BAD_ENTRY: return "entry is 0 or ends in binary 10";
+    case XAPOOL_BAD_MARK: return "mark above 2 or filter above 3";
+    case XAPOOL_FIRST_ABOVE_LAST: return "first above last";
+    case XAPOOL_NO_BUDGET: return "budget 0";
+    case XAPOOL_ABSENT: return "nothing covers the index";
+    case XAPOOL_TOO_FEW_NODES: return "too few free nodes";
+    case XAPOOL_ENDED: return "ended";
+    case XAPOOL_PAUSED: return "paused";
+    default: return "no answer of this library";
+    }
+}
 
 #ifdef __cplusplus
 }

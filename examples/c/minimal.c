@@ -3,10 +3,16 @@
 int main(void)
 {
     static uint64_t pool[XAPOOL_WORDS(40)];
-    const uint8_t batch[] = { XAPOOL_STORE, 0, 17, 0, 0, 0, 0, 0, 0, 0, 64, 0, 0, 0, 0, 0, 0, 0, 0, 5,
-                              XAPOOL_LOAD, 0, 8, 0, 0, 0, 0, 0, 0, 0, 64 };
-    uint8_t reply[XAPOOL_REPLIES(2)];
+    uint8_t bytes[XAPOOL_BATCH_BYTES], replies[XAPOOL_REPLIES(2)];
+    xapool_batch batch = xapool_batch_over(bytes, sizeof bytes);
+    xapool_put_store(&batch, 64, 3, XAPOOL_VALUE(2));
+    xapool_put_load(&batch, 70);
     xapool_init(pool, XAPOOL_WORDS(40));
-    xapool_result r = xapool_run(pool, XAPOOL_WORDS(40), batch, sizeof batch, reply, sizeof reply);
-    return printf("answer %d, loaded word %d\n", (int)r.answer, reply[24 + XAPOOL_AT_ENTRY + 7]) < 0;
+    xapool_result r = xapool_run(pool, XAPOOL_WORDS(40), bytes, batch.used, replies, sizeof replies);
+    xapool_reply load;
+    if (r.answer != XAPOOL_DONE || !xapool_read_reply(replies, sizeof replies, 1, &load))
+        return 1;
+    printf("%s: value %d at %d, order %d\n", xapool_answer_text(load.answer), (int)XAPOOL_VALUE_OF(load.entry),
+           (int)load.index, load.order);
+    return 0;
 }

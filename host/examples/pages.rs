@@ -2,36 +2,34 @@
 //! time, as a host that must not block would do it.
 
 use std::error::Error;
-use xapool_host::{Answer, BatchBuilder, Command, Pool, Word};
+use xapool_host::{Command, Pool, Word};
 
 const DIRTY: u8 = 0;
 
 fn main() -> Result<(), Box<dyn Error>> {
     let mut pool = Pool::new(40)?;
-    let mut batch = BatchBuilder::new();
-    for page in [3, 70, 71, 5000] {
-        batch.push(Command::Store { index: page, order: 0, word: Word(0x1000 + 4 * page) })?;
-    }
-    batch.push(Command::Mark { index: 70, mark: DIRTY })?;
-    batch.push(Command::Mark { index: 5000, mark: DIRTY })?;
-    for reply in &pool.run(&batch)? {
+    let page = |index: u64, order| -> Result<Command, Box<dyn Error>> {
+        let word = Word::handle(0x1000 + 4 * (index % 0x1000))?;
+        Ok(Command::Store { index, order, word })
+    };
+    let dirty = |index| Command::Mark { index, mark: DIRTY };
+    let replies = pool.run_all([
+        page(3, 0)?,
+        page(70, 0)?,
+        page(71, 0)?,
+        page(5000, 3)?, // eight pages as one entry
+        page(u64::MAX, 0)?,
+        dirty(70),
+        dirty(5001),
+        dirty(u64::MAX),
+    ])?;
+    for reply in &replies {
         println!("{reply}");
+        reply.done()?;
     }
-    print_dirty(&mut pool)
-}
-
-fn print_dirty(pool: &mut Pool) -> Result<(), Box<dyn Error>> {
-    let mut first = 0;
-    loop {
-        let mut batch = BatchBuilder::new();
-        batch.push(Command::Find { first, last: u64::MAX, filter: DIRTY, budget: 100 })?;
-        for reply in &pool.run(&batch)? {
-            println!("{reply}");
-            first = match reply.answer {
-                Answer::Done => reply.index + 1,
-                Answer::Paused => reply.index,
-                _ => return Ok(()),
-            };
-        }
+    for entry in pool.find(.., DIRTY).with_budget(20).with_batch(4) {
+        let entry = entry?;
+        println!("dirty: {} to {}, {}", entry.base, entry.last(), entry.word);
     }
+    Ok(())
 }

@@ -3,23 +3,39 @@
 use crate::raw::RawResult;
 use std::fmt;
 
-/// The answer of a call (0 to 4) or in a reply (0 and 5 to 13).
+/// The answer of a call (0 to 4) or in a reply (0 and 5 to 13). As an error it is what a command was
+/// answered in place of `Done`: see [`Reply::done`](crate::Reply::done).
 #[derive(Clone, Copy, Debug, PartialEq, Eq, Hash, PartialOrd, Ord)]
 #[repr(u8)]
+#[must_use]
 pub enum Answer {
+    /// It is done.
     Done = 0,
+    /// Call: the pool's length is not 4 + 69 N words with N from 1 to 1,000.
     PoolLength = 1,
+    /// Call: the words are not those of a pool.
     NotWellFormed = 2,
+    /// Call: the batch is too long, or a record is cut, of unknown tag or of wrong length.
     BadBatch = 3,
+    /// Call: under 24 bytes of reply space a command.
     ReplySpace = 4,
+    /// Store: the order is above 63.
     BadOrder = 5,
+    /// Store: the word is 0 or ends in binary 10.
     BadEntry = 6,
+    /// Mark, unmark: the mark is above 2. Find: the filter is above 3.
     BadMark = 7,
+    /// Find: first is above last.
     FirstAboveLast = 8,
+    /// Find: the budget is 0.
     NoBudget = 9,
+    /// Load, erase, mark, unmark: nothing covers the index.
     Absent = 10,
+    /// Store: it needs more nodes than are free; nothing is stored.
     TooFewNodes = 11,
+    /// Find: nothing more to find.
     Ended = 12,
+    /// Find: the budget is used up.
     Paused = 13,
 }
 
@@ -42,10 +58,13 @@ impl Answer {
         Answer::Paused,
     ];
 
+    /// The answer of this number, if there is one.
     pub fn from_number(number: u64) -> Option<Answer> {
         Answer::ALL.get(usize::try_from(number).ok()?).copied()
     }
 
+    /// Its number, 0 to 13.
+    #[must_use]
     pub fn number(self) -> u8 {
         self as u8
     }
@@ -78,6 +97,8 @@ impl fmt::Display for Answer {
     }
 }
 
+impl std::error::Error for Answer {}
+
 /// A call that was refused: nothing ran, pool and replies are as they were.
 #[derive(Clone, Copy, Debug, PartialEq, Eq)]
 pub enum Refusal {
@@ -87,11 +108,22 @@ pub enum Refusal {
     NotWellFormed,
     /// The first record that is cut, of unknown tag or of wrong length begins at this place;
     /// 8,192 if the batch is too long.
-    BadBatch { place: u64 },
+    BadBatch {
+        /// The place of its first byte, from 0.
+        place: u64,
+    },
     /// So many commands need 24 bytes each for their replies.
-    ReplySpace { commands: u64 },
+    ReplySpace {
+        /// The commands of the batch.
+        commands: u64,
+    },
     /// The library gave what it never gives. Is it the right library?
-    Unexpected { answer: u64, number: u64 },
+    Unexpected {
+        /// What it gave as answer.
+        answer: u64,
+        /// What it gave as number.
+        number: u64,
+    },
 }
 
 impl Refusal {
@@ -137,3 +169,36 @@ impl fmt::Display for Refusal {
 }
 
 impl std::error::Error for Refusal {}
+
+/// Why work of several commands stopped: a call was refused, or a command was answered with
+/// something that ends the work.
+#[derive(Clone, Copy, Debug, PartialEq, Eq)]
+pub enum Error {
+    /// A call was refused; what earlier calls did stands.
+    Refused(Refusal),
+    /// A command was answered with this.
+    Answered(Answer),
+}
+
+impl fmt::Display for Error {
+    fn fmt(&self, f: &mut fmt::Formatter) -> fmt::Result {
+        match self {
+            Error::Refused(refusal) => refusal.fmt(f),
+            Error::Answered(answer) => answer.fmt(f),
+        }
+    }
+}
+
+impl std::error::Error for Error {}
+
+impl From<Refusal> for Error {
+    fn from(refusal: Refusal) -> Error {
+        Error::Refused(refusal)
+    }
+}
+
+impl From<Answer> for Error {
+    fn from(answer: Answer) -> Error {
+        Error::Answered(answer)
+    }
+}

@@ -5,9 +5,11 @@ use crate::command::Command;
 use crate::raw;
 use std::fmt;
 
+/// A batch has at most so many bytes.
 pub const MOST_BATCH_BYTES: usize = 8192;
 
-/// Gathers commands into the bytes of one batch, and refuses what would make it too long.
+/// Gathers commands into the bytes of one batch, and refuses what would make it too long;
+/// [`Batches`] takes any number.
 #[derive(Clone, Debug, Default, PartialEq, Eq)]
 pub struct BatchBuilder {
     bytes: Vec<u8>,
@@ -27,6 +29,8 @@ impl fmt::Display for BatchFull {
 impl std::error::Error for BatchFull {}
 
 impl BatchBuilder {
+    /// An empty batch.
+    #[must_use]
     pub fn new() -> BatchBuilder {
         BatchBuilder::default()
     }
@@ -42,28 +46,36 @@ impl BatchBuilder {
     }
 
     /// How many bytes may still come.
+    #[must_use]
     pub fn room(&self) -> usize {
         MOST_BATCH_BYTES.saturating_sub(self.bytes.len())
     }
 
+    /// The batch as the library takes it.
+    #[must_use]
     pub fn bytes(&self) -> &[u8] {
         &self.bytes
     }
 
     /// How many commands were pushed.
+    #[must_use]
     pub fn len(&self) -> usize {
         self.commands
     }
 
+    /// Whether there is no command in it.
+    #[must_use]
     pub fn is_empty(&self) -> bool {
         self.commands == 0
     }
 
+    /// Takes all commands out, to begin the next batch.
     pub fn clear(&mut self) {
         self.bytes.clear();
         self.commands = 0;
     }
 
+    /// Its commands in order.
     pub fn commands(&self) -> Commands<'_> {
         Commands::of(&self.bytes)
     }
@@ -71,6 +83,7 @@ impl BatchBuilder {
 
 /// The commands of a batch in order, or the place of the first bad record; then it ends.
 #[derive(Clone, Debug)]
+#[must_use = "an iterator does nothing until it is asked"]
 pub struct Commands<'a> {
     bytes: &'a [u8],
     place: usize,
@@ -79,6 +92,7 @@ pub struct Commands<'a> {
 /// A record that is cut, of unknown tag or of wrong length, with the place of its first byte.
 #[derive(Clone, Copy, Debug, PartialEq, Eq)]
 pub struct BadBatch {
+    /// The place of its first byte, from 0.
     pub place: usize,
 }
 
@@ -97,6 +111,7 @@ impl<'a> Commands<'a> {
     }
 
     /// The bytes not yet read.
+    #[must_use]
     pub fn rest(&self) -> &'a [u8] {
         self.bytes.get(self.place..).unwrap_or_default()
     }
@@ -121,6 +136,83 @@ impl Iterator for Commands<'_> {
                 Some(Err(BadBatch { place }))
             }
         }
+    }
+}
+
+/// Cuts a row of records of any length, between records, into batches that are each as long as may
+/// be. One batch, whatever its bytes are, is left as it is for the library to judge; in a longer row
+/// the first bad record is a refusal.
+pub fn split_batches(records: &[u8]) -> Result<Vec<&[u8]>, Refusal> {
+    if records.len() <= MOST_BATCH_BYTES {
+        return Ok(vec![records]);
+    }
+    let (mut batches, mut start, mut end) = (Vec::new(), 0, 0);
+    for command in Commands::of(records) {
+        let command = command.map_err(|bad| Refusal::BadBatch { place: bad.place as u64 })?;
+        let next = end + command.tag().record_bytes();
+        if next - start > MOST_BATCH_BYTES {
+            batches.push(&records[start..end]);
+            start = end;
+        }
+        end = next;
+    }
+    batches.push(&records[start..]);
+    Ok(batches)
+}
+
+/// Any number of commands, in batches that are each as long as may be.
+#[derive(Clone, Debug, Default, PartialEq, Eq)]
+pub struct Batches {
+    batches: Vec<BatchBuilder>,
+}
+
+impl Batches {
+    /// The batches in order.
+    pub fn iter(&self) -> std::slice::Iter<'_, BatchBuilder> {
+        self.batches.iter()
+    }
+
+    /// How many batches there are.
+    #[must_use]
+    pub fn len(&self) -> usize {
+        self.batches.len()
+    }
+
+    /// Whether there is no command at all.
+    #[must_use]
+    pub fn is_empty(&self) -> bool {
+        self.batches.is_empty()
+    }
+}
+
+impl Extend<Command> for Batches {
+    fn extend<T: IntoIterator<Item = Command>>(&mut self, commands: T) {
+        for command in commands {
+            let pushed = self.batches.last_mut().is_some_and(|last| last.push(command).is_ok());
+            if !pushed {
+                let mut batch = BatchBuilder::new();
+                // An empty batch has room for any command.
+                let _ = batch.push(command);
+                self.batches.push(batch);
+            }
+        }
+    }
+}
+
+impl FromIterator<Command> for Batches {
+    fn from_iter<T: IntoIterator<Item = Command>>(commands: T) -> Batches {
+        let mut batches = Batches::default();
+        batches.extend(commands);
+        batches
+    }
+}
+
+impl<'a> IntoIterator for &'a Batches {
+    type Item = &'a BatchBuilder;
+    type IntoIter = std::slice::Iter<'a, BatchBuilder>;
+
+    fn into_iter(self) -> Self::IntoIter {
+        self.iter()
     }
 }
 

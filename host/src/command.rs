@@ -3,6 +3,7 @@
 use crate::word::Word;
 use std::fmt;
 
+/// The highest order of an entry.
 pub const MOST_ORDER: u8 = 63;
 
 /// The filter of a find that takes any entry; 0, 1 and 2 take entries with that mark.
@@ -12,27 +13,39 @@ pub const FIND_ANY: u8 = 3;
 #[derive(Clone, Copy, Debug, PartialEq, Eq, Hash)]
 #[repr(u8)]
 pub enum Tag {
+    /// Stores an entry.
     Store = 1,
+    /// Gives the entry over an index.
     Load = 2,
+    /// Takes the entry over an index out.
     Erase = 3,
+    /// Sets a mark of the entry over an index.
     Mark = 4,
+    /// Clears a mark of the entry over an index.
     Unmark = 5,
+    /// Gives the first entry in a range.
     Find = 6,
 }
 
 impl Tag {
+    /// All kinds, in the order of their tags.
     pub const ALL: [Tag; 6] =
         [Tag::Store, Tag::Load, Tag::Erase, Tag::Mark, Tag::Unmark, Tag::Find];
 
+    /// The kind of this tag, if there is one.
+    #[must_use]
     pub fn from_byte(byte: u8) -> Option<Tag> {
         Tag::ALL.get(usize::from(byte.checked_sub(1)?)).copied()
     }
 
+    /// Its tag, 1 to 6.
+    #[must_use]
     pub fn byte(self) -> u8 {
         self as u8
     }
 
     /// The bytes of the fields of this command.
+    #[must_use]
     pub fn field_bytes(self) -> u8 {
         match self {
             Tag::Store => 17,
@@ -43,6 +56,7 @@ impl Tag {
     }
 
     /// The bytes of the whole record.
+    #[must_use]
     pub fn record_bytes(self) -> usize {
         3 + usize::from(self.field_bytes())
     }
@@ -65,36 +79,57 @@ impl fmt::Display for Tag {
 /// (order above 63, a word that is no entry, mark above 2, filter above 3).
 #[derive(Clone, Copy, Debug, PartialEq, Eq, Hash)]
 pub enum Command {
-    /// One entry over the 2^order indices around the index.
+    /// One entry over the 2^order indices around the index, with the marks of what it replaces. Where
+    /// an entry of that order or more covers them, only that entry's word is replaced: the reply's
+    /// index and order say what was changed.
     Store {
+        /// Any index of the run.
         index: u64,
+        /// 0 to 63: the run has 2^order indices.
         order: u8,
+        /// What is kept there.
         word: Word,
     },
+    /// The entry over the index.
     Load {
+        /// Any index of its run.
         index: u64,
     },
+    /// Takes the whole entry over the index out.
     Erase {
+        /// Any index of its run.
         index: u64,
     },
+    /// Sets a mark of the whole entry over the index.
     Mark {
+        /// Any index of its run.
         index: u64,
+        /// 0, 1 or 2.
         mark: u8,
     },
+    /// Clears a mark of the whole entry over the index.
     Unmark {
+        /// Any index of its run.
         index: u64,
+        /// 0, 1 or 2.
         mark: u8,
     },
-    /// The first entry that meets first to last; `filter` is a mark or [`FIND_ANY`].
+    /// The first entry that meets first to last. [`Pool::find`](crate::Pool::find) goes through all.
     Find {
+        /// Where it begins.
         first: u64,
+        /// The last index, included.
         last: u64,
+        /// A mark that the entry must have, or [`FIND_ANY`].
         filter: u8,
+        /// How many steps it may go, at least 1.
         budget: u16,
     },
 }
 
 impl Command {
+    /// Its kind.
+    #[must_use]
     pub fn tag(self) -> Tag {
         match self {
             Command::Store { .. } => Tag::Store,
@@ -133,6 +168,7 @@ impl Command {
 
     /// The command whose record stands at the start of the bytes; none if it is cut, of unknown
     /// tag or of wrong length.
+    #[must_use]
     pub fn read(bytes: &[u8]) -> Option<Command> {
         let tag = Tag::from_byte(*bytes.first()?)?;
         if bytes.get(1..3)? != [0, tag.field_bytes()] {

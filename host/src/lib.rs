@@ -2,25 +2,32 @@
 //! `libxapool.a`.
 //!
 //! ```
-//! use xapool_host::{BatchBuilder, Command, Pool, Word};
+//! use xapool_host::{Command, Pool, Word, FIND_ANY};
 //!
 //! let mut pool = Pool::new(40)?;
-//! let mut batch = BatchBuilder::new();
-//! batch.push(Command::Store { index: 64, order: 0, word: Word::value(2)? })?;
-//! batch.push(Command::Load { index: 64 })?;
-//! for reply in &pool.run(&batch)? {
-//!     println!("{reply}");
+//! let replies = pool.run_all([
+//!     Command::Store { index: 64, order: 3, word: Word::value(2)? },
+//!     Command::Load { index: 70 },
+//! ])?;
+//! assert_eq!(replies[1].done()?.base, 64);
+//! for entry in pool.find(.., FIND_ANY) {
+//!     println!("{:?}", entry?);
 //! }
 //! # Ok::<(), Box<dyn std::error::Error>>(())
 //! ```
 //!
-//! A [`Pool`] owns or borrows its words and runs batches of [`Command`]s, gathered by a
-//! [`BatchBuilder`]; each command has one [`Reply`]. A call that the library refuses is a
-//! [`Refusal`]. No input makes anything here panic; `unsafe` is in [`raw`] alone.
+//! A [`Pool`] owns or borrows its words and runs [`Command`]s: [`Pool::run_all`] any number,
+//! [`Pool::run`] one batch that a [`BatchBuilder`] gathered, [`Pool::find`] the finds that go through
+//! a range. Each command has one [`Reply`], whose [`Answer`] says whether it was done. A call that the
+//! library refuses is a [`Refusal`]: nothing ran. Nothing here panics, whatever it is given, but for
+//! an index past the end of [`Replies`]; `unsafe` is in [`raw`] alone.
+
+#![deny(missing_docs)]
 
 mod answer;
 mod batch;
 mod command;
+mod find;
 mod pool;
 pub mod raw;
 mod reply;
@@ -28,9 +35,20 @@ mod reply;
 mod tests;
 mod word;
 
-pub use answer::{Answer, Refusal};
-pub use batch::{count_commands, BadBatch, BatchBuilder, BatchFull, Commands, MOST_BATCH_BYTES};
+pub use answer::{Answer, Error, Refusal};
+pub use batch::{
+    count_commands, split_batches, BadBatch, BatchBuilder, BatchFull, Batches, Commands,
+    MOST_BATCH_BYTES,
+};
 pub use command::{Command, Tag, FIND_ANY, MOST_ORDER};
-pub use pool::{node_count, pool_words, Pool, MOST_NODES};
-pub use reply::{BadRecord, Entry, Marks, Record, Records, Replies, Reply, REPLY_BYTES};
-pub use word::{Kind, TooLarge, Word};
+pub use find::{Finds, MOST_FINDS};
+pub use pool::{bytes_of_words, node_count, pool_words, words_of_bytes, Pool, MOST_NODES};
+pub use reply::{
+    BadRecord, Entry, Marks, ProgramError, Record, Records, Replies, Reply, REPLY_BYTES,
+};
+pub use word::{Kind, NotAHandle, TooLarge, Word};
+
+/// The Rust blocks of docs/HOST.md are run as tests.
+#[cfg(doctest)]
+#[doc = include_str!("../../docs/HOST.md")]
+struct HostPage;

@@ -1,23 +1,43 @@
 //! A pool that owns or borrows its words.
 
 use crate::answer::{Answer, Refusal};
-use crate::batch::BatchBuilder;
+use crate::batch::{BatchBuilder, Batches};
+use crate::command::Command;
+use crate::find::Finds;
 use crate::raw;
 use crate::reply::{Replies, REPLY_BYTES};
+use std::ops::RangeBounds;
 
+/// A pool has at most so many nodes.
 pub const MOST_NODES: usize = 1000;
 const ANCHOR_WORDS: usize = 4;
 const NODE_WORDS: usize = 69;
 
 /// The words of a pool of this many nodes; none unless they are 1 to 1,000.
+#[must_use]
 pub fn pool_words(nodes: usize) -> Option<usize> {
     (1..=MOST_NODES).contains(&nodes).then(|| ANCHOR_WORDS + NODE_WORDS * nodes)
 }
 
 /// The nodes of a pool of this many words; none if no pool has so many.
+#[must_use]
 pub fn node_count(words: usize) -> Option<usize> {
     let nodes = words.checked_sub(ANCHOR_WORDS)? / NODE_WORDS;
     (pool_words(nodes) == Some(words)).then_some(nodes)
+}
+
+/// Words as they are saved: in order, each as 8 bytes, lowest byte first.
+#[must_use]
+pub fn bytes_of_words(words: &[u64]) -> Vec<u8> {
+    words.iter().flat_map(|word| word.to_le_bytes()).collect()
+}
+
+/// The words that were saved so; none if the last one is not whole.
+#[must_use]
+pub fn words_of_bytes(bytes: &[u8]) -> Option<Vec<u64>> {
+    let words = bytes.chunks_exact(8);
+    let word = |bytes: &[u8]| bytes.iter().rev().fold(0, |word, byte| word << 8 | u64::from(*byte));
+    words.remainder().is_empty().then(|| words.map(word).collect())
 }
 
 #[derive(Debug)]
@@ -32,6 +52,13 @@ pub struct Pool<'a> {
     words: Words<'a>,
 }
 
+/// A copy that owns its words, whether or not the pool does.
+impl Clone for Pool<'_> {
+    fn clone(&self) -> Self {
+        Pool { words: Words::Owned(self.words().to_vec()) }
+    }
+}
+
 impl Pool<'static> {
     /// An empty pool of 1 to 1,000 nodes that owns its words.
     pub fn new(nodes: usize) -> Result<Pool<'static>, Refusal> {
@@ -41,9 +68,18 @@ impl Pool<'static> {
         Ok(pool)
     }
 
-    /// Words that were a pool before, as read from a file. Nothing is checked here.
+    /// Words that were a pool before. Nothing is checked here.
+    #[must_use]
     pub fn from_words(words: Vec<u64>) -> Pool<'static> {
         Pool { words: Words::Owned(words) }
+    }
+
+    /// The pool that [`Pool::to_bytes`] saved, checked. The check knows the structure, not what was
+    /// stored: keep a checksum of a saved pool.
+    pub fn from_bytes(bytes: &[u8]) -> Result<Pool<'static>, Refusal> {
+        let pool = Pool::from_words(words_of_bytes(bytes).ok_or(Refusal::PoolLength)?);
+        pool.check()?;
+        Ok(pool)
     }
 }
 
@@ -75,6 +111,42 @@ impl<'a> Pool<'a> {
         })
     }
 
+    /// Runs any number of commands, as many batches as they need, and gives all replies. Nothing ran
+    /// if it is refused: only the pool can be at fault, and the first batch tells that.
+    pub fn run_all<T>(&mut self, commands: T) -> Result<Replies, Refusal>
+    where
+        T: IntoIterator<Item = Command>,
+    {
+        let batches: Batches = commands.into_iter().collect();
+        if batches.is_empty() {
+            self.check()?;
+        }
+        let mut replies = Replies::default();
+        for batch in &batches {
+            replies.append(self.run(batch)?);
+        }
+        Ok(replies)
+    }
+
+    /// Every entry that meets the range and has the mark `filter`, or any with
+    /// [`FIND_ANY`](crate::FIND_ANY), in index order, each once.
+    ///
+    /// ```
+    /// # use xapool_host::{Command, Pool, Word, FIND_ANY};
+    /// # let mut pool = Pool::new(40)?;
+    /// pool.run_all([
+    ///     Command::Store { index: 8, order: 3, word: Word::value(1)? },
+    ///     Command::Store { index: u64::MAX, order: 0, word: Word::value(2)? },
+    /// ])?;
+    /// for entry in pool.find(.., FIND_ANY) {
+    ///     println!("{}", entry?.base);
+    /// }
+    /// # Ok::<(), Box<dyn std::error::Error>>(())
+    /// ```
+    pub fn find(&mut self, range: impl RangeBounds<u64>, filter: u8) -> Finds<'_, 'a> {
+        Finds::new(self, range, filter)
+    }
+
     /// Runs the bytes of a batch, whatever they are, into this reply space; gives how many
     /// commands ran, each with 24 bytes of replies.
     pub fn run_bytes(&mut self, batch: &[u8], reply: &mut [u8]) -> Result<usize, Refusal> {
@@ -84,6 +156,27 @@ impl<'a> Pool<'a> {
         fits.ok_or(Refusal::Unexpected { answer: 0, number: commands })
     }
 
+    /// How many nodes it has; none if no pool has so many words.
+    #[must_use]
+    pub fn nodes(&self) -> Option<usize> {
+        node_count(self.words().len())
+    }
+
+    /// How many of its nodes are in use: a free node is all zeros. A store needs at most 21 free ones.
+    #[must_use]
+    pub fn nodes_in_use(&self) -> usize {
+        let nodes = self.words().get(ANCHOR_WORDS..).unwrap_or_default().chunks(NODE_WORDS);
+        nodes.filter(|node| node.iter().any(|word| *word != 0)).count()
+    }
+
+    /// The pool as bytes, to be saved: its words in order, each lowest byte first.
+    #[must_use]
+    pub fn to_bytes(&self) -> Vec<u8> {
+        bytes_of_words(self.words())
+    }
+
+    /// Its words: the anchor's 4, then 69 for each node.
+    #[must_use]
     pub fn words(&self) -> &[u64] {
         match &self.words {
             Words::Owned(words) => words,
@@ -100,6 +193,7 @@ impl<'a> Pool<'a> {
     }
 
     /// The words, copied if they are borrowed.
+    #[must_use]
     pub fn into_words(self) -> Vec<u64> {
         match self.words {
             Words::Owned(words) => words,

@@ -3,8 +3,11 @@
 /// What a call gives: the answer, and a number that depends on it.
 #[repr(C)]
 #[derive(Clone, Copy, Debug, PartialEq, Eq)]
+#[must_use]
 pub struct RawResult {
+    /// 0 done, 1 to 4 refused.
     pub answer: u64,
+    /// Commands, or the place of a bad record; see [`Refusal`](crate::Refusal).
     pub number: u64,
 }
 

@@ -1,10 +1,12 @@
 //! Replies: 24 bytes for each command; and the record of a refused call.
 
 use crate::answer::Answer;
-use crate::command::{number, short, Index, Tag};
+use crate::command::{number, short, Index as Position, Tag};
 use crate::word::Word;
 use std::fmt;
+use std::ops::Index;
 
+/// Each command's reply has exactly so many bytes.
 pub const REPLY_BYTES: usize = 24;
 const REPLY_FIELDS: u16 = 21;
 const REPLY_TAG: u8 = 128;
@@ -17,6 +19,8 @@ const REFUSAL_FIELDS: u16 = 3;
 pub struct Marks(pub u8);
 
 impl Marks {
+    /// Whether this mark is set.
+    #[must_use]
     pub fn has(self, mark: u8) -> bool {
         mark < 8 && self.0 >> mark & 1 == 1
     }
@@ -34,20 +38,51 @@ impl fmt::Display for Marks {
 /// An entry as a reply gives it.
 #[derive(Clone, Copy, Debug, PartialEq, Eq)]
 pub struct Entry {
+    /// The first index that it covers.
     pub base: u64,
+    /// It covers 2^order indices.
     pub order: u8,
+    /// What is kept there.
     pub word: Word,
+    /// The marks that it has.
     pub marks: Marks,
+}
+
+impl Entry {
+    /// The last index that it covers.
+    #[must_use]
+    pub fn last(self) -> u64 {
+        let run = 1u64.checked_shl(self.order.into());
+        self.base | run.map_or(u64::MAX, |run| run - 1)
+    }
+
+    /// The index after its run, where a search goes on; none if the run ends at 2^64 - 1.
+    #[must_use]
+    pub fn after(self) -> Option<u64> {
+        self.last().checked_add(1)
+    }
+
+    /// Whether its run has this index.
+    #[must_use]
+    pub fn covers(self, index: u64) -> bool {
+        (self.base..=self.last()).contains(&index)
+    }
 }
 
 /// A reply as it stands in its 24 bytes; what a command does not give is zero.
 #[derive(Clone, Copy, Debug, PartialEq, Eq)]
 pub struct Reply {
+    /// The kind of the command.
     pub tag: Tag,
+    /// How it was answered.
     pub answer: Answer,
+    /// The entry's base; the position of a find that paused.
     pub index: u64,
+    /// The entry's order.
     pub order: u8,
+    /// The entry's word.
     pub word: Word,
+    /// The entry's marks.
     pub marks: Marks,
     /// Load: how many nodes' blocks contain the index. Find: its steps. Else 0.
     pub count: u16,
@@ -55,6 +90,7 @@ pub struct Reply {
 
 impl Reply {
     /// The reply at the start of the bytes; none if they do not begin with one.
+    #[must_use]
     pub fn read(bytes: &[u8]) -> Option<Reply> {
         let tag = Tag::from_byte(bytes.first()?.checked_sub(REPLY_TAG)?)?;
         if short(bytes, 1)? != REPLY_FIELDS {
@@ -71,6 +107,8 @@ impl Reply {
         })
     }
 
+    /// The reply as the library writes it.
+    #[must_use]
     pub fn bytes(self) -> [u8; REPLY_BYTES] {
         let mut bytes = [0; REPLY_BYTES];
         bytes[0] = self.tag.byte() + REPLY_TAG;
@@ -85,12 +123,34 @@ impl Reply {
     }
 
     /// The entry it gives, where the answer is `Done`.
+    #[must_use]
     pub fn entry(self) -> Option<Entry> {
-        let Reply { index, order, word, marks, .. } = self;
-        (self.answer == Answer::Done).then_some(Entry { base: index, order, word, marks })
+        self.done().ok()
+    }
+
+    /// The entry it gives, or the answer that it has in place of `Done`.
+    pub fn done(self) -> Result<Entry, Answer> {
+        let Reply { index, order, word, marks, answer, .. } = self;
+        match answer {
+            Answer::Done => Ok(Entry { base: index, order, word, marks }),
+            answer => Err(answer),
+        }
+    }
+
+    /// Where a find up to `last` goes on: after the run that it found, or where it paused; none if
+    /// there is nothing left. [`Pool::find`](crate::Pool::find) does this for you.
+    #[must_use]
+    pub fn next_first(self, last: u64) -> Option<u64> {
+        let next = match self.answer {
+            Answer::Done => self.entry()?.after()?,
+            Answer::Paused => self.index,
+            _ => return None,
+        };
+        (self.tag == Tag::Find && next <= last).then_some(next)
     }
 
     /// Where a paused find goes on.
+    #[must_use]
     pub fn paused_at(self) -> Option<u64> {
         (self.answer == Answer::Paused).then_some(self.index)
     }
@@ -101,10 +161,10 @@ impl fmt::Display for Reply {
     fn fmt(&self, f: &mut fmt::Formatter) -> fmt::Result {
         write!(f, "{}: {}", self.tag, self.answer)?;
         if let Some(Entry { base, order, word, marks }) = self.entry() {
-            write!(f, ", {} order {order} {word} marks {marks}", Index(base))?;
+            write!(f, ", {} order {order} {word} marks {marks}", Position(base))?;
         }
         if let Some(position) = self.paused_at() {
-            write!(f, " at {}", Index(position))?;
+            write!(f, " at {}", Position(position))?;
         }
         if matches!(self.tag, Tag::Load | Tag::Find) {
             write!(f, ", count {}", self.count)?;
@@ -113,8 +173,9 @@ impl fmt::Display for Reply {
     }
 }
 
-/// The replies to one batch, in the order of its commands.
+/// The replies to one batch, or to several, in the order of the commands.
 #[derive(Clone, Debug, Default, PartialEq, Eq)]
+#[must_use = "a reply may say that its command was not done"]
 pub struct Replies {
     replies: Vec<Reply>,
 }
@@ -129,22 +190,94 @@ impl Replies {
         Ok(Replies { replies })
     }
 
+    /// What the program tamburish wrote to a batch of so many commands. It always exits with 0; only
+    /// its output tells a whole run from a refused call and from output that was cut.
+    pub fn of_program(output: &[u8], commands: usize) -> Result<Replies, ProgramError> {
+        let cut = ProgramError::Cut { bytes: output.len() };
+        if let Some((Record::Refused { answer, number }, REFUSAL_BYTES)) = read_record(output) {
+            let whole = output.len() == REFUSAL_BYTES;
+            return Err(if whole { ProgramError::Refused { answer, number } } else { cut });
+        }
+        match Replies::read(output) {
+            Ok(replies) if replies.len() == commands => Ok(replies),
+            _ => Err(cut),
+        }
+    }
+
+    pub(crate) fn append(&mut self, mut more: Replies) {
+        self.replies.append(&mut more.replies);
+    }
+
+    /// The replies in order.
     pub fn iter(&self) -> std::slice::Iter<'_, Reply> {
         self.replies.iter()
     }
 
+    /// The reply to the command of this number, from 0.
+    #[must_use]
+    pub fn get(&self, command: usize) -> Option<&Reply> {
+        self.replies.get(command)
+    }
+
+    /// All replies.
+    #[must_use]
     pub fn as_slice(&self) -> &[Reply] {
         &self.replies
     }
 
+    /// How many there are: one for each command.
+    #[must_use]
     pub fn len(&self) -> usize {
         self.replies.len()
     }
 
+    /// Whether there are none.
+    #[must_use]
     pub fn is_empty(&self) -> bool {
         self.replies.is_empty()
     }
 }
+
+/// The reply to the command of this number; panics, as a slice does, if there is no such command.
+impl Index<usize> for Replies {
+    type Output = Reply;
+
+    fn index(&self, command: usize) -> &Reply {
+        &self.replies[command]
+    }
+}
+
+/// Why the output of the program tamburish is not the replies to a batch.
+#[derive(Clone, Copy, Debug, PartialEq, Eq)]
+pub enum ProgramError {
+    /// It refused the call.
+    Refused {
+        /// Why: answer 1 to 4.
+        answer: Answer,
+        /// The number that comes with it.
+        number: u16,
+    },
+    /// It is not 24 bytes of replies a command: the output was cut, or is of another batch.
+    Cut {
+        /// How many bytes there are.
+        bytes: usize,
+    },
+}
+
+impl fmt::Display for ProgramError {
+    fn fmt(&self, f: &mut fmt::Formatter) -> fmt::Result {
+        match self {
+            ProgramError::Refused { answer, number } => {
+                write!(f, "refused: {answer}, number {number}")
+            }
+            ProgramError::Cut { bytes } => {
+                write!(f, "{bytes} bytes are not 24 for each command: the output was cut")
+            }
+        }
+    }
+}
+
+impl std::error::Error for ProgramError {}
 
 impl<'a> IntoIterator for &'a Replies {
     type Item = &'a Reply;
@@ -167,10 +300,13 @@ impl IntoIterator for Replies {
 /// A record in what the program tamburish writes.
 #[derive(Clone, Copy, Debug, PartialEq, Eq)]
 pub enum Record {
+    /// The reply to one command.
     Reply(Reply),
     /// The call was refused: FF 0003, the answer, a two-byte number.
     Refused {
+        /// Why: answer 1 to 4.
         answer: Answer,
+        /// The number that comes with it.
         number: u16,
     },
 }
@@ -189,6 +325,7 @@ impl fmt::Display for Record {
 /// Bytes that are neither a reply nor a refused call, with their place.
 #[derive(Clone, Copy, Debug, PartialEq, Eq)]
 pub struct BadRecord {
+    /// The place of their first byte, from 0.
     pub place: usize,
 }
 
@@ -202,17 +339,20 @@ impl std::error::Error for BadRecord {}
 
 /// The records in a row of bytes; it ends after the first that is bad.
 #[derive(Clone, Debug)]
+#[must_use = "an iterator does nothing until it is asked"]
 pub struct Records<'a> {
     bytes: &'a [u8],
     place: usize,
 }
 
 impl<'a> Records<'a> {
+    /// Reads any bytes.
     pub fn of(bytes: &'a [u8]) -> Records<'a> {
         Records { bytes, place: 0 }
     }
 
     /// The bytes not yet read.
+    #[must_use]
     pub fn rest(&self) -> &'a [u8] {
         self.bytes.get(self.place..).unwrap_or_default()
     }

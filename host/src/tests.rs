@@ -54,7 +54,7 @@ fn slot(pool: &Pool, node: usize, slot: usize) -> u64 {
 }
 
 fn free_nodes(pool: &Pool) -> usize {
-    pool.words()[4..].chunks(69).filter(|node| node.iter().all(|word| *word == 0)).count()
+    pool.nodes().expect("a pool") - pool.nodes_in_use()
 }
 
 const CASE_2: Command = Command::Store { index: 0, order: 0, word: Word(3) };
@@ -211,7 +211,7 @@ fn borrowed_words_are_the_callers() {
     let mut pool = Pool::over(&mut words);
     assert_eq!(pool.check(), Err(Refusal::NotWellFormed));
     pool.init().expect("73 words");
-    pool.run(&batch(&[CASE_2])).expect("a good batch");
+    assert_eq!(pool.run(&batch(&[CASE_2])).expect("a good batch").len(), 1);
     drop(pool);
     assert_eq!((words[0], words[1]), (1, 3));
     assert_eq!(node_count(73), Some(1));
@@ -269,4 +269,208 @@ fn every_answer_has_its_number() {
     assert_eq!(Answer::from_number(14), None);
     assert_eq!(Word::value(1 << 63), Err(TooLarge(1 << 63)));
     assert_eq!(Word::value((1 << 63) - 1), Ok(Word(LAST)));
+}
+
+fn bases(pool: &mut Pool, first: u64, last: u64, filter: u8) -> Vec<u64> {
+    pool.find(first..=last, filter).map(|entry| entry.expect("good finds").base).collect()
+}
+
+#[test]
+fn the_index_after_a_run() {
+    let entry = |base, order| Entry { base, order, word: Word(1), marks: Marks(0) };
+    let cases = [
+        (0, 0, 0, Some(1)),
+        (8, 3, 15, Some(16)),
+        (LAST, 0, LAST, None),
+        (LAST - 1, 0, LAST - 1, Some(LAST)),
+        (1 << 63, 63, LAST, None),
+        (0, 63, (1 << 63) - 1, Some(1 << 63)),
+        // No entry has these, but no number makes it fail.
+        (0, 64, LAST, None),
+        (5, 255, LAST, None),
+    ];
+    for (base, order, last, after) in cases {
+        let entry = entry(base, order);
+        assert_eq!((entry.last(), entry.after()), (last, after), "{base} order {order}");
+        assert!(entry.covers(base) && entry.covers(last) && !(last < LAST && entry.covers(LAST)));
+    }
+}
+
+/// An entry of order 3 and one at 2^64 - 1: a loop from `index + 1` never ends on the first, and
+/// after the second begins again at 0.
+#[test]
+fn finds_end_on_runs_and_at_the_last_index() {
+    let entries = [store(13, 3, 3), store(16, 0, 5), store(LAST, 0, 7), mark(9, 1), mark(LAST, 1)];
+    let (_, mut pool) = run(40, &entries);
+    assert_eq!(bases(&mut pool, 0, LAST, FIND_ANY), [8, 16, LAST]);
+    assert_eq!(bases(&mut pool, 0, LAST, 1), [8, LAST]);
+    assert_eq!(bases(&mut pool, 12, LAST - 1, FIND_ANY), [8, 16]);
+    assert_eq!(bases(&mut pool, 15, 15, FIND_ANY), [8]);
+    assert_eq!(bases(&mut pool, 17, LAST - 1, FIND_ANY), []);
+    assert_eq!(pool.find(16..16, FIND_ANY).count(), 0);
+    assert_eq!(pool.find(..0, FIND_ANY).count(), 0);
+    assert_eq!(pool.find(.., FIND_ANY).count(), 3);
+    let after_the_last = (std::ops::Bound::Excluded(LAST), std::ops::Bound::Unbounded);
+    assert_eq!(pool.find(after_the_last, FIND_ANY).count(), 0);
+}
+
+#[test]
+fn finds_one_by_one_go_on_after_a_run_or_at_a_pause() {
+    let (_, mut pool) = run(40, &[store(13, 3, 3), store(LAST, 0, 7)]);
+    let (mut first, mut found, mut pauses) = (Some(0), Vec::new(), 0);
+    while let Some(from) = first {
+        let replies = pool.run(&batch(&[find(from, LAST, FIND_ANY, 3)])).expect("a good batch");
+        found.extend(replies[0].entry().map(|entry| entry.base));
+        pauses += usize::from(replies[0].paused_at().is_some());
+        first = replies[0].next_first(LAST);
+    }
+    assert_eq!(found, [8, LAST]);
+    assert!(pauses > 10, "{pauses}");
+}
+
+/// Entries of many orders: the list by loads, and by finds with all budgets and sizes of batch.
+#[test]
+fn finds_give_each_entry_once() {
+    for seed in 0..8 {
+        let mut pool = Pool::new(200).expect("a good size");
+        let bytes = random_bytes(seed, 600);
+        let commands = bytes.chunks(5).map(|part| {
+            let index = u64::from(part[0]) * 256 + u64::from(part[1]);
+            match part[2] % 8 {
+                0 => Command::Erase { index },
+                1 | 2 => mark(index, part[3] % 3),
+                _ => store(index, part[3] % 9 * (part[4] % 2), 2 * index + 1),
+            }
+        });
+        assert_eq!(pool.run_all(commands).expect("a good pool").len(), 120);
+        let mut listed: Vec<Entry> = Vec::new();
+        let loads = pool.run_all((0..1 << 16).map(load)).expect("a good pool");
+        listed.extend(loads.iter().filter_map(|reply| reply.entry()));
+        listed.dedup();
+        assert!(listed.len() > 20);
+        for (budget, most) in [(u16::MAX, MOST_FINDS), (1, 372), (7, 1), (u16::MAX, 5)] {
+            for filter in 0..=FIND_ANY {
+                let finds = pool.find(.., filter).with_budget(budget).with_batch(most);
+                let found: Result<Vec<Entry>, Error> = finds.collect();
+                let has = |entry: &&Entry| filter == FIND_ANY || entry.marks.has(filter);
+                let expected: Vec<Entry> = listed.iter().filter(has).copied().collect();
+                assert_eq!(found, Ok(expected), "seed {seed}, filter {filter}, budget {budget}");
+            }
+        }
+    }
+}
+
+/// Entries side by side, apart, far apart and in heaps: about as many batches as the finds fill, and a
+/// few to see how dense the entries are.
+#[test]
+fn finds_need_few_batches() {
+    let heaps = |at: u64| (at % 500) + (at / 500) * (1 << 30);
+    let spreads: [&dyn Fn(u64) -> u64; 4] = [&|at| at, &|at| 4 * at, &|at| at << 12, &heaps];
+    for (number, spread) in spreads.iter().enumerate() {
+        let mut pool = Pool::new(1000).expect("a good size");
+        let stores = (0..5000).map(|at| store(spread(at), 0, 3));
+        let replies = pool.run_all(stores).expect("a good pool");
+        let stored = replies.iter().filter(|reply| reply.answer == Answer::Done).count();
+        let mut finds = pool.find(.., FIND_ANY);
+        assert_eq!(finds.by_ref().count(), stored);
+        let full = stored.div_ceil(MOST_FINDS);
+        assert!(finds.batches() <= 3 * full + 40, "{number}: {} for {stored}", finds.batches());
+    }
+}
+
+#[test]
+fn finds_that_cannot_be_say_so_once() {
+    let mut pool = Pool::new(1).expect("one node");
+    let mut finds = pool.find(.., 4);
+    assert_eq!(finds.next(), Some(Err(Error::Answered(Answer::BadMark))));
+    assert_eq!(finds.next(), None);
+    let mut finds = pool.find(.., 0).with_budget(0);
+    assert_eq!(finds.next(), Some(Err(Error::Answered(Answer::NoBudget))));
+    pool.words_mut()[3] = 1;
+    let mut finds = pool.find(.., 0);
+    assert_eq!(finds.next(), Some(Err(Error::Refused(Refusal::NotWellFormed))));
+    assert_eq!(finds.next(), None);
+}
+
+#[test]
+fn any_number_of_commands() {
+    let mut pool = Pool::new(400).expect("a good size");
+    let replies = pool.run_all((0..5000).map(|index| store(index, 0, 3))).expect("a good pool");
+    assert_eq!(replies.len(), 5000);
+    assert!(replies.iter().all(|reply| reply.answer == Answer::Done));
+    assert_eq!((replies[4999].index, replies.get(5000)), (4999, None));
+    assert_eq!(pool.run_all([]).map(|replies| replies.len()), Ok(0));
+    let batches: Batches = (0..5000).map(|index| store(index, 0, 3)).collect();
+    assert!(batches.iter().all(|batch| batch.bytes().len() <= MOST_BATCH_BYTES));
+    assert_eq!(batches.iter().map(BatchBuilder::len).sum::<usize>(), 5000);
+    // The same row of records, cut from its bytes.
+    let row: Vec<u8> = batches.iter().flat_map(|batch| batch.bytes().to_vec()).collect();
+    let cut = split_batches(&row).expect("good records");
+    assert!(cut.iter().copied().eq(batches.iter().map(BatchBuilder::bytes)));
+    let bad = [&row[..], &[9]].concat();
+    assert_eq!(split_batches(&bad), Err(Refusal::BadBatch { place: 100_000 }));
+    pool.words_mut()[3] = 1;
+    assert_eq!(pool.run_all([]), Err(Refusal::NotWellFormed));
+}
+
+#[test]
+fn a_pool_is_saved_and_loaded() {
+    let (_, mut pool) = run(4, &[CASE_2, CASE_3]);
+    assert_eq!((pool.nodes(), pool.nodes_in_use()), (Some(4), 3));
+    let bytes = pool.to_bytes();
+    let loaded = Pool::from_bytes(&bytes).expect("what was saved");
+    assert_eq!(loaded.words(), pool.words());
+    let copy = pool.clone();
+    pool.run(&batch(&[Command::Erase { index: 64 }])).expect("a good batch")[0].done().expect("it");
+    assert_eq!((pool.nodes_in_use(), copy.nodes_in_use()), (0, 3));
+    assert_eq!(Pool::from_bytes(&bytes[1..]).err(), Some(Refusal::PoolLength));
+    assert_eq!(Pool::from_bytes(&bytes[8..]).err(), Some(Refusal::PoolLength));
+    assert_eq!(Pool::from_bytes(&[]).err(), Some(Refusal::PoolLength));
+    let mut damaged = bytes;
+    damaged[24] = 1;
+    assert_eq!(Pool::from_bytes(&damaged).err(), Some(Refusal::NotWellFormed));
+}
+
+#[test]
+fn answers_are_errors() {
+    let reply = last_reply(1, &[CASE_2, CASE_3]);
+    let error: Box<dyn std::error::Error> = reply.done().expect_err("too few nodes").into();
+    assert_eq!(error.to_string(), "too few free nodes");
+    assert_eq!(Word::handle(0x1000), Ok(Word(0x1000)));
+    assert_eq!([0, 1, 2, 6].map(|word| Word::handle(word).is_err()), [true; 4]);
+}
+
+/// What the program tamburish writes tells how it went; its exit status does not.
+#[test]
+fn the_output_of_the_program_is_whole_or_not() {
+    let mut pool = Pool::new(3).expect("three nodes");
+    let replies = pool.run(&batch(&[CASE_2, CASE_3])).expect("a good batch");
+    let output: Vec<u8> = replies.iter().flat_map(|reply| reply.bytes()).collect();
+    assert_eq!(Replies::of_program(&output, 2), Ok(replies));
+    for bytes in 0..48 {
+        let cut = Replies::of_program(&output[..bytes], 2);
+        assert_eq!(cut, Err(ProgramError::Cut { bytes }));
+    }
+    let refusal = [255, 0, 3, 3, 0x20, 0];
+    let refused = ProgramError::Refused { answer: Answer::BadBatch, number: 8192 };
+    assert_eq!(Replies::of_program(&refusal, 2), Err(refused));
+    assert_eq!(Replies::of_program(&refusal[..5], 0), Err(ProgramError::Cut { bytes: 5 }));
+    assert_eq!(Replies::of_program(&[], 0).map(|replies| replies.len()), Ok(0));
+}
+
+/// The C header says the same numbers and the same texts.
+#[test]
+fn the_c_header_agrees() {
+    let header = include_str!("../../include/xapool.h");
+    for answer in Answer::ALL {
+        assert!(header.contains(&format!("\"{answer}\"")), "{answer}");
+    }
+    let version = env!("CARGO_PKG_VERSION");
+    assert!(header.contains(&format!("#define XAPOOL_VERSION \"{version}\"")), "{version}");
+    let [major, minor, patch] = version.split('.').collect::<Vec<_>>()[..] else {
+        panic!("{version} has three numbers");
+    };
+    for (name, number) in [("MAJOR", major), ("MINOR", minor), ("PATCH", patch)] {
+        assert!(header.contains(&format!("#define XAPOOL_VERSION_{name} {number}")), "{name}");
+    }
 }

@@ -30,12 +30,34 @@ impl fmt::Display for TooLarge {
 
 impl std::error::Error for TooLarge {}
 
+/// A number that is 0 or not a multiple of 4.
+#[derive(Clone, Copy, Debug, PartialEq, Eq)]
+pub struct NotAHandle(pub u64);
+
+impl fmt::Display for NotAHandle {
+    fn fmt(&self, f: &mut fmt::Formatter) -> fmt::Result {
+        write!(f, "handle {:#x} is not a multiple of 4 above 0", self.0)
+    }
+}
+
+impl std::error::Error for NotAHandle {}
+
 impl Word {
     /// The word of a value from 0 to 2^63 - 1.
     pub fn value(value: u64) -> Result<Word, TooLarge> {
         value.checked_mul(2).map(|twice| Word(twice + 1)).ok_or(TooLarge(value))
     }
 
+    /// The word of a handle: a multiple of 4 above 0, as an address of something aligned is.
+    pub fn handle(handle: u64) -> Result<Word, NotAHandle> {
+        match Word(handle).kind() {
+            Kind::Handle(_) => Ok(Word(handle)),
+            _ => Err(NotAHandle(handle)),
+        }
+    }
+
+    /// What it stands for.
+    #[must_use]
     pub fn kind(self) -> Kind {
         match self.0 % 4 {
             1 | 3 => Kind::Value(self.0 / 2),
@@ -44,6 +66,8 @@ impl Word {
         }
     }
 
+    /// Whether a store takes it.
+    #[must_use]
     pub fn is_entry(self) -> bool {
         self.kind() != Kind::NotAnEntry
     }

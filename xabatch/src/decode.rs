@@ -1,31 +1,51 @@
 //! Records to text: commands of a batch, replies, refused calls.
 
-use xapool_host::{Commands, Records};
+use xapool_host::{Commands, Record, Records, Tag};
 
-/// A line for each record, up to the first that is bad; its place, if there is one.
-pub fn lines_of(bytes: &[u8]) -> (Vec<String>, Option<usize>) {
-    let mut lines = Vec::new();
-    let mut place = 0;
-    while let Some(rest) = bytes.get(place..).filter(|rest| !rest.is_empty()) {
-        match record(rest) {
-            Some((line, size)) => {
-                lines.push(line);
-                place += size;
-            }
-            None => return (lines, Some(place)),
-        }
-    }
-    (lines, None)
+/// What stood in a row of records, up to the first that is bad.
+#[derive(Clone, Debug, Default, PartialEq, Eq)]
+pub struct Decoded {
+    /// A line for each record.
+    pub lines: Vec<String>,
+    /// The kinds of the replies among them.
+    pub replies: Vec<Tag>,
+    /// Whether one is the record of a refused call.
+    pub refused: bool,
+    /// The place of the first bad record.
+    pub bad: Option<usize>,
 }
 
-/// The record at the start of the bytes as text, with its size. Commands and replies have
-/// different tags, so one reading serves both.
-fn record(bytes: &[u8]) -> Option<(String, usize)> {
-    let mut commands = Commands::of(bytes);
-    if let Some(Ok(command)) = commands.next() {
-        return Some((command.to_string(), bytes.len() - commands.rest().len()));
+/// Reads a row of records. Commands and replies have different tags, so one reading serves both.
+pub fn decode(bytes: &[u8]) -> Decoded {
+    let mut decoded = Decoded::default();
+    let mut place = 0;
+    while let Some(rest) = bytes.get(place..).filter(|rest| !rest.is_empty()) {
+        match decoded.record(rest) {
+            Some(size) => place += size,
+            None => {
+                decoded.bad = Some(place);
+                break;
+            }
+        }
     }
-    let mut records = Records::of(bytes);
-    let record = records.next()?.ok()?;
-    Some((record.to_string(), bytes.len() - records.rest().len()))
+    decoded
+}
+
+impl Decoded {
+    /// Takes the record at the start of the bytes; gives its size.
+    fn record(&mut self, bytes: &[u8]) -> Option<usize> {
+        let mut commands = Commands::of(bytes);
+        if let Some(Ok(command)) = commands.next() {
+            self.lines.push(command.to_string());
+            return Some(bytes.len() - commands.rest().len());
+        }
+        let mut records = Records::of(bytes);
+        let record = records.next()?.ok()?;
+        self.lines.push(record.to_string());
+        match record {
+            Record::Reply(reply) => self.replies.push(reply.tag),
+            Record::Refused { .. } => self.refused = true,
+        }
+        Some(bytes.len() - records.rest().len())
+    }
 }

@@ -1,11 +1,55 @@
 //! Draws what `inspect` read.
 
-use crate::inspect::{Head, Node, Report, Slot};
+use crate::inspect::{Finding, Head, Node, Report, Slot};
+use std::collections::BTreeMap;
 use xapool_host::{Marks, Word};
 
-/// The report as lines: header, tree, findings.
-pub fn lines_of(report: &Report) -> Vec<String> {
-    let mut lines = vec![header(report)];
+/// What to show of a pool.
+#[derive(Clone, Copy, Debug, PartialEq, Eq)]
+pub enum Part {
+    /// Header, tree and findings.
+    Tree,
+    /// Header, counts and findings.
+    Summary,
+    /// Findings alone.
+    Findings,
+}
+
+/// What to show, and how much of it.
+#[derive(Clone, Copy, Debug, PartialEq, Eq)]
+pub struct View {
+    pub part: Part,
+    /// The tree is drawn where it meets these indices, both included.
+    pub range: (u64, u64),
+    /// Also findings that follow from others.
+    pub all: bool,
+}
+
+impl Default for View {
+    fn default() -> View {
+        View { part: Part::Tree, range: (0, u64::MAX), all: false }
+    }
+}
+
+/// The report as lines.
+pub fn lines_of(report: &Report, view: &View) -> Vec<String> {
+    let mut lines = Vec::new();
+    match view.part {
+        Part::Findings => {}
+        Part::Summary => {
+            lines.push(header(report));
+            lines.extend(summary(report));
+        }
+        Part::Tree => {
+            lines.push(header(report));
+            draw(report, view.range, &mut lines);
+        }
+    }
+    lines.extend(verdict(report, view.all));
+    lines
+}
+
+fn draw(report: &Report, range: (u64, u64), lines: &mut Vec<String>) {
     match &report.head {
         Head::Empty => lines.push("head: empty".into()),
         Head::Entry(word) => {
@@ -14,11 +58,9 @@ pub fn lines_of(report: &Report) -> Vec<String> {
         Head::Bad(word) => lines.push(format!("head: {word:#x}, which leads nowhere")),
         Head::Node(node) => {
             lines.push(format!("head: {}, marks {}", title(node), marks(report)));
-            draw_slots(node, "", &mut lines);
+            draw_slots(node, "", range, lines);
         }
     }
-    lines.extend(verdict(report));
-    lines
 }
 
 fn marks(report: &Report) -> Marks {
@@ -59,40 +101,146 @@ fn entry(word: Word, order: u64, marks: Marks) -> String {
     format!("order {order} {word}, marks {marks}")
 }
 
-fn draw_slots(node: &Node, indent: &str, lines: &mut Vec<String>) {
-    for (number, slot) in node.slots.iter().enumerate() {
-        let last = number + 1 == node.slots.len();
+/// The slots that meet the range; how many are left out is said in their place.
+fn draw_slots(node: &Node, indent: &str, range: (u64, u64), lines: &mut Vec<String>) {
+    let meets = |slot: &&Slot| {
+        let (first, last) = indices(node, slot);
+        first <= u128::from(range.1) && u128::from(range.0) <= last
+    };
+    let drawn: Vec<&Slot> = node.slots.iter().filter(meets).collect();
+    let hidden = node.slots.len() - drawn.len();
+    for (number, slot) in drawn.iter().enumerate() {
+        let last = number + 1 == drawn.len() && hidden == 0;
         let (branch, below) = if last { ("└─", "   ") } else { ("├─", "│  ") };
         lines.push(format!("{indent}{branch} {}", slot_line(node, slot)));
         if let Slot::Node { child, .. } = slot {
-            draw_slots(child, &format!("{indent}{below}"), lines);
+            draw_slots(child, &format!("{indent}{below}"), range, lines);
         }
+    }
+    if hidden > 0 {
+        let slots = if hidden == 1 { "slot" } else { "slots" };
+        lines.push(format!("{indent}└─ ({hidden} more {slots} outside the range)"));
     }
 }
 
+/// The first and last index of a slot that is not empty.
+fn indices(node: &Node, slot: &Slot) -> (u128, u128) {
+    let (slot, run) = match slot {
+        Slot::Entry { slot, run, .. } => (*slot, *run),
+        Slot::Node { slot, .. } | Slot::Bad { slot, .. } => (*slot, 1),
+    };
+    let first = node.start + ((slot as u128) << node.shift);
+    (first, first + ((run as u128) << node.shift) - 1)
+}
+
 fn slot_line(node: &Node, slot: &Slot) -> String {
+    let (first, last) = indices(node, slot);
     match slot {
         Slot::Bad { slot, word } => format!("slot {slot}: {word:#x} ?"),
         Slot::Node { slot, marks, child } => {
             format!("slot {slot}: {}, marks {marks}", title(child))
         }
         Slot::Entry { slot, run, word, marks } => {
-            let first = node.start + ((*slot as u128) << node.shift);
-            let indices = range(first, first + ((*run as u128) << node.shift) - 1);
             let slots = if *run == 1 { "slot" } else { "slots" };
             let places = range(*slot as u128, (slot + run - 1) as u128);
-            let order = node.shift + u64::from(run.ilog2());
+            let order = order_of(node, *run);
+            let indices = range(first, last);
             format!("{slots} {places}: index {indices}, {}", entry(*word, order, *marks))
         }
     }
 }
 
-fn verdict(report: &Report) -> Vec<String> {
-    let found = report.findings.len();
-    if found == 0 {
+fn order_of(node: &Node, run: usize) -> u64 {
+    node.shift + u64::from(run.ilog2())
+}
+
+/// What a pool holds, counted.
+#[derive(Default)]
+struct Counts {
+    orders: BTreeMap<u64, usize>,
+    marks: [usize; 3],
+    shifts: BTreeMap<u64, usize>,
+    first: Option<u128>,
+    last: Option<u128>,
+}
+
+impl Counts {
+    fn entry(&mut self, order: u64, marks: Marks, indices: (u128, u128)) {
+        *self.orders.entry(order).or_default() += 1;
+        for (mark, count) in (0..).zip(&mut self.marks) {
+            *count += usize::from(marks.has(mark));
+        }
+        self.first.get_or_insert(indices.0);
+        self.last = Some(indices.1);
+    }
+
+    fn node(&mut self, node: &Node) {
+        *self.shifts.entry(node.shift).or_default() += 1;
+        for slot in &node.slots {
+            match slot {
+                Slot::Entry { run, marks, .. } => {
+                    self.entry(order_of(node, *run), *marks, indices(node, slot));
+                }
+                Slot::Node { child, .. } => self.node(child),
+                Slot::Bad { .. } => {}
+            }
+        }
+    }
+}
+
+fn summary(report: &Report) -> Vec<String> {
+    let mut counts = Counts::default();
+    match &report.head {
+        Head::Entry(_) => counts.entry(0, marks(report), (0, 0)),
+        Head::Node(node) => counts.node(node),
+        Head::Empty | Head::Bad(_) => {}
+    }
+    let by = |what: &str, counts: &BTreeMap<u64, usize>| {
+        let each = counts.iter().map(|(kind, count)| format!("{count} of {what} {kind}"));
+        each.collect::<Vec<_>>().join(", ")
+    };
+    let entries: usize = counts.orders.values().sum();
+    let mut lines = vec![match (counts.first, counts.last) {
+        (Some(first), Some(last)) => {
+            format!(
+                "entries: {entries}, in {}: {}",
+                range(first, last),
+                by("order", &counts.orders)
+            )
+        }
+        _ => "entries: 0".into(),
+    }];
+    let [zero, one, two] = counts.marks;
+    lines.push(format!("marks: {zero} with mark 0, {one} with mark 1, {two} with mark 2"));
+    if !counts.shifts.is_empty() {
+        lines.push(format!("nodes: {}", by("shift", &counts.shifts)));
+    }
+    lines
+}
+
+fn verdict(report: &Report, all: bool) -> Vec<String> {
+    if report.findings.is_empty() {
         return vec!["well-formed".into()];
     }
-    let count = if found == 1 { "1 finding".into() } else { format!("{found} findings") };
-    let list = report.findings.iter().map(|finding| format!("  {finding}"));
-    [format!("not well-formed: {count}")].into_iter().chain(list).collect()
+    let (follow, causes): (Vec<&Finding>, Vec<&Finding>) =
+        report.findings.iter().partition(|finding| finding.follows);
+    let findings =
+        |count| if count == 1 { "1 finding".into() } else { format!("{count} findings") };
+    let mut lines = vec![format!("not well-formed: {}", findings(causes.len()))];
+    lines.extend(causes.iter().map(|finding| format!("  {finding}")));
+    if !follow.is_empty() {
+        let from = if causes.len() == 1 { "it" } else { "them" };
+        let hint = if all { ":" } else { " (--all lists them)" };
+        lines.push(format!(
+            "and {} from {from}{hint}",
+            match follow.len() {
+                1 => "1 that follows".to_string(),
+                count => format!("{count} that follow"),
+            }
+        ));
+    }
+    if all {
+        lines.extend(follow.iter().map(|finding| format!("  {finding}")));
+    }
+    lines
 }

@@ -1,8 +1,10 @@
 //! Reads the words of a pool into a tree, and lists what is wrong with them.
 //!
 //! There are no findings exactly if the pool is well-formed; the library's own check is the
-//! judge, and the tests hold this one to it.
+//! judge, and the tests hold this one to it. A finding that another one brings with it, as a lost
+//! head brings a thousand nodes that nothing leads to, is told apart from it.
 
+use std::collections::HashSet;
 use std::fmt;
 use xapool_host::{node_count, Marks, Word};
 
@@ -16,6 +18,8 @@ const NODE_WORDS: usize = 69;
 pub struct Finding {
     pub place: usize,
     pub message: String,
+    /// Whether it follows from another finding.
+    pub follows: bool,
 }
 
 impl fmt::Display for Finding {
@@ -79,7 +83,7 @@ pub struct Report {
 pub fn inspect(words: &[u64]) -> Report {
     let nodes = node_count(words.len());
     let seen = vec![false; nodes.unwrap_or(0)];
-    let mut walk = Walk { words, seen, findings: Vec::new() };
+    let mut walk = Walk { words, seen, wrong: HashSet::new(), notes: Vec::new() };
     let mut head = Head::Empty;
     match nodes {
         Some(count) => {
@@ -92,16 +96,44 @@ pub fn inspect(words: &[u64]) -> Report {
             walk.find(0, message);
         }
     }
-    walk.findings.sort_by_key(|finding| finding.place);
+    let findings = walk.findings();
     let in_use = walk.seen.iter().filter(|seen| **seen).count();
-    let marks = walk.word(2);
-    Report { words: words.len(), nodes, head, marks, in_use, findings: walk.findings }
+    Report { words: words.len(), nodes, head, marks: walk.word(2), in_use, findings }
+}
+
+/// A word that leads to nodes: the head, or a slot by node and number.
+#[derive(Clone, Copy, Debug, PartialEq, Eq, Hash)]
+enum Link {
+    Head,
+    Slot(usize, usize),
+}
+
+/// What a finding would follow from.
+#[derive(Clone, Copy, Debug, PartialEq, Eq)]
+enum Follows {
+    /// Nothing: it is wrong by itself.
+    Nothing,
+    /// This link, if it is wrong.
+    Link(Link),
+    /// Any link in this node, or the head, if it is wrong.
+    Node(usize),
+    /// Something found before.
+    Surely,
+}
+
+/// A finding as the walk noted it, with what it would follow from.
+struct Note {
+    place: usize,
+    message: String,
+    follows: Follows,
 }
 
 struct Walk<'a> {
     words: &'a [u64],
     seen: Vec<bool>,
-    findings: Vec<Finding>,
+    /// Links with a wrong word, each with a finding of its own.
+    wrong: HashSet<Link>,
+    notes: Vec<Note>,
 }
 
 fn node_place(number: usize) -> usize {
@@ -116,19 +148,64 @@ fn sibling_word(slot: usize) -> u64 {
     4 * slot as u64 + 2
 }
 
+fn node_word(number: usize) -> u64 {
+    4 * (NODE_OFFSET + number as u64) + 2
+}
+
+/// The owner word of the node that this link leads to.
+fn owner_of(link: Link) -> u64 {
+    match link {
+        Link::Head => 0,
+        Link::Slot(node, slot) => 1 + (SLOTS * node + slot) as u64,
+    }
+}
+
+/// The shift in the first word of a node, if it is one.
+fn shift_of(word: u64) -> Option<u64> {
+    word.checked_sub(1).filter(|shift| *shift <= WIDEST_SHIFT && shift.is_multiple_of(6))
+}
+
 impl Walk<'_> {
     fn word(&self, place: usize) -> u64 {
         self.words.get(place).copied().unwrap_or(0)
     }
 
     fn find(&mut self, place: usize, message: String) {
-        self.findings.push(Finding { place, message });
+        self.note(place, Follows::Nothing, message);
     }
 
-    fn expect(&mut self, place: usize, name: &str, expected: u64) {
+    fn note(&mut self, place: usize, follows: Follows, message: String) {
+        self.notes.push(Note { place, message, follows });
+    }
+
+    fn expect(&mut self, place: usize, name: &str, expected: u64, follows: Follows) {
         let found = self.word(place);
         if found != expected {
-            self.find(place, format!("{name} is {found}, expected {expected}"));
+            self.note(place, follows, format!("{name} is {found}, expected {expected}"));
+        }
+    }
+
+    /// What was noted, in the order of places, now that every wrong link is known.
+    fn findings(&mut self) -> Vec<Finding> {
+        let mut notes = std::mem::take(&mut self.notes);
+        notes.sort_by_key(|note| note.place);
+        let finding = |note: Note| Finding {
+            place: note.place,
+            follows: self.follows(note.follows),
+            message: note.message,
+        };
+        notes.into_iter().map(finding).collect()
+    }
+
+    fn follows(&self, follows: Follows) -> bool {
+        match follows {
+            Follows::Nothing => false,
+            Follows::Surely => true,
+            Follows::Link(link) => self.wrong.contains(&link),
+            Follows::Node(node) => {
+                let slots = (0..SLOTS).any(|slot| self.wrong.contains(&Link::Slot(node, slot)));
+                slots || self.wrong.contains(&Link::Head)
+            }
         }
     }
 
@@ -149,18 +226,50 @@ impl Walk<'_> {
         }
         let Some(number) = self.node_number(head) else {
             self.find(1, format!("the head {head:#x} is neither an entry nor a node of this pool"));
+            self.wrong.insert(Link::Head);
             return Head::Bad(head);
         };
         let place = node_place(number);
-        let shift = self.word(place).wrapping_sub(1);
-        if shift > WIDEST_SHIFT || !shift.is_multiple_of(6) {
-            let found = self.word(place);
-            self.find(place, format!("shift + 1 of the head is {found}: no shift of a node"));
-            return Head::Bad(head);
-        }
-        let node = self.node(number, shift, 0, 0);
+        let found = self.word(place);
+        let shift = match (shift_of(found), self.shift_from_below(number)) {
+            (Some(shift), None) => shift,
+            (Some(shift), Some(below)) if shift == below => shift,
+            (_, Some(below)) => {
+                let message = "shift + 1 of the head is";
+                self.find(place, format!("{message} {found}, expected {}", below + 1));
+                below
+            }
+            (None, None) => {
+                self.find(place, format!("shift + 1 of the head is {found}: no shift of a node"));
+                self.wrong.insert(Link::Head);
+                return Head::Bad(head);
+            }
+        };
+        let node = self.node(number, shift, 0, Link::Head);
         self.least_head(&node);
         Head::Node(node)
+    }
+
+    /// The shift that the nodes below call for, if they agree and are not one alone: then it is the
+    /// head that is wrong and not all of them.
+    fn shift_from_below(&self, number: usize) -> Option<u64> {
+        let below = self.children(number);
+        let shift = shift_of(self.word(node_place(*below.first()?)))?;
+        let agree = |nodes: &[usize], shift| {
+            nodes.iter().all(|node| shift_of(self.word(node_place(*node))) == Some(shift))
+        };
+        let backed = below.len() > 1 || {
+            let next = self.children(below[0]);
+            shift >= 6 && !next.is_empty() && agree(&next, shift - 6)
+        };
+        (shift < WIDEST_SHIFT && backed && agree(&below, shift)).then_some(shift + 6)
+    }
+
+    /// The nodes that the slots of a node lead to.
+    fn children(&self, number: usize) -> Vec<usize> {
+        (0..SLOTS)
+            .filter_map(|slot| self.node_number(self.word(slot_place(number, slot))))
+            .collect()
     }
 
     /// A head is no wider than it must be.
@@ -168,21 +277,26 @@ impl Walk<'_> {
         let place = node_place(head.number);
         match head.slots[..] {
             [Slot::Node { slot: 0, .. }] => {
-                self.find(place, "the head is too wide: all lies below its slot 0".into());
+                let message = "the head is too wide: all lies below its slot 0".into();
+                self.note(place, Follows::Node(head.number), message);
             }
             [Slot::Entry { slot: 0, run: 1, .. }] if head.shift == 0 => {
-                self.find(place, "the head is too wide: one entry at index 0 needs no node".into());
+                let message = "the head is too wide: one entry at index 0 needs no node".into();
+                self.note(place, Follows::Node(head.number), message);
             }
             _ => {}
         }
     }
 
     fn anchor(&mut self, count: usize, head: &Head) {
-        self.expect(0, "N", count as u64);
-        self.expect(3, "the fourth word", 0);
+        self.expect(0, "N", count as u64, Follows::Nothing);
+        self.expect(3, "the fourth word", 0, Follows::Nothing);
+        let head_link = Follows::Link(Link::Head);
         match head {
-            Head::Empty => self.expect(2, "the marks byte", 0),
-            Head::Node(node) => self.expect(2, "the marks byte", u64::from(node.marks.0)),
+            Head::Empty => self.expect(2, "the marks byte", 0, head_link),
+            Head::Node(node) => {
+                self.expect(2, "the marks byte", u64::from(node.marks.0), head_link);
+            }
             Head::Entry(_) if self.word(2) > 7 => {
                 let found = self.word(2);
                 self.find(2, format!("the marks byte is {found}, expected 0 to 7"));
@@ -192,11 +306,13 @@ impl Walk<'_> {
     }
 
     /// Reads a node and all below. No node is read twice and the shift falls, so this ends.
-    fn node(&mut self, number: usize, shift: u64, start: u128, owner: u64) -> Node {
+    fn node(&mut self, number: usize, shift: u64, start: u128, link: Link) -> Node {
         self.seen[number] = true;
         let place = node_place(number);
-        self.expect(place, "shift + 1", shift + 1);
-        self.expect(place + 1, "the owner", owner);
+        if link != Link::Head {
+            self.expect(place, "shift + 1", shift + 1, Follows::Nothing);
+        }
+        self.expect(place + 1, "the owner", owner_of(link), Follows::Link(link));
         let mut slots = Vec::new();
         let mut slot = 0;
         while slot < SLOTS {
@@ -205,7 +321,7 @@ impl Walk<'_> {
             slot += run;
         }
         if slots.is_empty() {
-            self.find(place, format!("node {number} is empty"));
+            self.note(place, Follows::Node(number), format!("node {number} is empty"));
         }
         let marks = self.mark_words(number, &slots);
         Node { number, shift, start, slots, marks }
@@ -234,8 +350,10 @@ impl Walk<'_> {
             return None;
         }
         let bad = Some(Slot::Bad { slot, word });
+        let link = Link::Slot(number, slot);
         if shift == WIDEST_SHIFT && slot >= 16 {
             self.find(place, format!("slot {slot} lies past 2^64 and is not 0"));
+            self.wrong.insert(link);
             return bad;
         }
         if Word(word).is_entry() {
@@ -245,12 +363,12 @@ impl Walk<'_> {
         }
         match self.child(word, shift) {
             Ok(child) => {
-                let owner = 1 + (SLOTS * number + slot) as u64;
-                let child = self.node(child, shift - 6, start + ((slot as u128) << shift), owner);
+                let child = self.node(child, shift - 6, start + ((slot as u128) << shift), link);
                 Some(Slot::Node { slot, marks: self.slot_marks(number, slot), child })
             }
             Err(message) => {
                 self.find(place, format!("slot {slot}: {message}"));
+                self.wrong.insert(link);
                 bad
             }
         }
@@ -300,7 +418,8 @@ impl Walk<'_> {
             for slot in (0..SLOTS).filter(|slot| (found ^ expected) >> slot & 1 == 1) {
                 let is = if found >> slot & 1 == 1 { "set" } else { "clear" };
                 let other = if is == "set" { "clear" } else { "set" };
-                self.find(place, format!("mark {mark} of slot {slot} is {is}, expected {other}"));
+                let message = format!("mark {mark} of slot {slot} is {is}, expected {other}");
+                self.note(place, Follows::Link(Link::Slot(number, slot)), message);
             }
         }
         Marks(marks)
@@ -316,9 +435,60 @@ impl Walk<'_> {
             if let (false, Some(first)) = (self.seen[number], first) {
                 let message =
                     format!("node {number} is in no slot, but {wrong} of its words are not 0");
-                self.find(place + first, message);
+                let follows = if self.is_lost(number) { Follows::Surely } else { Follows::Nothing };
+                self.note(place + first, follows, message);
             }
         }
+    }
+
+    /// Whether a node that nothing leads to is missing where its owner word says: there then is the
+    /// finding, and the node's own follows from it.
+    fn is_lost(&mut self, number: usize) -> bool {
+        let Some(link) = self.link_of(number) else {
+            return false;
+        };
+        if self.wrong.contains(&link) {
+            return true;
+        }
+        if link == Link::Head && self.head_is_itself() {
+            return false;
+        }
+        let place = match link {
+            Link::Head => 1,
+            Link::Slot(node, slot) => slot_place(node, slot),
+        };
+        let (found, node) = (self.word(place), node_word(number));
+        if found == node {
+            // It is below a node that is lost itself.
+            return true;
+        }
+        // Another node in its place may be there by right.
+        let lost = link == Link::Head || self.node_number(found).is_none();
+        if lost {
+            let what = if link == Link::Head { "the head" } else { "the slot" };
+            self.find(place, format!("{what} is {found:#x}, but by its owner word node {number} is there ({node:#x})"));
+            self.wrong.insert(link);
+        }
+        lost
+    }
+
+    /// Whether the head leads to a node that is the head by its own owner word.
+    fn head_is_itself(&self) -> bool {
+        let head = self.node_number(self.word(1));
+        head.is_some_and(|number| self.word(node_place(number) + 1) == 0)
+    }
+
+    /// Where a node belongs by its own words, if they are those of a node in use.
+    fn link_of(&self, number: usize) -> Option<Link> {
+        let place = node_place(number);
+        let shift = shift_of(self.word(place))?;
+        (0..SLOTS).find(|slot| self.word(slot_place(number, *slot)) != 0)?;
+        let Some(owner) = self.word(place + 1).checked_sub(1) else {
+            return Some(Link::Head);
+        };
+        let (node, slot) = (usize::try_from(owner).ok()? / SLOTS, owner as usize % SLOTS);
+        let above = shift_of(*self.words.get(node_place(node))?)?;
+        (node < self.seen.len() && above == shift + 6).then_some(Link::Slot(node, slot))
     }
 }
 

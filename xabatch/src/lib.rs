@@ -1,7 +1,8 @@
-//! What the tool xabatch does: text to batches, records to text, and the inside of a pool.
+//! What the tool xabatch does: text to batches, records to text, pool files and their inside.
 
 pub mod decode;
 pub mod draw;
+pub mod escape;
 pub mod inspect;
-pub mod pool_file;
+pub mod locked;
 pub mod text;

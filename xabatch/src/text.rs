@@ -4,7 +4,7 @@
 //! mark 3) can be tried. An error has the line and column (both from 1) at which it stands.
 
 use std::fmt;
-use xapool_host::{BatchBuilder, Command, Word, FIND_ANY};
+use xapool_host::{BatchBuilder, BatchFull, Command, Word, FIND_ANY};
 
 #[derive(Clone, Debug, PartialEq, Eq)]
 pub struct SyntaxError {
@@ -22,14 +22,50 @@ impl fmt::Display for SyntaxError {
 /// The batch of a text.
 pub fn batch_of(text: &str) -> Result<BatchBuilder, SyntaxError> {
     let mut batch = BatchBuilder::new();
+    each_command(text, |command, words, column| {
+        let full = |full: BatchFull| {
+            let message = format!("{full}; --long or --split takes more than one batch");
+            words.error_at(column, message)
+        };
+        batch.push(command).map_err(full)
+    })?;
+    Ok(batch)
+}
+
+/// All commands of a text, also of one that is too long for a batch.
+pub fn commands_of(text: &str) -> Result<Vec<Command>, SyntaxError> {
+    let mut commands = Vec::new();
+    each_command(text, |command, _, _| {
+        commands.push(command);
+        Ok(())
+    })?;
+    Ok(commands)
+}
+
+/// Reads a text line by line; `take` has a command, its line and its column.
+fn each_command(
+    text: &str,
+    mut take: impl FnMut(Command, &Words, usize) -> Result<(), SyntaxError>,
+) -> Result<(), SyntaxError> {
     for (number, line) in text.lines().enumerate() {
         let mut words = Words::of(line, number + 1);
         let column = words.column();
         if let Some(command) = words.line()? {
-            batch.push(command).map_err(|full| words.error_at(column, full.to_string()))?;
+            take(command, &words, column)?;
         }
     }
-    Ok(batch)
+    Ok(())
+}
+
+/// `FIRST..LAST`, as in a find.
+pub fn range_of(text: &str) -> Result<(u64, u64), String> {
+    let mut words = Words::of(text, 1);
+    let range = words.range().map_err(|error| error.message)?;
+    match (words.rest(), range) {
+        ("", (first, last)) if first <= last => Ok(range),
+        ("", _) => Err("first is above last".into()),
+        (rest, _) => Err(format!("'{rest}' after the end of the range")),
+    }
 }
 
 /// The words of one line and how far they were read.
@@ -147,13 +183,18 @@ impl<'a> Words<'a> {
     }
 
     fn find(&mut self) -> Result<Command, SyntaxError> {
-        let first = self.number("an index")?;
-        self.expect("..")?;
-        let last = self.number("an index")?;
+        let (first, last) = self.range()?;
         let filter = self.filter()?;
         self.expect("budget")?;
         let budget = self.number_up_to("a budget", 65_535)? as u16;
         Ok(Command::Find { first, last, filter, budget })
+    }
+
+    /// `FIRST..LAST`.
+    fn range(&mut self) -> Result<(u64, u64), SyntaxError> {
+        let first = self.number("an index")?;
+        self.expect("..")?;
+        Ok((first, self.number("an index")?))
     }
 
     /// `any` or `mark M`. Filter 3 is written `any`, so that `mark 3` is not taken for a mark.

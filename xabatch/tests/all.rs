@@ -1,12 +1,13 @@
 //! Round trips, the places of errors, `show` on good and damaged pools, and the tool itself.
 
+mod tool;
+
 use reference::awkward::Commands as RandomCommands;
 use reference::batch::Command as ReferenceCommand;
 use reference::random::Random;
-use std::io::Write;
-use std::process::{Command as Process, Stdio};
-use xabatch::{decode, draw, inspect, pool_file, text};
-use xapool_host::{BatchBuilder, Command, Pool, Word};
+use tool::tool;
+use xabatch::{decode, draw, inspect, text};
+use xapool_host::{bytes_of_words, BatchBuilder, Command, Pool, Word};
 
 fn same_command(command: ReferenceCommand) -> Command {
     match command {
@@ -34,7 +35,7 @@ fn random_batch(seed: u64, count: usize) -> BatchBuilder {
 
 fn random_pool(seed: u64) -> Pool<'static> {
     let mut pool = Pool::new(1 + seed as usize % 30).expect("a good size");
-    pool.run(&random_batch(seed, 20)).expect("a good batch");
+    let _ = pool.run(&random_batch(seed, 20)).expect("a good batch");
     pool
 }
 
@@ -42,9 +43,9 @@ fn random_pool(seed: u64) -> Pool<'static> {
 fn batch_to_text_and_back() {
     for seed in 0..500 {
         let batch = random_batch(seed, 60);
-        let (lines, bad) = decode::lines_of(batch.bytes());
-        assert_eq!((lines.len(), bad), (60, None));
-        let again = text::batch_of(&lines.join("\n")).expect("its own text");
+        let decoded = decode::decode(batch.bytes());
+        assert_eq!((decoded.lines.len(), decoded.bad), (60, None));
+        let again = text::batch_of(&decoded.lines.join("\n")).expect("its own text");
         assert_eq!(again, batch, "seed {seed}");
     }
 }
@@ -100,7 +101,9 @@ fn agree(words: &[u64], what: &str) {
     let good = Pool::from_words(words.to_vec()).check().is_ok();
     assert_eq!(report.findings.is_empty(), good, "{what}: {:?}", report.findings);
     assert!(report.findings.iter().all(|finding| finding.place <= words.len()));
-    assert!(!draw::lines_of(&report).is_empty());
+    // What follows follows from something.
+    assert!(good || report.findings.iter().any(|finding| !finding.follows), "{what}");
+    assert!(!draw::lines_of(&report, &draw::View::default()).is_empty());
 }
 
 #[test]
@@ -147,7 +150,7 @@ fn findings_name_their_words() {
         batch.push(Command::Store { index, order: 0, word: Word(word) }).expect("short");
     }
     let mut pool = Pool::new(4).expect("four nodes");
-    pool.run(&batch).expect("a good batch");
+    let _ = pool.run(&batch).expect("a good batch");
     let places = [(0, 3), (1, 2), (2, 1), (3, 9), (4, 8), (6, 2), (9, 6), (74, 9), (250, 1)];
     for (place, word) in places {
         let mut words = pool.words().to_vec();
@@ -157,28 +160,13 @@ fn findings_name_their_words() {
     }
 }
 
-fn tool(arguments: &[&str], input: &[u8]) -> (i32, Vec<u8>, String) {
-    let mut process = Process::new(env!("CARGO_BIN_EXE_xabatch"))
-        .args(arguments)
-        .stdin(Stdio::piped())
-        .stdout(Stdio::piped())
-        .stderr(Stdio::piped())
-        .spawn()
-        .expect("the tool starts");
-    // A tool that ends early, as with bad usage, does not read.
-    let _ = process.stdin.take().expect("a pipe").write_all(input);
-    let output = process.wait_with_output().expect("the tool ends");
-    let errors = String::from_utf8_lossy(&output.stderr).into_owned();
-    (output.status.code().expect("no signal"), output.stdout, errors)
-}
-
 #[test]
 fn the_tool_encodes_and_decodes_through_pipes() {
     let (status, batch, _) = tool(&["encode"], b"store 64 order 0 value 2\n");
     assert_eq!((status, batch.len(), batch[11]), (0, 20, 0));
     let (status, lines, _) = tool(&["decode", "-"], &[255, 0, 3, 3, 0x20, 0]);
     let refused = "refused: batch too long, or a record is cut, of unknown tag or wrong length, number 8192\n";
-    assert_eq!((status, String::from_utf8_lossy(&lines).as_ref()), (0, refused));
+    assert_eq!((status, String::from_utf8_lossy(&lines).as_ref()), (1, refused));
 }
 
 #[test]
@@ -199,12 +187,12 @@ fn the_tool_names_what_is_wrong() {
 #[test]
 fn the_tool_shows_pools() {
     let pool = random_pool(20);
-    let (status, out, _) = tool(&["show", "-"], &pool_file::bytes_of(pool.words()));
+    let (status, out, _) = tool(&["show", "-"], &bytes_of_words(pool.words()));
     assert_eq!(status, 0);
     assert!(String::from_utf8_lossy(&out).ends_with("well-formed\n"));
     let mut words = pool.words().to_vec();
     words[3] = 5;
-    let (status, out, _) = tool(&["show", "-"], &pool_file::bytes_of(&words));
+    let (status, out, _) = tool(&["show", "-"], &bytes_of_words(&words));
     assert_eq!(status, 1);
     assert!(String::from_utf8_lossy(&out).contains("word 3: the fourth word is 5, expected 0"));
     assert_eq!(tool(&["show", "-"], &[1, 2, 3]).0, 1);
@@ -230,4 +218,180 @@ head: node 0, shift 6, indices 0..4095, marks -
 well-formed
 ";
     assert_eq!((shown.0, String::from_utf8_lossy(&shown.1).as_ref()), (0, drawn));
+}
+
+/// A pool of nearly a thousand nodes in use, and the place of its head node.
+fn large_pool() -> (Vec<u64>, usize) {
+    let mut pool = Pool::new(1000).expect("a good size");
+    let entries = (0..960).map(|at| Command::Store { index: 64 * at, order: 0, word: Word(3) });
+    let marks = [Command::Mark { index: 640, mark: 1 }];
+    let _ = pool.run_all(entries.chain(marks)).expect("a good pool");
+    let words = pool.into_words();
+    let head = 4 + 69 * (words[1] / 4 - 1024) as usize;
+    (words, head)
+}
+
+#[test]
+fn one_cause_is_one_finding() {
+    let (pool, head) = large_pool();
+    let slot = head + 5 + 3;
+    let (entry, sibling, other) = (7, 4 * 5 + 2, 4 * (1024 + 5) + 2);
+    // The word that is changed, to what, and how many findings follow at least.
+    let cases = [
+        (1, 0, 960),
+        (1, entry, 960),
+        (1, sibling, 960),
+        (1, other, 960),
+        (slot, 0, 64),
+        (slot, entry, 64),
+        (slot, sibling, 64),
+        (head, 19, 0),
+        (head, 20, 0),
+        (head + 1, 5, 0),
+        (4 + 69 * 7 + 1, 9, 0),
+        (3, 1, 0),
+        // Nodes that are free: 999 and 998.
+        (4 + 69 * 999, 1, 0),
+        (4 + 69 * 998 + 7, 5, 0),
+    ];
+    for (place, word, least) in cases {
+        let mut words = pool.clone();
+        words[place] = word;
+        let findings = inspect::inspect(&words).findings;
+        let causes: Vec<_> = findings.iter().filter(|finding| !finding.follows).collect();
+        assert_eq!(causes.len(), 1, "word {place}: {causes:?}");
+        assert_eq!(causes[0].place, place, "{causes:?}");
+        assert!(findings.len() > least && findings.len() < least + 40, "{}", findings.len());
+    }
+}
+
+fn shown(words: &[u64], options: &[&str]) -> (i32, String) {
+    let arguments = [&["show"], options, &["-"]].concat();
+    let (status, out, errors) = tool(&arguments, &bytes_of_words(words));
+    assert_eq!(errors, "");
+    (status, String::from_utf8(out).expect("text"))
+}
+
+#[test]
+fn show_a_summary_a_range_findings() {
+    let (mut words, _) = large_pool();
+    let summary = "\
+pool of 1000 nodes, 69004 words: 976 in use, 24 free
+entries: 960, in 0..61376: 960 of order 0
+marks: 0 with mark 0, 1 with mark 1, 0 with mark 2
+nodes: 960 of shift 0, 15 of shift 6, 1 of shift 12
+well-formed
+";
+    assert_eq!(shown(&words, &["--summary"]), (0, summary.into()));
+    assert_eq!(shown(&words, &["--findings"]), (0, "well-formed\n".into()));
+    let (_, range) = shown(&words, &["--range", "640..0x280"]);
+    assert!(range.contains("index 640, order 0 value 1, marks 1"), "{range}");
+    assert!(range.contains("(63 more slots outside the range)") && range.lines().count() == 8);
+    words[1] = 5;
+    let (status, few) = shown(&words, &["--findings"]);
+    let line = "and 976 that follow from it (--all lists them)";
+    assert_eq!((status, few.lines().count(), few.lines().last()), (1, 3, Some(line)));
+    let (status, all) = shown(&words, &["--findings", "--all"]);
+    assert_eq!((status, all.lines().count()), (1, 3 + 976));
+    for bad in [&["--range", "5..4"][..], &["--range", "5"], &["--range=1..2..3"], &["--rnage"]] {
+        assert_eq!(tool(&[&["show"], bad, &["-"]].concat(), &[]).0, 2, "{bad:?}");
+    }
+    assert_eq!(tool(&["show", "--summary", "--range", "1..2", "-"], &[]).0, 2);
+    assert_eq!(tool(&["show", "--summary", "--findings", "-"], &[]).0, 2);
+}
+
+const COMMANDS: [&str; 5] = ["encode", "decode", "show", "new", "run"];
+
+#[test]
+fn version_help_and_the_man_page() {
+    let version = format!("xabatch {}\n", env!("CARGO_PKG_VERSION"));
+    assert_eq!(tool(&["--version"], &[]), (0, version.clone().into(), String::new()));
+    let man = include_str!("../xabatch.1").replace("\\-", "-");
+    assert!(man.contains(version.trim_end()), "the man page is of another version");
+    let (_, all, _) = tool(&["--help"], &[]);
+    let all = String::from_utf8(all).expect("text");
+    for command in COMMANDS {
+        let (status, help, _) = tool(&["help", command], &[]);
+        let help = String::from_utf8(help).expect("text");
+        assert_eq!((status, help.starts_with(&format!("usage: xabatch {command} "))), (0, true));
+        assert_eq!(tool(&[command, "--help"], &[]).1, help.as_bytes());
+        assert!(all.contains(&format!("xabatch {command} ")));
+        for word in help.split_whitespace().filter(|word| word.contains("--")) {
+            let option = word.trim_matches(|c: char| !c.is_ascii_alphabetic() && c != '-');
+            assert!(man.contains(option), "{option} is not in the man page");
+            // It is known: what is wrong then is that a file or a value is missing, or nothing.
+            let errors = tool(&[command, option], &[]).2;
+            assert!(!errors.contains("no option"), "{errors}");
+        }
+    }
+    assert_eq!(tool(&["help", "shwo"], &[]).0, 2);
+    assert_eq!(tool(&["run", "--quickly", "p"], &[]).0, 2);
+    assert_eq!(tool(&["new", "1", "a", "b"], &[]).0, 2);
+}
+
+#[test]
+fn a_long_text_is_split_into_batches() {
+    let folder = tool::Folder::new();
+    let text: String = (0..2000).map(|at| format!("load {at}\n")).collect();
+    let (status, out, errors) = tool(&["encode"], text.as_bytes());
+    assert_eq!((status, out.len()), (2, 0));
+    assert!(errors.contains("<stdin>:745:1: batch is full"), "{errors}");
+    assert!(errors.contains("--split"), "{errors}");
+    let prefix = folder.name("part");
+    let (status, out, _) = tool(&["encode", "--split", &prefix], text.as_bytes());
+    assert_eq!((status, out), (0, format!("{prefix}1\n{prefix}2\n{prefix}3\n").into_bytes()));
+    let parts =
+        ["part1", "part2", "part3"].map(|name| std::fs::read(folder.path(name)).expect(name));
+    assert_eq!(parts.each_ref().map(Vec::len), [8184, 8184, 22_000 - 2 * 8184]);
+    assert_eq!(parts.concat(), tool(&["encode", "--long"], text.as_bytes()).1);
+    // No file is overwritten, and none is left where one cannot be written.
+    std::fs::remove_file(folder.path("part1")).expect("removed");
+    let (status, _, errors) = tool(&["encode", "--split", &prefix], text.as_bytes());
+    assert_eq!((status, errors.contains("part2: File exists")), (1, true), "{errors}");
+    assert_eq!(folder.names(), ["part2", "part3"]);
+    assert_eq!(tool(&["encode", "--split", &prefix, "--long"], &[]).0, 2);
+}
+
+#[test]
+fn new_overwrites_nothing() {
+    let folder = tool::Folder::new();
+    let name = folder.name("p.pool");
+    assert_eq!(tool(&["new", "3", &name], &[]).0, 0);
+    let (status, _, errors) = tool(&["new", "4", &name], &[]);
+    assert_eq!((status, errors.contains("p.pool: File exists")), (1, true), "{errors}");
+    assert_eq!(std::fs::read(folder.path("p.pool")).expect("a pool").len(), 8 * 211);
+}
+
+#[test]
+fn control_characters_are_written_out() {
+    let (_, _, errors) = tool(&["encode"], b"load \x1b[31m1\x07\n");
+    assert!(errors.contains(r"'\u{1b}[31m1\u{7}'"), "{errors:?}");
+    let (_, _, errors) = tool(&["show", "no\nfile\u{202e}"], &[]);
+    assert!(errors.contains(r"no\nfile\u{202e}: No such file"), "{errors:?}");
+    let (_, _, errors) = tool(&["encode", "it's é.txt"], &[]);
+    assert!(errors.contains("it's é.txt: "), "{errors:?}");
+}
+
+#[test]
+fn outputs_that_cannot_be_written_fail() {
+    let folder = tool::Folder::new();
+    let pool = folder.pool(3).display().to_string();
+    for command in ["new 3", "encode", "decode", &format!("show {pool}"), "--help", "--version"] {
+        let input =
+            if command == "decode" { &[2, 0, 8, 0, 0, 0, 0, 0, 0, 0, 1][..] } else { b"load 1" };
+        let (status, _, errors) = tool::bash(&format!("\"$X\" {command} > /dev/full"), input);
+        assert_eq!((status, errors.contains("No space left")), (1, true), "{command}: {errors}");
+        let (status, _, errors) = tool::bash(&format!("\"$X\" {command} >&-"), input);
+        assert_eq!((status, errors.contains("closed")), (1, true), "{command}: {errors}");
+    }
+}
+
+/// File names need not be text.
+#[test]
+fn any_file_name_will_do() {
+    let folder = tool::Folder::new();
+    let line =
+        format!("cd {} && \"$X\" new 3 $'p\\xff' && \"$X\" run $'p\\xff'", folder.0.display());
+    let (status, replies, errors) = tool::bash(&line, &tool::batch("load 1\n"));
+    assert_eq!((status, replies.len()), (0, 24), "{errors}");
 }

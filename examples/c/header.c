@@ -1,0 +1,156 @@
+/* The header's own functions and what it says of the calls, tried. Compiled as C99 and as C++. */
+#include "xapool.h"
+#include <stdio.h>
+#include <string.h>
+
+static int failures = 0;
+
+static void check(int holds, const char *what, int line)
+{
+    if (holds)
+        return;
+    failures++;
+    printf("header.c:%d: %s\n", line, what);
+}
+
+#define CHECK(condition) check(condition, #condition, __LINE__)
+
+/* Each builder with exactly its room, and with one byte less. */
+static void builders_look_at_the_room(void)
+{
+    static const unsigned sizes[] = { XAPOOL_STORE_BYTES, XAPOOL_LOAD_BYTES,   XAPOOL_ERASE_BYTES,
+                                      XAPOOL_MARK_BYTES,  XAPOOL_UNMARK_BYTES, XAPOOL_FIND_BYTES };
+    for (unsigned kind = 0; kind < 6; kind++)
+        for (unsigned less = 0; less < 2; less++) {
+            uint8_t bytes[32];
+            memset(bytes, 0xee, sizeof bytes);
+            xapool_batch b = xapool_batch_over(bytes, sizes[kind] - less);
+            int put = kind == 0   ? xapool_put_store(&b, 64, 0, XAPOOL_VALUE(2))
+                      : kind == 1 ? xapool_put_load(&b, 64)
+                      : kind == 2 ? xapool_put_erase(&b, 64)
+                      : kind == 3 ? xapool_put_mark(&b, 64, 1)
+                      : kind == 4 ? xapool_put_unmark(&b, 64, 1)
+                                  : xapool_put_find(&b, 1, UINT64_MAX, XAPOOL_FIND_ANY, 258);
+            unsigned used = less ? 0 : sizes[kind];
+            CHECK(put == !less && b.used == used && b.commands == !less);
+            for (unsigned i = used; i < sizeof bytes; i++)
+                CHECK(bytes[i] == 0xee);
+            xapool_result r = xapool_count(bytes, b.used);
+            CHECK(r.answer == XAPOOL_DONE && r.number == b.commands);
+            CHECK(less || bytes[0] == kind + 1);
+        }
+}
+
+static void records_are_those_of_the_document(void)
+{
+    static const uint8_t store[] = { 1, 0, 17, 0, 0, 0, 0, 0, 0, 0, 64, 0, 0, 0, 0, 0, 0, 0, 0, 5 };
+    static const uint8_t find[] = { 6, 0, 19, 0, 0, 0, 0, 0, 0, 0, 1, 255, 255, 255, 255, 255, 255, 255, 255, 3, 1, 2 };
+    uint8_t bytes[XAPOOL_BATCH_BYTES + 100];
+    xapool_batch b = xapool_batch_over(bytes, sizeof bytes);
+    CHECK(b.room == XAPOOL_BATCH_BYTES);
+    CHECK(xapool_put_store(&b, 64, 0, XAPOOL_VALUE(2)) && memcmp(bytes, store, sizeof store) == 0);
+    CHECK(xapool_put_find(&b, 1, UINT64_MAX, XAPOOL_FIND_ANY, 258) && memcmp(bytes + 20, find, sizeof find) == 0);
+    while (xapool_put_load(&b, 0)) {
+    }
+    CHECK(b.commands == 2 + (XAPOOL_BATCH_BYTES - 42) / XAPOOL_LOAD_BYTES);
+}
+
+static void replies_are_read_or_not(void)
+{
+    uint8_t bytes[48] = { 0x82, 0, 21, 10, 1, 2, 3, 4, 5, 6, 7, 8, 9, 0, 0, 0, 0, 0, 0, 1, 5, 7, 1, 2 };
+    xapool_reply r;
+    memset(&r, 0, sizeof r);
+    CHECK(xapool_read_reply(bytes, 24, 0, &r));
+    CHECK(r.tag == XAPOOL_LOAD && r.answer == XAPOOL_ABSENT && r.index == UINT64_C(0x0102030405060708));
+    CHECK(r.order == 9 && r.entry == 261 && r.marks == 7 && r.count == 258);
+    CHECK(!xapool_read_reply(bytes, 23, 0, &r) && !xapool_read_reply(bytes, 24, 1, &r));
+    CHECK(!xapool_read_reply(bytes, 48, 1, &r) && !xapool_read_reply(bytes, 48, SIZE_MAX, &r));
+    static const uint8_t wrong[][2] = { { 0, 128 }, { 0, 135 }, { 1, 1 }, { 2, 20 }, { 3, 14 } };
+    for (unsigned i = 0; i < 5; i++) {
+        uint8_t old = bytes[wrong[i][0]];
+        bytes[wrong[i][0]] = wrong[i][1];
+        CHECK(!xapool_read_reply(bytes, 24, 0, &r) && r.count == 258);
+        bytes[wrong[i][0]] = old;
+    }
+}
+
+/* A reply to a find, and where it goes on; 0 and 'first' unchanged is the end. */
+static void next(uint8_t answer, uint64_t index, uint8_t order, uint64_t last, int goes, uint64_t to)
+{
+    xapool_reply r = { XAPOOL_FIND, answer, order, 0, 1, index, 1 };
+    uint64_t first = 7;
+    CHECK(xapool_next_first(&r, last, &first) == goes);
+    CHECK(!goes || first == to);
+    r.tag = XAPOOL_LOAD;
+    CHECK(!xapool_next_first(&r, last, &first));
+}
+
+static void finds_go_on_after_the_run(void)
+{
+    next(XAPOOL_DONE, 8, 3, UINT64_MAX, 1, 16);
+    next(XAPOOL_DONE, 8, 3, 16, 1, 16);
+    next(XAPOOL_DONE, 8, 3, 15, 0, 0);
+    next(XAPOOL_DONE, 8, 3, 12, 0, 0);
+    next(XAPOOL_DONE, UINT64_MAX, 0, UINT64_MAX, 0, 0);
+    next(XAPOOL_DONE, UINT64_MAX - 1, 0, UINT64_MAX, 1, UINT64_MAX);
+    next(XAPOOL_DONE, UINT64_C(1) << 63, 63, UINT64_MAX, 0, 0);
+    next(XAPOOL_DONE, 0, 63, UINT64_MAX, 1, UINT64_C(1) << 63);
+    next(XAPOOL_DONE, 0, 64, UINT64_MAX, 0, 0);
+    next(XAPOOL_PAUSED, 64, 0, UINT64_MAX, 1, 64);
+    next(XAPOOL_ENDED, 0, 0, UINT64_MAX, 0, 0);
+    next(XAPOOL_BAD_MARK, 0, 0, UINT64_MAX, 0, 0);
+}
+
+static void answers_have_texts(void)
+{
+    for (unsigned a = XAPOOL_DONE; a <= XAPOOL_PAUSED; a++)
+        CHECK(strcmp(xapool_answer_text(a), xapool_answer_text(14)) != 0);
+    CHECK(strcmp(xapool_answer_text(XAPOOL_TOO_FEW_NODES), "too few free nodes") == 0);
+    CHECK(strcmp(xapool_answer_text(UINT64_MAX), xapool_answer_text(14)) == 0);
+    char version[32];
+    sprintf(version, "%d.%d.%d", XAPOOL_VERSION_MAJOR, XAPOOL_VERSION_MINOR, XAPOOL_VERSION_PATCH);
+    CHECK(strcmp(version, XAPOOL_VERSION) == 0);
+}
+
+static void null_with_length_0_is_fine(void)
+{
+    static uint64_t pool[XAPOOL_WORDS(1)];
+    CHECK(xapool_init(NULL, 0).answer == XAPOOL_POOL_LENGTH);
+    CHECK(xapool_check(NULL, 0).answer == XAPOOL_POOL_LENGTH);
+    CHECK(xapool_run(NULL, 0, NULL, 0, NULL, 0).answer == XAPOOL_POOL_LENGTH);
+    CHECK(xapool_count(NULL, 0).answer == XAPOOL_DONE);
+    CHECK(xapool_init(pool, XAPOOL_WORDS(1)).answer == XAPOOL_DONE);
+    CHECK(xapool_run(pool, XAPOOL_WORDS(1), NULL, 0, NULL, 0).answer == XAPOOL_DONE);
+}
+
+/* Batch and reply at every alignment; nothing past the replies is written. */
+static void bytes_may_begin_anywhere(void)
+{
+    static uint64_t pool[XAPOOL_WORDS(3)];
+    for (unsigned at = 0; at < 16; at++) {
+        uint8_t bytes[64], replies[80];
+        memset(replies, 0xee, sizeof replies);
+        xapool_batch b = xapool_batch_over(bytes + at, 40);
+        xapool_put_store(&b, 64, 0, XAPOOL_VALUE(2));
+        xapool_put_load(&b, 64);
+        xapool_init(pool, XAPOOL_WORDS(3));
+        xapool_result r = xapool_run(pool, XAPOOL_WORDS(3), b.bytes, b.used, replies + at, 48);
+        xapool_reply load;
+        CHECK(r.answer == XAPOOL_DONE && xapool_read_reply(replies + at, 48, 1, &load) && load.entry == 5);
+        for (unsigned i = 0; i < sizeof replies; i++)
+            CHECK((i >= at && i < at + 48) || replies[i] == 0xee);
+    }
+}
+
+int main(void)
+{
+    builders_look_at_the_room();
+    records_are_those_of_the_document();
+    replies_are_read_or_not();
+    finds_go_on_after_the_run();
+    answers_have_texts();
+    null_with_length_0_is_fine();
+    bytes_may_begin_anywhere();
+    puts(failures ? "some do not hold" : "all hold");
+    return failures != 0;
+}

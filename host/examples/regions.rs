@@ -1,0 +1,229 @@
+//! The inspection of a migration of 10,000 regions: store them (growing the pool where nodes run
+//! short), mark what was compared, split what differs, save and load, and account for every region.
+//!
+//! Mark 0 is kept inverted, 'not yet matched': a find has no filter for a missing mark.
+//! examples/c/regions.c is the same job in C and prints the same lines.
+
+use std::error::Error;
+use std::fs;
+use xapool_host::{
+    Answer, BatchBuilder, Command, Entry, Marks, Pool, Replies, Word, FIND_ANY, MOST_NODES,
+};
+
+const REGIONS: u64 = 10_000;
+const UNMATCHED: u8 = 0;
+const DIFFERENT: u8 = 1;
+const REVIEW: u8 = 2;
+
+type Result<T> = std::result::Result<T, Box<dyn Error>>;
+
+/// Region r: small ones side by side, nine large ones far away, and one at the last index.
+fn region(r: u64) -> Entry {
+    let (base, order) = match r {
+        _ if r == REGIONS - 1 => (u64::MAX, 0),
+        _ if r % 1000 == 999 => ((r / 1000 + 1) << 40, 10 + r / 1000),
+        _ => (4 * r, r % 3),
+    };
+    Entry { base, order: order as u8, word: Word(2 * r + 1), marks: Marks(1 << UNMATCHED) }
+}
+
+/// Commands that store an entry with its marks.
+fn commands_of(entry: Entry) -> impl Iterator<Item = Command> {
+    let Entry { base: index, order, word, marks } = entry;
+    let marks = (0..3).filter(move |mark| marks.has(*mark));
+    [Command::Store { index, order, word }]
+        .into_iter()
+        .chain(marks.map(move |mark| Command::Mark { index, mark }))
+}
+
+fn answered(replies: &Replies, answer: Answer) -> usize {
+    replies.iter().filter(|reply| reply.answer == answer).count()
+}
+
+/// Runs the commands; each must be done.
+fn run_done(pool: &mut Pool, commands: impl IntoIterator<Item = Command>) -> Result<()> {
+    for reply in pool.run_all(commands)? {
+        reply.done()?;
+    }
+    Ok(())
+}
+
+/// A pool of twice the nodes with the same entries and marks.
+fn grow(pool: &mut Pool<'static>) -> Result<()> {
+    let nodes = (2 * pool.nodes().unwrap_or(MOST_NODES)).min(MOST_NODES);
+    let entries: Vec<Entry> = pool.find(.., FIND_ANY).collect::<std::result::Result<_, _>>()?;
+    let mut bigger = Pool::new(nodes)?;
+    run_done(&mut bigger, entries.iter().copied().flat_map(commands_of))?;
+    *pool = bigger;
+    println!("a pool of {nodes} nodes for {} entries", entries.len());
+    Ok(())
+}
+
+/// Stores the regions. Those for which nodes run short are stored again in a larger pool; the other
+/// commands of their batch have run. Gives how many were refused.
+fn store_all(pool: &mut Pool<'static>) -> Result<usize> {
+    let mut waiting: Vec<Entry> = (0..REGIONS).map(region).collect();
+    let mut shortages = 0;
+    loop {
+        let replies = pool.run_all(waiting.iter().copied().flat_map(commands_of))?;
+        // A store and a mark for each; the mark of a region that was not stored finds nothing.
+        let refused: Vec<Entry> = (0..waiting.len())
+            .filter(|at| replies[2 * at].answer == Answer::TooFewNodes)
+            .map(|at| waiting[at])
+            .collect();
+        let done = replies.len() - 2 * refused.len();
+        if answered(&replies, Answer::Done) != done
+            || answered(&replies, Answer::Absent) != refused.len()
+        {
+            return Err("a store was answered with something else".into());
+        }
+        if refused.is_empty() {
+            return Ok(shortages);
+        }
+        shortages += refused.len();
+        waiting = refused;
+        grow(pool)?;
+    }
+}
+
+fn is_different(r: u64) -> bool {
+    r % 7 == 3
+}
+
+fn is_unread(r: u64) -> bool {
+    r % 13 == 6 && !is_different(r)
+}
+
+fn is_for_review(r: u64) -> bool {
+    r % 11 == 5
+}
+
+/// What was compared: the regions that match lose mark 0.
+fn compare_all(pool: &mut Pool) -> Result<()> {
+    let commands = (0..REGIONS).flat_map(|r| {
+        let index = region(r).base;
+        let compared = match (is_different(r), is_unread(r)) {
+            (true, _) => Some(Command::Mark { index, mark: DIFFERENT }),
+            (_, true) => None,
+            _ => Some(Command::Unmark { index, mark: UNMATCHED }),
+        };
+        let review = is_for_review(r).then_some(Command::Mark { index, mark: REVIEW });
+        compared.into_iter().chain(review)
+    });
+    run_done(pool, commands)
+}
+
+/// The two halves of an entry.
+fn halves(entry: Entry) -> Option<[Entry; 2]> {
+    let order = entry.order.checked_sub(1)?;
+    let half = Entry { order, ..entry };
+    Some([half, Entry { base: entry.base + (1 << order), ..half }])
+}
+
+/// Splits what differs. A store inside an entry would replace its word alone, so it is erased first.
+/// On a copy: if a store is refused after its erase, the pool still has it.
+fn split_different(pool: &mut Pool<'static>) -> Result<usize> {
+    let found: Vec<Entry> = pool.find(.., DIFFERENT).collect::<std::result::Result<_, _>>()?;
+    let mut commands = Vec::new();
+    let mut split = 0;
+    for entry in found {
+        if let Some(halves) = halves(entry) {
+            split += 1;
+            commands.push(Command::Erase { index: entry.base });
+            commands.extend(halves.into_iter().flat_map(commands_of));
+        }
+    }
+    let mut copy = pool.clone();
+    run_done(&mut copy, commands)?;
+    *pool = copy;
+    Ok(split)
+}
+
+/// A checksum to keep beside a saved pool: the check knows the structure, not the entries.
+fn checksum(bytes: &[u8]) -> u64 {
+    let step = |sum: u64, byte: &u8| (sum ^ u64::from(*byte)).wrapping_mul(0x100_0000_01b3);
+    bytes.iter().fold(0xcbf2_9ce4_8422_2325, step)
+}
+
+/// Saves the pool to a file and loads it into other words.
+fn save_and_load(pool: &mut Pool<'static>) -> Result<()> {
+    let file = std::env::temp_dir().join(format!("regions-{}.pool", std::process::id()));
+    let bytes = pool.to_bytes();
+    let sum = checksum(&bytes);
+    fs::write(&file, &bytes)?;
+    let loaded = fs::read(&file)?;
+    fs::remove_file(&file)?;
+    if checksum(&loaded) != sum {
+        return Err("the file has other bytes".into());
+    }
+    *pool = Pool::from_bytes(&loaded)?;
+    println!("saved and loaded {} bytes, checksum {sum:016x}", bytes.len());
+    Ok(())
+}
+
+/// Goes through the unmatched regions below 4,000, ten steps at a time. (`Pool::find` does this by
+/// itself; here the pauses are counted.)
+fn walk_with_pauses(pool: &mut Pool) -> Result<()> {
+    let last = 3999;
+    let (mut next, mut found, mut pauses) = (Some(0), 0, 0);
+    while let Some(first) = next {
+        let mut batch = BatchBuilder::new();
+        batch.push(Command::Find { first, last, filter: UNMATCHED, budget: 10 })?;
+        let reply = pool.run(&batch)?[0];
+        found += usize::from(reply.entry().is_some());
+        pauses += usize::from(reply.paused_at().is_some());
+        next = reply.next_first(last);
+    }
+    println!("unmatched below 4000: {found}, with {pauses} pauses");
+    Ok(())
+}
+
+/// The entries that the rules above call for, by no other means than these rules.
+fn expected() -> Vec<Entry> {
+    let mut entries: Vec<Entry> = Vec::new();
+    for r in 0..REGIONS {
+        let unmatched = is_different(r) || is_unread(r);
+        let marks = u8::from(unmatched) << UNMATCHED
+            | u8::from(is_different(r)) << DIFFERENT
+            | u8::from(is_for_review(r)) << REVIEW;
+        let entry = Entry { marks: Marks(marks), ..region(r) };
+        match halves(entry).filter(|_| is_different(r)) {
+            Some(halves) => entries.extend(halves),
+            None => entries.push(entry),
+        }
+    }
+    entries.sort_by_key(|entry| entry.base);
+    entries
+}
+
+fn account_for_all(pool: &mut Pool) -> Result<()> {
+    let entries: Vec<Entry> = pool.find(.., FIND_ANY).collect::<std::result::Result<_, _>>()?;
+    if entries != expected() {
+        return Err("an entry is missing or another".into());
+    }
+    let with = |mark| entries.iter().filter(|entry| entry.marks.has(mark)).count();
+    let (unmatched, different, review) = (with(UNMATCHED), with(DIFFERENT), with(REVIEW));
+    println!(
+        "{} entries: {unmatched} unmatched, {different} different, {review} for review",
+        entries.len()
+    );
+    for mark in 0..3 {
+        if pool.find(.., mark).count() != with(mark) {
+            return Err("a find by mark misses some".into());
+        }
+    }
+    Ok(())
+}
+
+fn main() -> Result<()> {
+    let mut pool = Pool::new(100)?;
+    let shortages = store_all(&mut pool)?;
+    println!("stored {REGIONS} regions; {shortages} stores met a shortage on the way");
+    compare_all(&mut pool)?;
+    println!("split {} regions", split_different(&mut pool)?);
+    save_and_load(&mut pool)?;
+    walk_with_pauses(&mut pool)?;
+    account_for_all(&mut pool)?;
+    println!("every region is accounted for");
+    Ok(())
+}

@@ -1,0 +1,18 @@
+//! Why the tool ends, with its exit status.
+
+/// A message for standard error; none is written where it is empty.
+#[derive(Debug)]
+pub struct Failure {
+    pub status: u8,
+    pub message: String,
+}
+
+/// Status 1: an input, a file or an output is at fault.
+pub fn malformed(message: impl Into<String>) -> Failure {
+    Failure { status: 1, message: message.into() }
+}
+
+/// Status 2: bad usage or a syntax error.
+pub fn usage(message: impl Into<String>) -> Failure {
+    Failure { status: 2, message: message.into() }
+}

@@ -1,0 +1,63 @@
+//! Standard input and output, and files by name.
+
+use crate::failure::{malformed, Failure};
+use crate::os;
+use std::ffi::OsStr;
+use std::fs::{self, File};
+use std::io::{self, ErrorKind, Read, Write};
+use std::os::fd::AsFd;
+
+/// How a file is called in messages.
+pub fn name(file: &OsStr) -> String {
+    if file == "-" {
+        "<stdin>".into()
+    } else {
+        file.to_string_lossy().into_owned()
+    }
+}
+
+/// A failure of this file.
+pub fn of_file(file: &OsStr, what: impl std::fmt::Display) -> Failure {
+    malformed(format!("{}: {what}", name(file)))
+}
+
+/// All bytes of a file; `-` is standard input.
+pub fn read(file: &OsStr) -> Result<Vec<u8>, Failure> {
+    let read = match file == "-" {
+        true if os::was_closed(0) => Err(io::Error::other("it is closed")),
+        true => {
+            let mut bytes = Vec::new();
+            io::stdin().read_to_end(&mut bytes).map(|_| bytes)
+        }
+        false => fs::read(file),
+    };
+    read.map_err(|error| of_file(file, error))
+}
+
+/// Fails if standard output is closed: to be asked before anything is changed.
+pub fn output_is_open() -> Result<(), Failure> {
+    if os::was_closed(1) {
+        return Err(malformed("standard output: it is closed"));
+    }
+    Ok(())
+}
+
+/// Writes to standard output. Where the reader went away, as `head` does, the status tells it alone.
+pub fn write(bytes: &[u8]) -> Result<(), Failure> {
+    output_is_open()?;
+    try_write(bytes).map_err(|error| match error.kind() {
+        ErrorKind::BrokenPipe => malformed(""),
+        _ => malformed(format!("standard output: {error}")),
+    })
+}
+
+/// Writes to standard output, all or with the error. Past Rust's own buffer, which would write in
+/// pieces and takes some errors for success.
+pub fn try_write(bytes: &[u8]) -> io::Result<()> {
+    let mut out = File::from(io::stdout().as_fd().try_clone_to_owned()?);
+    out.write_all(bytes)
+}
+
+pub fn write_lines(lines: &[String]) -> Result<(), Failure> {
+    write(lines.iter().map(|line| format!("{line}\n")).collect::<String>().as_bytes())
+}

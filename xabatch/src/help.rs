@@ -1,0 +1,121 @@
+//! The texts of help and version.
+
+use crate::failure::{usage, Failure};
+use crate::files;
+use std::ffi::OsString;
+
+pub const VERSION: &str = concat!("xabatch ", env!("CARGO_PKG_VERSION"), "\n");
+
+const HELP: &str = "\
+usage: xabatch encode [--long | --split PREFIX] [FILE]     text to a batch
+       xabatch decode [--batch BATCHFILE] [FILE]           replies, a refused call or a batch to text
+       xabatch show [OPTIONS] POOLFILE                     a pool as a tree, and what is wrong with it
+       xabatch new NODES [POOLFILE]                        an empty pool of 1 to 1,000 nodes
+       xabatch run [--no-wait] POOLFILE [FILE]             a batch on a pool file; replies to standard output
+       xabatch help COMMAND                                more on one of these; also xabatch COMMAND --help
+       xabatch --version
+
+A FILE that is not named, or is -, is standard input. Results go to standard output.
+
+Exit status: 0 fine; 1 the input is malformed, the pool is not well-formed, the call was refused,
+or a file or the output cannot be read or written; 2 bad usage or a syntax error in the text, which
+is named by FILE:LINE:COLUMN.
+";
+
+const ENCODE: &str = "\
+usage: xabatch encode [--long | --split PREFIX] [FILE]
+
+Turns text into a batch. One command a line, # begins a comment. Numbers are decimal or hex (0x40);
+max is 2^64 - 1.
+
+  store 64 order 0 value 2         the entry word 2v + 1; v to 2^63 - 1
+  store 64 order 3 handle 0x1000   a multiple of 4 above 0
+  store 64 order 0 word 5          any word, also one that is refused
+  load 64
+  erase 64
+  mark 64 mark 0
+  unmark 64 mark 0
+  find 1..max mark 0 budget 100    entries with that mark
+  find 1..max any budget 100       any entry
+
+A batch has at most 8,192 bytes; a text that needs more is refused, unless:
+
+  --long           writes all records in a row; 'xabatch run' takes them apart again
+  --split PREFIX   writes the batches to PREFIX1, PREFIX2, .. and their names to standard output;
+                   a file that is there already is not touched, and nothing is written
+
+Where the text has an error, nothing is written.
+";
+
+const DECODE: &str = "\
+usage: xabatch decode [--batch BATCHFILE] [FILE]
+
+Writes a line for each record: replies, the record of a refused call, or the commands of a batch.
+The exit status is 1 if a call was refused or a record is bad; the lines before it are written.
+
+  --batch BATCHFILE   the replies are those to this batch: the exit status is 1 unless there is one
+                      for each command, of its kind. The program tamburish always exits with 0;
+                      this tells whether its output is whole.
+";
+
+const SHOW: &str = "\
+usage: xabatch show [--summary | --findings] [--range FIRST..LAST] [--all] POOLFILE
+
+Draws a pool file as a tree and lists what is wrong with it: first what is wrong by itself, then how
+much follows from that.
+
+  --summary             counts in place of the tree: entries by order, marks, nodes by shift
+  --findings            only what is wrong
+  --range FIRST..LAST   only the part of the tree that meets these indices
+  --all                 what follows is listed too
+
+The exit status is 1 if the pool is not well-formed. A well-formed pool can hold wrong entries: the
+check knows the structure, not what you stored.
+";
+
+const NEW: &str = "\
+usage: xabatch new NODES [POOLFILE]
+
+Writes an empty pool of 1 to 1,000 nodes to a new file, or to standard output. A file that is there
+already is not touched. A pool file has the pool's 64-bit words in order, each as 8 bytes, lowest
+byte first.
+";
+
+const RUN: &str = "\
+usage: xabatch run [--no-wait] POOLFILE [FILE]
+
+Runs a batch on a pool file and writes the replies to standard output. In this order: the batch is
+read; the pool file is locked and read; the batch runs in memory; the new pool is written beside the
+old one, flushed to disk and renamed to its name, and the folder is flushed; the lock is given back;
+the replies are written. So a reply that you read is of a pool that is safe, a run that fails or is
+killed leaves the old pool or the new one, whole, and runs at the same time go one after another.
+
+  --no-wait   where another run has the lock, fail in place of waiting
+
+A row of records longer than a batch (8,192 bytes) is run as several batches; all or none reach the
+file. The new file has the owner and mode of the old one; a symbolic link stays and the file that it
+leads to is replaced; another hard link of the old file keeps the old pool. A batch that changes
+nothing writes nothing. If the replies cannot be written, the exit status is 1 and the pool is
+changed: 'xabatch show' says what it holds.
+";
+
+fn text_of(command: &str) -> Option<&'static str> {
+    Some(match command {
+        "encode" => ENCODE,
+        "decode" => DECODE,
+        "show" => SHOW,
+        "new" => NEW,
+        "run" => RUN,
+        _ => return None,
+    })
+}
+
+/// Help for one command, or for all.
+pub fn write(command: Option<&OsString>) -> Result<(), Failure> {
+    command.map_or_else(|| files::write(HELP.as_bytes()), |name| write_of(&name.to_string_lossy()))
+}
+
+pub fn write_of(command: &str) -> Result<(), Failure> {
+    let unknown = || usage(format!("'{command}': no such command; try 'xabatch --help'"));
+    files::write(text_of(command).ok_or_else(unknown)?.as_bytes())
+}

@@ -1,0 +1,42 @@
+//! What the standard library has no name for. All `unsafe` code of this crate is here.
+
+use std::sync::atomic::{AtomicU8, Ordering};
+
+const F_GETFD: i32 = 1;
+const SIGXFSZ: i32 = 25;
+const SIG_IGN: usize = 1;
+
+extern "C" {
+    fn fcntl(file: i32, command: i32, ...) -> i32;
+    fn signal(number: i32, handler: usize) -> usize;
+}
+
+/// Bit k: file k was closed when the process began.
+static CLOSED: AtomicU8 = AtomicU8::new(0);
+
+/// Rust opens /dev/null in place of a closed standard file before `main`, and what is written
+/// there is lost in silence; so this is asked before that.
+extern "C" fn look_at_standard_files() {
+    for file in 0..3 {
+        // SAFETY: asks for the flags of a number; it need not be that of an open file.
+        if unsafe { fcntl(file, F_GETFD) } == -1 {
+            CLOSED.fetch_or(1 << file, Ordering::Relaxed);
+        }
+    }
+}
+
+/// The functions of this section are called before Rust's own start.
+#[used]
+#[link_section = ".init_array"]
+static BEFORE_START: extern "C" fn() = look_at_standard_files;
+
+/// Whether this standard file (0, 1 or 2) was closed when the process began.
+pub fn was_closed(file: u8) -> bool {
+    CLOSED.load(Ordering::Relaxed) >> file & 1 == 1
+}
+
+/// A file that reaches its size limit is then an error of that write, not the end of the process.
+pub fn size_limit_is_an_error() {
+    // SAFETY: ignores one signal; no handler is set.
+    unsafe { signal(SIGXFSZ, SIG_IGN) };
+}

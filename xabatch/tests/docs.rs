@@ -1,0 +1,93 @@
+//! What README.md and docs/HOST.md show is what happens: each `console` block is run line by line,
+//! and each C block is the example it says.
+
+mod tool;
+
+use std::fs;
+use std::os::unix::fs::symlink;
+use std::path::{Path, PathBuf};
+use std::process::Command;
+use tool::{output_of, Folder, TOOL};
+
+fn root() -> PathBuf {
+    Path::new(env!("CARGO_MANIFEST_DIR")).join("..")
+}
+
+fn page(name: &str) -> String {
+    fs::read_to_string(root().join(name)).expect(name)
+}
+
+/// The blocks of this kind in a page.
+fn blocks(page: &str, kind: &str) -> Vec<String> {
+    let start = format!("\n```{kind}\n");
+    let parts = page.split(start.as_str()).skip(1);
+    parts.map(|part| part.split_once("```").expect("an end").0.to_owned()).collect()
+}
+
+/// A command, lines that continue it taken in, and what it is said to write.
+fn steps(block: &str) -> Vec<(String, String)> {
+    let mut steps: Vec<(String, String)> = Vec::new();
+    for line in block.lines() {
+        match (line.strip_prefix("$ "), line.strip_prefix("> "), steps.last_mut()) {
+            (Some(command), _, _) => steps.push((command.into(), String::new())),
+            (_, Some(more), Some(step)) if step.1.is_empty() => step.0 += &format!("\n{more}"),
+            (_, _, Some(step)) => step.1 += &format!("{line}\n"),
+            _ => panic!("a block begins with a command: {line}"),
+        }
+    }
+    steps
+}
+
+/// A folder in which `xabatch` and `target/bin/tamburish` are what they are for a reader.
+fn folder() -> Folder {
+    let folder = Folder::new();
+    let default = root().join("target/bin/tamburish");
+    let program = std::env::var_os("TAMBURISH_BIN").map_or(default, PathBuf::from);
+    fs::create_dir_all(folder.path("target/bin")).expect("a folder");
+    let program = program.canonicalize().expect("run 'rt check tamburish'");
+    symlink(program, folder.path("target/bin/tamburish")).expect("a link");
+    folder
+}
+
+fn said(folder: &Folder, command: &str) -> String {
+    let tools = Path::new(TOOL).parent().expect("a folder").display().to_string();
+    let path = format!("{tools}:{}", std::env::var("PATH").unwrap_or_default());
+    let mut bash = Command::new("bash");
+    bash.args(["-c", &format!("exec 2>&1\n{command}")]).current_dir(&folder.0).env("PATH", path);
+    String::from_utf8(output_of(&mut bash, &[]).stdout).expect("text")
+}
+
+#[test]
+fn what_the_host_page_shows_happens() {
+    let folder = folder();
+    let mut count = 0;
+    for block in blocks(&page("docs/HOST.md"), "console") {
+        for (command, text) in steps(&block) {
+            assert_eq!(said(&folder, &command), text, "$ {command}");
+            count += 1;
+        }
+    }
+    assert!(count >= 15, "{count} commands");
+}
+
+#[test]
+fn the_c_program_of_the_pages_is_the_example() {
+    let minimal = page("examples/c/minimal.c");
+    for name in ["README.md", "docs/HOST.md"] {
+        assert_eq!(blocks(&page(name), "c"), [minimal.as_str()], "{name}");
+    }
+}
+
+/// The text and the replies that README.md shows are those of its second command.
+#[test]
+fn the_batch_of_the_first_page() {
+    let readme = page("README.md");
+    let shown = &blocks(&readme, "text")[0];
+    let (text, replies) = shown.split_once("\n\n").expect("the batch, then the replies");
+    let folder = folder();
+    fs::write(folder.path("pages.txt"), page("examples/pages.txt")).expect("written");
+    assert_eq!(said(&folder, "xabatch encode pages.txt | xabatch decode"), format!("{text}\n"));
+    let run = "xabatch encode pages.txt | target/bin/tamburish | xabatch decode";
+    assert_eq!(said(&folder, run), replies);
+    assert!(readme.contains("bash scripts/try"));
+}
