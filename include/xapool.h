@@ -3,8 +3,8 @@
  * The library has no memory of its own and keeps nothing between two calls: all state is in the
  * pool. A pool may be moved, saved and loaded: it has no addresses in it.
  *
- * An entry is a 64-bit word: odd (value v is the word 2v + 1), or a multiple of 4 above 0 (a handle,
- * never followed). It has an order k, 0 to 63, and covers the 2^k indices from a base that is a
+ * The word of an entry has 64 bits: it is odd (2v + 1 for the value v), or a multiple of 4 other than
+ * 0 (a handle, which is not followed). An entry of order k, 0 to 63, covers 2^k indices; its base is a
  * multiple of 2^k. It has three marks, together a byte: mark m is worth 2^m.
  *
  * What a host must know:
@@ -74,7 +74,7 @@ enum xapool_answer {
     XAPOOL_DONE = 0,             /* call: done, number: commands run. reply: done */
     XAPOOL_POOL_LENGTH = 1,      /* pool_words is not 4 + 69 N with N from 1 to 1,000; number 0 */
     XAPOOL_NOT_WELL_FORMED = 2,  /* the words are not those of a pool (never initialised, or damaged); number 0 */
-    XAPOOL_BAD_BATCH = 3,        /* a record is cut, of unknown tag or of wrong length; number: the place of
+    XAPOOL_BAD_BATCH = 3,        /* a record is cut off, or its tag or length is none; number: the place of
                                     its first byte. Over 8,192 bytes: number 8,192 */
     XAPOOL_REPLY_SPACE = 4,      /* reply_bytes is under 24 a command; number: commands */
     XAPOOL_BAD_ORDER = 5,        /* store: the order is above 63 */
@@ -93,13 +93,13 @@ enum xapool_answer {
  * A batch is a row of records: a tag (1 byte), the length of its fields (2 bytes), the fields.
  * All numbers are big-endian. An empty batch is a batch.
  *
- *   tag  command  fields (bytes)                                length
- *   1    store    index 8, order 1, entry 8                     17
- *   2    load     index 8                                        8
- *   3    erase    index 8                                        8
- *   4    mark     index 8, mark 1                                9
- *   5    unmark   index 8, mark 1                                9
- *   6    find     first 8, last 8, filter 1, budget 2           19
+ *   tag  command  length  fields
+ *   1    store    17      index (8 bytes), order (1), entry (8)
+ *   2    load      8      index (8)
+ *   3    erase     8      index (8)
+ *   4    mark      9      index (8), mark (1)
+ *   5    unmark    9      index (8), mark (1)
+ *   6    find     19      first (8), last (8), and then filter (1), budget (2)
  *
  * store: one entry over the 2^order indices around index, in place of all that lay there; it has
  *   the marks of what it replaces. Where an entry of that order or more covers them, only that
@@ -141,8 +141,8 @@ enum xapool_tag {
  *        21  marks         1
  *        22  count         2   load: nodes over the index (also with 10); find: steps
  *
- * store, load, mark, unmark and a find that found give the entry as it then stands; erase gives the
- * entry it removed. What a command does not give is zero. */
+ * store, load, mark and unmark give the entry over the index after the command, find the one that it
+ * found, erase the one that it removed. What a command does not give is zero. */
 #define XAPOOL_AT_ANSWER 3
 #define XAPOOL_AT_INDEX 4
 #define XAPOOL_AT_ORDER 12

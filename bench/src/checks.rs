@@ -6,6 +6,7 @@ use crate::loads::*;
 use crate::measure::{empty_pool, nanoseconds};
 use std::hint::black_box;
 use std::time::Instant;
+use xapool_host::layout::{node_word, ANCHOR_WORDS, NODE_WORDS};
 use xapool_host::{Command, REPLY_BYTES};
 
 const NODES: [usize; 2] = [40, 1000];
@@ -66,7 +67,7 @@ impl Trial {
         };
         let used = last_node(&words);
         // The word of a node that there is not; another parent; marks unlike those of the slot above.
-        let last_word = with(words.len() - 1, 4 * (1024 + nodes as u64) + 2);
+        let last_word = with(words.len() - 1, node_word(nodes));
         let owner = used.map(|node| with(node + 1, words[node + 1] ^ 64));
         let marks = used.map(|node| with(node + 4, u64::from(words[node + 4] == 0)));
         let bad = [Some(last_word), owner, marks];
@@ -149,7 +150,7 @@ fn pool(library: &dyn Library, kind: &Kind, nodes: usize) -> Result<Vec<u64>, St
 
 /// The place of the first word of the last node in use.
 fn last_node(words: &[u64]) -> Option<usize> {
-    (4..words.len()).step_by(69).rev().find(|place| words[*place] != 0)
+    (ANCHOR_WORDS..words.len()).step_by(NODE_WORDS).rev().find(|place| words[*place] != 0)
 }
 
 impl Checked {

@@ -1,10 +1,17 @@
-//! Cases 14 and 15 of document 01, the empty batch, and batches of 8,192 and 8,193 bytes, with the
-//! document's own figures; and cases 2 to 12 command by command against reference, all words and
-//! replies (their figures are computed by the proved table and tested in host/).
+//! Cases 13 to 15 (R118 to R120), the empty batch, and batches of 8,192 and 8,193 bytes, with the
+//! rules' own figures; and cases 2 to 13 command by command against reference, all words and
+//! replies (their figures are computed by the proved table and tested in host/). A case that fails
+//! says which commands it ran and the first word or byte that differs.
 
+use crate::batches::{hex, show};
 use crate::lend::{Call, Given, Lender};
+use crate::list::CallList;
 use crate::program::Input;
+use reference::pool::pool_length;
 use xapool_host::{Command, Word};
+
+/// Its name, and what is wrong.
+type Case = (&'static str, Option<String>);
 
 fn records(commands: &[Command]) -> Vec<u8> {
     let mut batch = Vec::new();
@@ -13,7 +20,11 @@ fn records(commands: &[Command]) -> Vec<u8> {
 }
 
 fn store(index: u64, word: u64) -> Command {
-    Command::Store { index, order: 0, word: Word(word) }
+    store_order(index, 0, word)
+}
+
+fn store_order(index: u64, order: u8, word: u64) -> Command {
+    Command::Store { index, order, word: Word(word) }
 }
 
 /// 736 records of 11 bytes and 8 of 12: 8,192 bytes, 744 commands.
@@ -24,82 +35,116 @@ fn full() -> Vec<u8> {
 }
 
 /// A call on a pool of these words, which is initialised before.
-fn after_init(words: usize, call: Call) -> Given {
+fn after_init(words: usize, call: &Call) -> Given {
     let mut lender = Lender::new();
     lender.set_pool(&vec![0; words]);
     lender.call(&Call::Init, words);
-    lender.call(&call, words)
+    lender.call(call, words)
 }
 
-fn run(batch: Vec<u8>, reply: usize) -> Given {
-    after_init(211, Call::Run { batch, reply })
+/// By figures: what a call is to answer on a pool of these words.
+fn answers(words: usize, call: Call, answer: u64, number: u64) -> Option<String> {
+    let given = after_init(words, &call);
+    let found = (given.answer, given.number);
+    let list = CallList { words: vec![0; words], calls: vec![Call::Init, call] };
+    (found != (answer, number)).then(|| {
+        let wanted = (answer, number);
+        format!("{}answer and number are {found:?}, not {wanted:?}", list.show())
+    })
 }
 
-type Case = (&'static str, bool);
+/// By figures: what a batch is to answer on a pool of 3 nodes.
+fn runs(batch: Vec<u8>, reply: usize, answer: u64, number: u64) -> Option<String> {
+    answers(211, Call::Run { batch, reply }, answer, number)
+}
 
-fn gives(given: &Given, answer: u64, number: u64) -> bool {
-    (given.answer, given.number) == (answer, number)
+/// By figures: the last reply to these commands on a pool of 3 nodes.
+fn replies(commands: &[Command], wanted: &[u8]) -> Option<String> {
+    let (batch, reply) = (records(commands), 24 * commands.len());
+    let given = after_init(211, &Call::Run { batch: batch.clone(), reply });
+    differs(&batch, &given.reply[reply - 24..], wanted)
+}
+
+fn differs(batch: &[u8], found: &[u8], wanted: &[u8]) -> Option<String> {
+    let place = (0..found.len().max(wanted.len())).find(|at| found.get(*at) != wanted.get(*at))?;
+    let (found, wanted) = (hex(found), hex(wanted));
+    let batch = show(batch);
+    Some(format!("{batch}byte {place} differs:\n    wanted {wanted}\n    found  {found}"))
+}
+
+/// A find from 1 to the last index, and its reply: 64 is position or base, entry 5 where found.
+fn case_13() -> Vec<Case> {
+    let find = |filter, budget| Command::Find { first: 1, last: u64::MAX, filter, budget };
+    let three = [store(0, 3), store(64, 5)];
+    let after = |command| [&three[..], &[command]].concat();
+    let marked = [&three[..], &[Command::Mark { index: 64, mark: 0 }, find(0, 100)]].concat();
+    let reply = |answer, word, marks, count| {
+        let head = [0x86, 0, 21, answer, 0, 0, 0, 0, 0, 0, 0, 64, 0];
+        [&head[..], &[0, 0, 0, 0, 0, 0, 0, word, marks, 0, count]].concat()
+    };
+    vec![
+        ("case 13: found in 64 steps", replies(&after(find(3, 64)), &reply(0, 5, 0, 64))),
+        ("case 13: a larger budget", replies(&after(find(3, 9000)), &reply(0, 5, 0, 64))),
+        ("case 13: budget 63, paused at 64", replies(&after(find(3, 63)), &reply(13, 0, 0, 63))),
+        ("case 13: by mark 0 in 2 steps", replies(&marked, &reply(0, 5, 1, 2))),
+    ]
 }
 
 fn case_14() -> Vec<Case> {
     let stored = [1, 0, 17, 0, 0, 0, 0, 0, 0, 0, 64, 0, 0, 0, 0, 0, 0, 0, 0, 5];
     let loaded = [0x82, 0, 21, 0, 0, 0, 0, 0, 0, 0, 0, 64, 0, 0, 0, 0, 0, 0, 0, 0, 5, 0, 0, 2];
-    let batch = records(&[store(0, 3), store(64, 5), Command::Load { index: 64 }]);
-    let given = run(batch.clone(), 72);
+    let commands = [store(0, 3), store(64, 5), Command::Load { index: 64 }];
+    let batch = records(&commands);
     vec![
-        ("case 14: the store record", batch[20..40] == stored),
-        ("case 14: answer 0, 3 commands", gives(&given, 0, 3)),
-        ("case 14: the reply to load 64", given.reply[48..] == loaded),
+        ("case 14: the store record", differs(&batch, &batch[20..40], &stored)),
+        ("case 14: answer 0, 3 commands", runs(batch, 72, 0, 3)),
+        ("case 14: the reply to load 64", replies(&commands, &loaded)),
     ]
 }
 
 fn case_15() -> Vec<Case> {
-    let init = |words| after_init(words, Call::Init);
+    let init = |words, answer| answers(words, Call::Init, answer, 0);
     let long = [full(), vec![2]].concat();
+    assert_eq!(full().len(), 8192);
     vec![
-        ("case 15: 73 words", gives(&init(73), 0, 0)),
-        ("case 15: 69,004 words", gives(&init(69_004), 0, 0)),
-        ("case 15: 72 words", gives(&init(72), 1, 0)),
-        ("case 15: 69,073 words", gives(&init(69_073), 1, 0)),
-        ("case 15: check of 72 words", gives(&after_init(72, Call::Check), 1, 0)),
-        ("case 15: 8,192 bytes", full().len() == 8192 && gives(&run(full(), 17_856), 0, 744)),
-        ("case 15: 8,193 bytes", gives(&run(long, 17_856), 3, 8192)),
+        ("case 15: 73 words", init(73, 0)),
+        ("case 15: 69,004 words", init(69_004, 0)),
+        ("case 15: 72 words", init(72, 1)),
+        ("case 15: 69,073 words", init(69_073, 1)),
+        ("case 15: check of 72 words", answers(72, Call::Check, 1, 0)),
+        ("case 15: 8,192 bytes", runs(full(), 17_856, 0, 744)),
+        ("case 15: 8,193 bytes", runs(long, 17_856, 3, 8192)),
     ]
 }
 
 fn empty_batch() -> Vec<Case> {
-    let given = run(Vec::new(), 48);
-    let untouched = run(vec![9], 48).reply;
+    let reply = |batch| after_init(211, &Call::Run { batch, reply: 48 }).reply;
+    // A refused batch leaves the reply space as it was.
+    let untouched = reply(vec![9]);
     vec![
-        ("empty batch: answer 0, 0 commands", gives(&given, 0, 0)),
-        ("empty batch: no reply byte is written", given.reply == untouched),
-        ("empty batch: no reply space", gives(&run(Vec::new(), 0), 0, 0)),
+        ("empty batch: answer 0, 0 commands", runs(Vec::new(), 48, 0, 0)),
+        ("empty batch: no reply byte is written", differs(&[], &reply(Vec::new()), &untouched)),
+        ("empty batch: no reply space", runs(Vec::new(), 0, 0, 0)),
     ]
 }
 
-fn store_order(index: u64, order: u8, word: u64) -> Command {
-    Command::Store { index, order, word: Word(word) }
-}
-
-/// Whether library and reference agree on every word and reply byte after each of the commands.
-fn agree(nodes: usize, commands: &[Command]) -> bool {
-    let mut pool = vec![0; 4 + 69 * nodes];
-    let mut lender = Lender::new();
-    lender.set_pool(&pool);
-    let mut same = lender.difference(&Call::Init, &mut pool).1.is_none();
-    for command in commands {
-        let batch = records(std::slice::from_ref(command));
-        same &= lender.difference(&Call::Run { batch, reply: 24 }, &mut pool).1.is_none();
-    }
-    same
+/// The first difference of library and reference, in every word and reply byte after each of the
+/// commands.
+fn agree(nodes: usize, commands: &[Command]) -> Option<String> {
+    let one = |command| Call::Run { batch: records(std::slice::from_ref(command)), reply: 24 };
+    let calls = std::iter::once(Call::Init).chain(commands.iter().map(one)).collect();
+    let list = CallList { words: vec![0; pool_length(nodes)], calls };
+    list.difference(None).map(|text| list.show() + &text)
 }
 
 fn starred() -> Vec<Case> {
     let (load, erase) = (|index| Command::Load { index }, |index| Command::Erase { index });
     let mark = |index, mark| Command::Mark { index, mark };
+    let find = |filter, budget| Command::Find { first: 1, last: u64::MAX, filter, budget };
     let (two, three) = (store(0, 3), store(64, 5));
     let eight = store_order(13, 3, 5);
     let ten = [store(64, 5), mark(64, 0), store(65, 7), mark(65, 1), store_order(64, 6, 9)];
+    let thirteen = [two, three, find(3, 64), find(3, 63), mark(64, 0), find(0, 100)];
     vec![
         ("case 2 against reference", agree(1, &[two])),
         ("case 3 against reference, N = 2", agree(2, &[two, three])),
@@ -118,6 +163,7 @@ fn starred() -> Vec<Case> {
             "case 12 against reference",
             agree(1, &[store_order(1 << 63, 63, 5), store_order(1 << 63, 64, 5)]),
         ),
+        ("case 13 against reference", agree(3, &thirteen)),
     ]
 }
 
@@ -125,11 +171,12 @@ fn programs(with_program: bool) -> Vec<Case> {
     if !with_program {
         return Vec::new();
     }
-    let same = |batch| Input { batch, pieces: Vec::new() }.difference(None).is_none();
+    let gives = |input: Input| input.difference(None).map(|text| input.show() + &text);
+    let same = |batch| gives(Input { batch, pieces: Vec::new() });
     let case_14 = records(&[store(0, 3), store(64, 5), Command::Load { index: 64 }]);
     let pieces = Input { batch: case_14.clone(), pieces: vec![1, 2, 17, 1, 9] };
     vec![
-        ("program: case 14 in pieces", pieces.difference(None).is_none()),
+        ("program: case 14 in pieces", gives(pieces)),
         ("program: case 14", same(case_14)),
         ("program: the empty batch", same(Vec::new())),
         ("program: 8,192 bytes", same(full())),
@@ -138,9 +185,10 @@ fn programs(with_program: bool) -> Vec<Case> {
     ]
 }
 
-/// How many cases there are, and the names of those that failed.
-pub fn run_all(with_program: bool) -> (usize, Vec<&'static str>) {
-    let all = [starred(), case_14(), case_15(), empty_batch(), programs(with_program)].concat();
-    let failed = all.iter().filter(|(_, right)| !right).map(|(name, _)| *name).collect();
-    (all.len(), failed)
+/// How many cases there are, and those that failed, with what is wrong.
+pub fn run_all(with_program: bool) -> (usize, Vec<(&'static str, String)>) {
+    let figures = [case_13(), case_14(), case_15(), empty_batch()].concat();
+    let all = [starred(), figures, programs(with_program)].concat();
+    let count = all.len();
+    (count, all.into_iter().filter_map(|(name, wrong)| Some((name, wrong?))).collect())
 }

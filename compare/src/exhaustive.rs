@@ -8,6 +8,7 @@ use reference::batch::Command;
 use reference::command::execute;
 use reference::pool::{node_word, sibling_word, State};
 use reference::random::Random;
+use xapool_host::layout::{slot_place, NODE_WORDS};
 
 const LAST: u64 = u64::MAX;
 
@@ -45,7 +46,7 @@ fn pools() -> Vec<Vec<u64>> {
 /// What a word is changed to: 0, a little more or less, words of nodes (one that there is, one past
 /// the last), of siblings, of entries, and one with its highest bit changed.
 fn changes(word: u64, place: usize, nodes: usize) -> Vec<u64> {
-    let slot = place.saturating_sub(9) % 69;
+    let slot = place.saturating_sub(slot_place(0, 0)) % NODE_WORDS;
     let node_words = [nodes / 2, nodes].map(node_word);
     let siblings = [0, slot.saturating_sub(1)].map(sibling_word);
     let mut all = vec![0, word.wrapping_add(1), word.wrapping_sub(1), 1, 4, word ^ 1 << 63];
@@ -62,7 +63,7 @@ pub fn lists() -> impl Iterator<Item = CallList> {
 
 /// The pool with one word changed, in every way.
 fn changed(pool: Vec<u64>) -> impl Iterator<Item = Vec<u64>> {
-    let nodes = pool.len() / 69;
+    let nodes = pool.len() / NODE_WORDS;
     let all: Vec<(usize, u64)> = (0..pool.len())
         .flat_map(|place| {
             changes(pool[place], place, nodes).into_iter().map(move |word| (place, word))

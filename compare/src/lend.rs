@@ -4,6 +4,7 @@
 use crate::batches::hex;
 use crate::os::Guarded;
 use reference::calls;
+use xapool_host::layout::{ANCHOR_WORDS, NODE_WORDS, SLOT_FIELD};
 use xapool_host::raw;
 
 #[derive(Clone, Debug, PartialEq, Eq)]
@@ -182,16 +183,16 @@ fn words(expected: &[u64], found: &[u64]) -> Option<String> {
 }
 
 fn place_name(place: usize) -> String {
-    match (place.checked_sub(4), place) {
+    match (place.checked_sub(ANCHOR_WORDS), place) {
         (None, 0) => "N".into(),
         (None, 1) => "head".into(),
         (None, 2) => "marks".into(),
         (None, _) => "fourth word".into(),
-        (Some(after), _) => match (after / 69, after % 69) {
+        (Some(after), _) => match (after / NODE_WORDS, after % NODE_WORDS) {
             (node, 0) => format!("node {node}, shift + 1"),
             (node, 1) => format!("node {node}, owner"),
-            (node, field @ 2..=4) => format!("node {node}, mark word {}", field - 2),
-            (node, field) => format!("node {node}, slot {}", field - 5),
+            (node, field @ 2..SLOT_FIELD) => format!("node {node}, mark word {}", field - 2),
+            (node, field) => format!("node {node}, slot {}", field - SLOT_FIELD),
         },
     }
 }

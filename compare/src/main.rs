@@ -28,7 +28,7 @@ use trial::{Kind, Trial, LONGEST_SECONDS};
 
 const USAGE: &str = "\
 usage: compare [SECONDS [SEED]]     all of it, in about so many seconds (100 if none are named)
-       compare cases                cases 14 and 15, the empty batch, the longest batches
+       compare cases                cases 2 to 15, the empty batch, the longest batches
        compare changes              every single-word change of some pools
        compare again calls SEED     one list of calls, by the seed that was printed
        compare again finds SEED     one list of calls made for finds
@@ -118,7 +118,7 @@ fn compare_cases(with_program: bool) -> bool {
     let end = in_child(|| {
         end_after(LONGEST_SECONDS);
         let (count, failed) = cases::run_all(with_program);
-        failed.iter().for_each(|name| println!("DIFFERENCE in {name}"));
+        failed.iter().for_each(|(name, wrong)| println!("DIFFERENCE in {name}\n{wrong}"));
         println!("cases: {} passed, {} failed", count - failed.len(), failed.len());
         i32::from(!failed.is_empty())
     });

@@ -4,6 +4,7 @@ use reference::awkward::Commands as Source;
 use reference::command::execute;
 use reference::pool::{node_word, pool_length, sibling_word, State};
 use reference::random::Random;
+use xapool_host::layout::NODE_WORDS;
 
 /// Mostly a few nodes, so that stores fall on both sides of answer 11; up to 1,000.
 fn random_nodes(random: &mut Random) -> usize {
@@ -77,7 +78,7 @@ fn damage(random: &mut Random, words: &mut [u64]) {
 }
 
 fn other_word(random: &mut Random, words: &[u64], place: usize) -> u64 {
-    let nodes = words.len() as u64 / 69;
+    let nodes = (words.len() / NODE_WORDS) as u64;
     match random.below(9) {
         0 => 0,
         1 => words[place].wrapping_add(1),

@@ -101,9 +101,11 @@ impl Input {
             Ok(found) => found,
             Err(error) => return Some(format!("the program: {error}")),
         };
-        if expected != found {
+        let all = expected.len().max(found.len());
+        if let Some(place) = (0..all).find(|at| expected.get(*at) != found.get(*at)) {
             let (a, b) = (hex(&expected), hex(&found));
-            return Some(format!("reference's program writes {a}\nthe program {b}"));
+            let programs = format!("    reference's program {a}\n    the program         {b}");
+            return Some(format!("byte {place} differs:\n{programs}"));
         }
         if let Some(figures) = figures {
             figures.add(Of::ProgramBatches, 1);

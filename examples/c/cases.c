@@ -1,4 +1,4 @@
-/* Cases 3 and 14 of document 01: store 0 and 64 in a pool of 3 nodes, then load 64. */
+/* Cases 3 and 14 (R108, R119): store 0 and 64 in a pool of 3 nodes, then load 64. */
 #include "xapool.h"
 #include <inttypes.h>
 #include <stdio.h>

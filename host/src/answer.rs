@@ -15,7 +15,7 @@ pub enum Answer {
     PoolLength = 1,
     /// Call: the words are not those of a pool.
     NotWellFormed = 2,
-    /// Call: the batch is too long, or a record is cut, of unknown tag or of wrong length.
+    /// Call: the batch is too long, or has a record that is cut off, or whose tag or length is none.
     BadBatch = 3,
     /// Call: under 24 bytes of reply space a command.
     ReplySpace = 4,

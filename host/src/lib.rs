@@ -28,6 +28,7 @@ mod answer;
 mod batch;
 mod command;
 mod find;
+pub mod layout;
 mod pool;
 pub mod raw;
 mod reply;

@@ -4,19 +4,18 @@ use crate::answer::{Answer, Refusal};
 use crate::batch::{BatchBuilder, Batches};
 use crate::command::Command;
 use crate::find::Finds;
+use crate::layout::{node_place, ANCHOR_WORDS, NODE_WORDS};
 use crate::raw;
 use crate::reply::{Replies, REPLY_BYTES};
 use std::ops::RangeBounds;
 
 /// A pool has at most so many nodes.
 pub const MOST_NODES: usize = 1000;
-const ANCHOR_WORDS: usize = 4;
-const NODE_WORDS: usize = 69;
 
 /// The words of a pool of this many nodes; none unless they are 1 to 1,000.
 #[must_use]
 pub fn pool_words(nodes: usize) -> Option<usize> {
-    (1..=MOST_NODES).contains(&nodes).then(|| ANCHOR_WORDS + NODE_WORDS * nodes)
+    (1..=MOST_NODES).contains(&nodes).then(|| node_place(nodes))
 }
 
 /// The nodes of a pool of this many words; none if no pool has so many.

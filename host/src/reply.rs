@@ -84,7 +84,7 @@ pub struct Reply {
     pub word: Word,
     /// The entry's marks.
     pub marks: Marks,
-    /// Load: how many nodes' blocks contain the index. Find: its steps. Else 0.
+    /// Load: the nodes over the index. Find: its steps. Else 0.
     pub count: u16,
 }
 

@@ -1,4 +1,4 @@
-//! The cases of document 01 with its figures, and that no input makes the wrapper panic.
+//! The cases (R106 to R120) with their figures, and that no input makes the wrapper panic.
 
 use crate::*;
 
@@ -50,7 +50,7 @@ fn least_nodes(commands: &[Command]) -> usize {
 }
 
 fn slot(pool: &Pool, node: usize, slot: usize) -> u64 {
-    pool.words()[4 + 69 * node + 5 + slot]
+    pool.words()[layout::slot_place(node, slot)]
 }
 
 fn free_nodes(pool: &Pool) -> usize {

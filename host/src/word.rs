@@ -43,7 +43,7 @@ impl fmt::Display for NotAHandle {
 impl std::error::Error for NotAHandle {}
 
 impl Word {
-    /// The word of a value from 0 to 2^63 - 1.
+    /// The word of a value below 2^63.
     pub fn value(value: u64) -> Result<Word, TooLarge> {
         value.checked_mul(2).map(|twice| Word(twice + 1)).ok_or(TooLarge(value))
     }

@@ -1,4 +1,4 @@
-//! The answers of document 01's table "When the kit says no", by name.
+//! The answers (R68 to R80), by name.
 
 pub const DONE: u8 = 0;
 pub const POOL_LENGTH: u8 = 1;

@@ -53,8 +53,8 @@ impl Reply {
     }
 }
 
-/// The commands of a batch, or the place of the first byte of the first record that is cut, of
-/// unknown tag or wrong length; 8,192 if the batch is too long.
+/// The commands of a batch, or where its first bad record begins (cut off, a tag that is none, not
+/// its tag's length); 8,192 if the batch is too long.
 pub fn read(batch: &[u8]) -> Result<Vec<Command>, usize> {
     if batch.len() > MOST_BATCH_BYTES {
         return Err(MOST_BATCH_BYTES);

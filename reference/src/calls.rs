@@ -16,7 +16,7 @@ fn outcome(answer: u8, number: usize) -> Outcome {
     Outcome { answer: u64::from(answer), number: number as u64 }
 }
 
-/// Init (document 01: blanking): N in word 0 and 0 in all others.
+/// Init (document 01: blanking): the first word is N, the others are 0.
 pub fn init(pool: &mut [u64]) -> Outcome {
     let Some(count) = node_count(pool.len()) else {
         return outcome(POOL_LENGTH, 0);

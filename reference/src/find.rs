@@ -22,7 +22,7 @@ pub enum FindResult {
 
 /// Where one step stops.
 enum Stop {
-    /// No head, or the position lies past the head's block.
+    /// No head, or the position is outside the head's block.
     PastHead,
     Match(Entry),
     /// No match here; the next position is the end of this slot's or entry's block.

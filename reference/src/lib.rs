@@ -1,4 +1,4 @@
-//! The independent second program: document 01 as plainly as possible, by one list of entries.
+//! The independent second program: the rules (docs/RULES.md) as plainly as possible, by one list of entries.
 //!
 //! Nothing is updated in place. After each command the canonical tree, the numbering of its nodes
 //! and all words of the pool are worked out afresh from the list.

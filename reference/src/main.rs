@@ -52,7 +52,7 @@ fn run_program() -> io::Result<()> {
     io::stdout().write_all(&reply)
 }
 
-/// A call refusal: tag 255, length 3, answer, two-byte place.
+/// The record of a refused call: tag 255 and length 3, then the answer and two bytes of place.
 fn refusal(outcome: Outcome) -> Vec<u8> {
     let place = (outcome.number as u16).to_be_bytes();
     vec![255, 0, 3, outcome.answer as u8, place[0], place[1]]

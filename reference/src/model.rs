@@ -40,7 +40,7 @@ impl Entry {
     }
 }
 
-/// An entry's word is odd, or a multiple of 4 above 0.
+/// An entry's word is odd, or a multiple of 4 and not 0.
 pub fn is_entry_word(word: u64) -> bool {
     word % 2 == 1 || (word.is_multiple_of(4) && word > 0)
 }

@@ -129,7 +129,7 @@ fn write_node(tree: &Tree, numbers: &BTreeMap<Node, usize>, node: Node, fields: 
     }
 }
 
-/// The owner word: 0 for the head, else 1 + 64 * parent number + slot.
+/// The owner word: 0 in the head, elsewhere 1 + 64 * parent + slot.
 fn owner(tree: &Tree, numbers: &BTreeMap<Node, usize>, node: Node) -> u64 {
     match node.parent() {
         Some((parent, slot)) if tree.head != Head::Node(node) => {

@@ -96,8 +96,8 @@ pub fn head(list: &[Entry]) -> Head {
     }
 }
 
-/// The head node, and a node of a lower shift for each block in which some entry has an order
-/// below that shift + 6.
+/// The head node, and below it a node for each block with an entry of an order smaller than the
+/// node's shift + 6 (R20).
 pub fn nodes(list: &[Entry]) -> BTreeSet<Node> {
     let Head::Node(head) = head(list) else {
         return BTreeSet::new();
@@ -153,7 +153,7 @@ impl Tree<'_> {
         marks_of(beginning_in(self.list, node.range()))
     }
 
-    /// How many nodes' blocks contain the index.
+    /// The number of nodes over the index, by their blocks.
     pub fn nodes_over(&self, index: u64) -> usize {
         self.nodes.iter().filter(|node| node.range().holds(index)).count()
     }

@@ -6,12 +6,13 @@
 
 use std::collections::HashSet;
 use std::fmt;
+use xapool_host::layout::{
+    node_place, node_word, sibling_word, slot_place, NODE_OFFSET, NODE_WORDS,
+};
 use xapool_host::{node_count, Marks, Word};
 
 const SLOTS: usize = 64;
 const WIDEST_SHIFT: u64 = 60;
-const NODE_OFFSET: u64 = 1024;
-const NODE_WORDS: usize = 69;
 
 /// Something wrong, with the place of the word.
 #[derive(Clone, Debug, PartialEq, Eq)]
@@ -134,22 +135,6 @@ struct Walk<'a> {
     /// Links with a wrong word, each with a finding of its own.
     wrong: HashSet<Link>,
     notes: Vec<Note>,
-}
-
-fn node_place(number: usize) -> usize {
-    4 + NODE_WORDS * number
-}
-
-fn slot_place(number: usize, slot: usize) -> usize {
-    node_place(number) + 5 + slot
-}
-
-fn sibling_word(slot: usize) -> u64 {
-    4 * slot as u64 + 2
-}
-
-fn node_word(number: usize) -> u64 {
-    4 * (NODE_OFFSET + number as u64) + 2
 }
 
 /// The owner word of the node that this link leads to.

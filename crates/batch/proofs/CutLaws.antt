@@ -161,7 +161,7 @@ cut-rest s at (c ∷ cs) ds h e = go (readAt s at) refl (λ next. cut-rest s nex
               ∙ ap (consTo d) (r .rest-is) ∙ ap (λ (x : Command). Parsed.commands (x ∷ cs)) a;
         }
 
--- "its sheet ends just after": where a batch is cut after its first commands, these are the commands of what is left
+-- R104: where a batch is cut after its first commands, these are the commands of what is left
 pub cut : (s : List ℕ) (cs ds : List Command) → parse s ≡ Parsed.commands (cs ++ ds) →
     (place : ℕ) × (parse (take place s) ≡ Parsed.commands cs)
 cut s cs ds e = byT (ltb maxBatch (length s)) (λ t. absurd (not-refused (sym (parse-long s (ltb-true _ _ t)) ∙ e)))

@@ -1,4 +1,4 @@
--- Reading a batch (document 01, "A sheet and its replies").
+-- Reading a batch (document 01: a sheet), R42 to R48.
 use Prim.Native.Nat.{ℕ, zero, suc, _+_, _-_}
 use mathlib.Core.Bool.{Bool, not}
 use mathlib.Core.List.{List, [], _∷_}
@@ -14,15 +14,15 @@ pub use Rattle.batch.specs.declared.Read.the-variants.{Next, Bad, End}
 pub use Rattle.batch.specs.declared.Counted.{Counted}
 pub use Rattle.batch.specs.declared.Counted.the-variants.{Commands, Refused}
 
--- "At most 8,192 bytes"
+-- R43
 abbrev pub maxBatch : ℕ
 maxBatch = 8192
 
--- "one-byte tag, two-byte length"
+-- R42: tag and length
 abbrev pub headBytes : ℕ
 headBytes = 3
 
--- THE TABLE OF COMMANDS
+-- THE TABLE OF COMMANDS (R44 to R48)
 -- the length of a record's fields, by tag; no command has 0
 abbrev pub fieldBytes : ℕ → ℕ
 fieldBytes tag =
@@ -44,7 +44,7 @@ commandAt s tag at =
     (Find (numberAt s at 8) (numberAt s (at + 8) 8) (numberAt s (at + 16) 1) (numberAt s (at + 17) 2))))))
 
 -- RECORDS
--- the record at a place is whole: not "cut, of unknown tag or wrong length"
+-- the record at a place has none of the defects of R71
 abbrev pub isRecord : List ℕ → ℕ → Bool
 isRecord s at =
     both (leb (at + headBytes) (length s))
@@ -84,7 +84,7 @@ parseFrom s (suc n) at = parseRead (readAt s at) at (λ next. parseFrom s n next
 unfoldable pub restAt : List ℕ → ℕ → Parsed
 restAt s at = parseFrom s (suc (length s - at)) at
 
--- "place of the first byte of the first such record; 8,192 if too long"
+-- R71: the place of the first bad record
 unfoldable pub parse : List ℕ → Parsed
 parse s = pick (ltb maxBatch (length s)) (refused maxBatch) (restAt s 0)
 

@@ -1,4 +1,4 @@
--- Numbers as bytes: "numbers big-endian" (document 01, "A sheet and its replies").
+-- Numbers as bytes, the highest first (R42).
 use Prim.Native.Nat.{ℕ, zero, suc, _+_, _*_, _/_, _%_, _^_}
 use mathlib.Core.List.{List, [], _∷_}
 use lib.ListN.{getD, set}

@@ -1,5 +1,4 @@
--- Replies (document 01, "A sheet and its replies"): "Each reply has the command's tag + 128, length 21, then answer 1,
--- index 8, order 1, entry 8, marks 1, count 2."
+-- Replies, and their bytes (R49).
 use Prim.Native.Nat.{ℕ}
 use mathlib.Core.List.{List, []}
 use Rattle.model.specs.declared.Entry.{Entry}
@@ -31,7 +30,7 @@ encode r =
     (bytesThen 1 (r .marks)
     (bytesThen 2 (r .count) [])))))))
 
--- "All else is zero.": an answer with an index and a count, or with an entry and a count
+-- an answer with an index and a count, or with an entry and a count; other fields are 0 (R54)
 abbrev pub answered : (tag answer index count : ℕ) → Reply
 answered t a i n = record { tag = t; answer = a; index = i; order = 0; word = 0; marks = 0; count = n }
 

@@ -1,4 +1,4 @@
--- The footprint of every command: a word outside its part has the same value after it as before.
+-- The footprint of every command: no word outside its part changes (R41).
 use Prim.Native.Nat.{ℕ}
 use mathlib.Core.Path.{_≡_, refl, sym, ap, _∙_}
 use mathlib.Core.Bool.{Bool, true, false, not}
@@ -165,7 +165,7 @@ module _ (n : ℕ) (l : List Entry) (v : Valid l) where
   within (Unmark i m) = unmark-within i m
   within (Find a z f k) = inl (find-list n l a z f k)
 
--- "A word outside a command's part has the same value after it as before."
+-- R41
 pub footprint : (n : ℕ) (s : State) → Kept n s → (c : Command) (w : ℕ) → mayWrite n s c w ≡ false →
     wordAt (next n s c .list) (next n s c .places) n w ≡ wordAt (s .list) (s .places) n w
 footprint n s k c w z = go (within n (s .list) (k .valid) c)
@@ -179,7 +179,7 @@ footprint n s k c w z = go (within n (s .list) (k .valid) c)
         word-same n s k (addressed (s .list) c) (execute n (s .list) c .list) ag w
         (rw (t, eq-eqb (execute n (s .list) c .reply .answer) 0 a) at z)
 
--- "every command that the table answers with a number other than 0" leaves the list, and so every word
+-- R101, R40: a command with another answer than 0 leaves the list, and so every word
 pub refused-leaves : (n : ℕ) (l : List Entry) → Valid l → (c : Command) → (execute n l c .reply .answer ≡ 0 → ⊥) →
     execute n l c .list ≡ l
 refused-leaves n l v c f = elim (within n l v c) [ inl e ↦ e | inr w ↦ absurd (f (w .1)) ]

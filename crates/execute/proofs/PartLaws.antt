@@ -1,4 +1,4 @@
--- Document 01, "The part a command may write": "A word outside a command's part has the same value after it as before."
+-- What lies outside the part of a command stays (R39 to R41).
 use Prim.Native.Nat.{ℕ, zero, suc, _*_, _-_, _/_, _%_, _^_, _≤_, _<_}
 use mathlib.Core.Path.{_≡_, refl, sym, subst, _∙_}
 use mathlib.Core.Bool.{Bool, true, false}

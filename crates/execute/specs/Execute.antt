@@ -1,5 +1,5 @@
--- One command on the model: its reply and the list that it leaves (document 01, "When the kit says no", "The plain list
--- of demand 3"). It reads no word of the pool.
+-- One command on the model: its reply (R50 to R55, R73 to R81) and the list that it leaves (R97 to R101). No word of
+-- the pool is read.
 use Prim.Native.Nat.{ℕ, _-_}
 use mathlib.Core.Bool.{Bool, true, false, not}
 use mathlib.Core.List.{List}
@@ -52,43 +52,42 @@ pub record Executed : Type 0 where
   pub reply : Reply
   pub list : List Entry
 
--- "Load, find and every command that the table answers with a number other than 0 leave it."
+-- R101: the list stays
 abbrev pub leave : List Entry → Reply → Executed
 leave l r = record { reply = r; list = l }
 
 abbrev pub refuse : List Entry → (tag answer : ℕ) → Executed
 refuse l t a = leave l (answered t a 0 0)
 
--- "give the entry as it then stands, with its base": what covers i in a list
+-- R50, R51, R78: by what covers i in a list
 abbrev pub replyOf : (tag count : ℕ) → Option Entry → Reply
 replyOf t n none = answered t absent 0 n
 replyOf t n (some e) = answeredBy t e n
 
--- "Needed: nodes of the new tree whose block had none before. Blank: before the command, so N less the nodes of the old
--- tree."
+-- R85, R86: more nodes are needed than were free (document 01: blank) before the command
 abbrev pub short : ℕ → List Entry → List Entry → Bool
 short n l l′ = ltb (n - length (nodes l)) (needed l l′)
 
--- "that is answer 11 and the old list stays. Otherwise the new one stands."
+-- R98
 abbrev pub storing : ℕ → (tag : ℕ) → List Entry → ℕ → List Entry → Executed
 storing n t l i l′ =
     pick (short n l l′) (refuse l t tooFewNodes) (record { reply = replyOf t 0 (covering l′ i); list = l′ })
 
--- "Erase takes out the entry covering the index": "erase gives the entry removed"
+-- R99, and the entry that went (R51)
 abbrev pub erasing : (tag : ℕ) → List Entry → ℕ → Executed
 erasing t l i = record { reply = replyOf t 0 (covering l i); list = erase l i }
 
--- "Mark and unmark set or clear that entry's named mark."
+-- R100
 abbrev pub marking : (tag : ℕ) → List Entry → (i m : ℕ) → Bool → Executed
 marking t l i m b = record { reply = replyOf t 0 (covering (remark l i m b) i); list = remark l i m b }
 
--- "A paused find puts its position in index."
+-- R52, R53, R80
 abbrev pub finding : (tag : ℕ) → Outcome → Reply
 finding t (Found e n) = answeredBy t e n
 finding t (Ended n) = answered t findEnded 0 n
 finding t (Paused p n) = answered t findPaused p n
 
--- "Lowest number first."
+-- R81: the tests in the order of their numbers
 module _ (n : ℕ) (l : List Entry) where
   abbrev pub executeAs : (tag : ℕ) → Command → Executed
   executeAs t (Store i k w) =

@@ -1,4 +1,5 @@
 pub mod Execute
 pub mod State
+pub mod Table
 pub mod Part
 pub mod Contracts

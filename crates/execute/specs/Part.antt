@@ -1,4 +1,4 @@
--- The part of the pool that a command may write (document 01, "The part a command may write").
+-- The part of the pool that a command may write (R39 to R41).
 use Prim.Native.Nat.{ℕ, _-_, _/_, _*_, _^_}
 use mathlib.Core.Bool.{Bool, true, false}
 use mathlib.Core.List.{List}
@@ -26,7 +26,7 @@ abbrev pub rangeOf : Range → Option Entry → Range
 rangeOf r none = r
 rangeOf r (some e) = pick (leb (r .order) (e .order)) (record { index = e .base; order = e .order }) r
 
--- "The run written is the addressed run" of a store; "(for erase, mark and unmark, the entry's run)"
+-- the range that a command writes (document 01: the addressed run; R13, R39)
 abbrev pub addressed : List Entry → Command → Range
 addressed l (Store i k w) = rangeOf (record { index = i; order = k }) (covering l i)
 addressed l (Load i) = record { index = i; order = 0 }
@@ -47,22 +47,21 @@ meetsRange r p =
 abbrev pub isHead : List Entry → Node → Bool
 isHead l p = eqb (p .tier) (height l)
 
--- "old and new head, nodes taken or given up, and nodes whose block meets the addressed run", by what stands at a
--- number before and after
+-- R39: heads, nodes allocated or freed, nodes that meet the range, by what stands at a number before and after
 abbrev pub nodePart : List Entry → List Entry → Range → Option Node → Option Node → Bool
 nodePart l l′ r none none = false
 nodePart l l′ r none (some q) = true
 nodePart l l′ r (some p) none = true
 nodePart l l′ r (some p) (some q) = either (isHead l p) (either (isHead l′ q) (meetsRange r p))
 
--- "The anchor, .."
+-- with the anchor
 abbrev pub inPart : State → State → Range → ℕ → Bool
 inPart s t r w =
     pick (ltb w anchorWords) true
     (nodePart (s .list) (t .list) r (getD (s .places) ((w - anchorWords) / nodeWords) none)
     (getD (t .places) ((w - anchorWords) / nodeWords) none))
 
--- "Load, find and every answer other than 0 write nothing in the pool."
+-- R40
 abbrev pub changing : Command → Bool
 changing (Store i k w) = true
 changing (Load i) = false

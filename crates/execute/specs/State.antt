@@ -12,12 +12,12 @@ pub record State : Type 0 where
   pub places : Places
 
 module _ (n : ℕ) where
-  -- one command: the list after it, and "New nodes are taken .."
+  -- one command: the list after it, and the places after it (R35 to R37)
   abbrev pub next : State → Command → State
   next s c =
       let l = execute n (s .list) c .list in record { list = l; places = newPlaces (s .list) l (s .places) }
 
-  -- the commands in order, "each on the list that the last one left"
+  -- the commands in order (R96)
   abbrev pub states : State → List Command → State
   states s [] = s
   states s (c ∷ cs) = states (next s c) cs

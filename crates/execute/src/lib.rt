@@ -127,7 +127,7 @@ fn stored_reply(x: Stored) -> Reply
     }
 }
 
-// An entry's word: odd, or a multiple of 4 above 0.
+// An entry's word (R6).
 fn is_storable(word: u64) -> bool
     ensures { λ r. ⌜ r ≡ storable word ⌝ }
 {

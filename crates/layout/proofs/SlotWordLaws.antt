@@ -20,6 +20,7 @@ use Rattle.tree.specs.Tree.{slots, tierOrder}
 use Rattle.layout.specs.Pool.{slotOf, siblingBit}
 use Rattle.layout.specs.declared.Slot.{Slot}
 use Rattle.layout.specs.declared.Slot.the-variants.{Empty, Held, Sibling, Child}
+pub use Rattle.layout.specs.View.{View, v-empty, v-child, v-held, v-sibling}
 
 pub slot-empty : slotOf 0 ≡ Empty
 unfolding slotOf
@@ -47,14 +48,6 @@ sibling-bit-1 w e h = rw (eq-eqb (w % 4) 2 e, lt-ltb w 4096 h) refl
 
 pub sibling-bit-le : (w : ℕ) → siblingBit w ≤ 1
 sibling-bit-le w = byT (both (eqb (w % 4) 2) (ltb w 4096)) (λ t. rw t (le-refl 1)) (λ t. rw t (omega arith))
-
-pub data View (l : List Entry) (ν : Numbering) (u c : ℕ) : Slot → Type 0 where
-  v-empty : any (within (tierOrder u) c) l ≡ false → covering l (c * 2 ^ (tierOrder u)) ≡ none → View l ν u c Empty
-  v-child : any (within (tierOrder u) c) l ≡ true → View l ν u c (Child (ν u c))
-  v-held : (e : Entry) → any (within (tierOrder u) c) l ≡ false → covering l (c * 2 ^ (tierOrder u)) ≡ some e →
-      block (tierOrder u) (e .base) ≡ c → View l ν u c Held
-  v-sibling : (e : Entry) → any (within (tierOrder u) c) l ≡ false → covering l (c * 2 ^ (tierOrder u)) ≡ some e →
-      (block (tierOrder u) (e .base) ≡ c → ⊥) → View l ν u c (Sibling (block (tierOrder u) (e .base) % slots))
 
 pub view : (l : List Entry) (ν : Numbering) (u c : ℕ) → All EntryOk l → View l ν u c (slotOf (slot l ν u c))
 view l ν u c ok = go (see l ν u c ok)

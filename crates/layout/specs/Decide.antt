@@ -14,7 +14,7 @@ use Rattle.layout.specs.Words.{anchorWords, nodeWords, maxNodes, poolWor
 use Rattle.layout.specs.Places.{Places, same, standing, render}
 use Rattle.layout.specs.Decode.{listOf, placesOf}
 
--- the number of nodes that a length makes room for, and whether it is a pool's: "4 + 69N of them, N from 1 to 1,000"
+-- the number of nodes that a length makes room for, and whether it is a pool's (R27)
 abbrev pub nodeCount : List ℕ → ℕ
 nodeCount ws = (length ws - anchorWords) / nodeWords
 

@@ -5,3 +5,4 @@ pub mod Pool
 pub mod Decode
 pub mod Fill
 pub mod Decide
+pub mod View

@@ -51,14 +51,15 @@ pub record Placed (n : ℕ) (l : List Entry) (os : Places) : Type 0 where
   pub once : Distinct (standing os)
 
 -- AFTER A COMMAND
--- "each the lowest-numbered node blank before the command and not yet taken by it"
+-- R35: each new node at the lowest free number that is left (document 01: taken)
 abbrev pub allocate : Places → List Node → Places
 allocate [] ps = []
 allocate (some q ∷ os) ps = some q ∷ allocate os ps
 allocate (none ∷ os) [] = none ∷ allocate os []
 allocate (none ∷ os) (p ∷ ps) = some p ∷ allocate os ps
 
--- "Nodes given up are zeroed and usable from the next command on. A node whose block stays keeps its number."
+-- R36, R37: only after the new nodes have their numbers is a node freed (document 01: given up); what stays keeps its
+-- number
 abbrev pub keepIf : List Entry → Option Node → Option Node
 keepIf l none = none
 keepIf l (some p) = pick (has l (p .tier) (p .number)) (some p) none

@@ -21,7 +21,7 @@ use Rattle.layout.specs.Words.{
 pub use Rattle.layout.specs.declared.Slot.{Slot}
 pub use Rattle.layout.specs.declared.Slot.the-variants.{Empty, Held, Sibling, Child}
 
--- "Internal words end in binary 10 (003): sibling of slot o is 4o + 2; node n is 4 * (1,024 + n) + 2."
+-- R31 read backwards
 unfoldable pub slotOf : ℕ → Slot
 slotOf w =
     pick (eqb w 0) Empty
@@ -53,7 +53,7 @@ poolOf ws =
       slot = λ n j. getD ws (place n (slotField + j)) 0;
     }
 
--- "A blank node is all zeros."
+-- a free node (R30)
 pub record Free (P : Pool) (n : ℕ) : Type 0 where
   pub shift-is : P .shift n ≡ 0
   pub owner-is : P .owner n ≡ 0

@@ -9,8 +9,7 @@ use Rattle.tree.specs.Slots.{Numbering}
 use Rattle.layout.specs.Words.{maxNodes, poolWords, place, countWord, shiftField}
 use Rattle.layout.specs.Places.{Places, Placed, numberIn, render}
 
--- "the words are those that some list of entries prescribes, under some numbering of nodes, and every other node is
--- blank", in a pool of N nodes, "N from 1 to 1,000"
+-- R33: a list and places that prescribe the words, in a pool of n nodes
 pub record WellFormed (ws : List ℕ) : Type 0 where
   pub n : ℕ
   pub list : List Entry
@@ -30,7 +29,7 @@ pub record InUse (low : ℕ) (ws : List ℕ) : Type 0 where
 abbrev pub num : {ws : List ℕ} → WellFormed ws → Numbering
 num s = numberIn (s .places)
 
--- the length is that of a pool of n nodes: "4 + 69N of them, N from 1 to 1,000"
+-- the length is that of a pool of n nodes (R27)
 pub record Sized (n : ℕ) (ws : List ℕ) : Type 0 where
   pub size : length ws ≡ poolWords n
   pub least : 1 ≤ n

@@ -1,5 +1,4 @@
--- The words of the pool (document 01, "Words of the pool"): the layout's constants, and each word of the anchor and
--- of a node.
+-- The words of the pool (R27 to R30): the layout's constants, and each word of the anchor and of a node.
 use Prim.Native.Nat.{ℕ, suc, _+_, _*_, _-_, _/_, _%_}
 use mathlib.Core.List.{List}
 use mathlib.Core.Option.{Option, none, some}
@@ -11,7 +10,7 @@ use Rattle.model.specs.Model.{marksOf}
 use Rattle.tree.specs.Tree.{slots, tierOrder, height, Node, slotMark}
 use Rattle.tree.specs.Slots.{Numbering, slot}
 
--- "4 + 69N of them, N from 1 to 1,000"
+-- R27
 abbrev pub anchorWords : ℕ
 anchorWords = 4
 
@@ -29,7 +28,7 @@ poolWords n = anchorWords + nodeWords * n
 abbrev pub place : ℕ → ℕ → ℕ
 place n f = poolWords n + f
 
--- "word 0 is N, word 1 the head, word 2 the marks as their byte, word 3 zero"
+-- R28
 abbrev pub countWord : ℕ
 countWord = 0
 
@@ -42,7 +41,7 @@ marksWord = 2
 abbrev pub spareWord : ℕ
 spareWord = 3
 
--- "shift + 1; owner ..; three mark words, bit j for slot j; 64 slots"
+-- R29
 abbrev pub shiftField : ℕ
 shiftField = 0
 
@@ -62,12 +61,12 @@ lastField = nodeWords - 1
 abbrev pub shiftWord : ℕ → ℕ
 shiftWord u = tierOrder u - 5
 
--- "else 1 + 64 * parent number + slot"
+-- the owner of a node in slot o of node n
 abbrev pub ownerWord : ℕ → ℕ → ℕ
 ownerWord n o = 1 + slots * n + o
 
 module _ (l : List Entry) (ν : Numbering) where
-  -- "owner (0 for the head, ..)"
+  -- the owner; the head has 0
   abbrev pub owner : ℕ → ℕ → ℕ
   owner u b = pick (eqb u (height l)) 0 (ownerWord (ν (suc u) (b / slots)) (b % slots))
 
@@ -83,12 +82,12 @@ module _ (l : List Entry) (ν : Numbering) where
       (pick (ltb f slotField) (markWord u b (f - markField))
       (slot l ν (u - 1) (slots * b + (f - slotField)))))
 
-  -- field f of what stands at a number: "A blank node is all zeros."
+  -- field f of what stands at a number; a free node (document 01: blank) is all zeros (R30)
   abbrev pub fieldAt : Option Node → ℕ → ℕ
   fieldAt none f = 0
   fieldAt (some p) f = field (p .tier) (p .number) f
 
-  -- word i of the anchor of a pool of n nodes: "The anchor's marks are the OR over all."
+  -- word i of the anchor of a pool of n nodes (R28; the marks: R26)
   abbrev pub anchorWord : ℕ → ℕ → ℕ
   anchorWord n i =
       pick (eqb i countWord) n

@@ -1,4 +1,4 @@
--- The model (document 01: the plain list), in the order of document 01, "An entry and the run it covers".
+-- The model (document 01: the plain list): entries, and what store, erase and mark make of them (R6 to R15).
 use Prim.Native.Nat.{ℕ, _+_, _*_, _%_, _^_, _≤_, _<_}
 use mathlib.Core.Path.{_≡_}
 use mathlib.Core.Bool.{Bool, not}
@@ -13,23 +13,23 @@ pub use Rattle.model.specs.declared.Covered.{Covered}
 pub use Rattle.model.specs.declared.Covered.the-variants.{Nothing, By}
 
 -- AN ENTRY
--- "odd (value v is 2v + 1), or a multiple of 4 above 0"
+-- R6: odd, or a multiple of 4 and not 0
 abbrev pub storable : ℕ → Bool
 storable w = both (not (eqb w 0)) (not (eqb (w % 4) 2))
 
--- "an order k from 0 to 63"
+-- R7
 abbrev pub maxOrder : ℕ
 maxOrder = 63
 
--- "Each entry has marks 0, 1, 2"
+-- R9
 abbrev pub markCount : ℕ
 markCount = 3
 
--- "covers the 2^k indices from a base that is a multiple of 2^k"
+-- R7: the index lies in the aligned block that begins at the base
 abbrev pub covers : ℕ → Entry → Bool
 covers i e = eqb (block (e .order) i) (block (e .order) (e .base))
 
--- "together a byte, mark m worth 2^m"
+-- R9: the marks as bits of a byte
 abbrev pub hasMark : ℕ → Entry → Bool
 hasMark m e = eqb (bit m (e .marks)) 1
 
@@ -42,7 +42,7 @@ pub record EntryOk (e : Entry) : Type 0 where
   pub marks-fit : e .marks < 2 ^ markCount
 
 -- THE LIST
--- "in index order", "Runs never overlap": the first entry starts at n or later
+-- ordered by index (R90) and without overlap (R8): the first entry starts at n or later
 pub data Sorted : ℕ → List Entry → Type 0 where
   done : {n : ℕ} → Sorted n []
   more : {n : ℕ} {e : Entry} {l : List Entry} →
@@ -75,7 +75,7 @@ abbrev pub marksOf : List Entry → ℕ
 marksOf l = markOf 0 l + markOf 1 l + markOf 2 l
 
 -- STORE
--- the target range (document 01: the asked run) is block (block k i) of order k: "round i down to a multiple of 2^k"
+-- the target range (document 01: the asked run) is block (block k i) of order k (R10)
 -- the entries that start in it, and the list without them
 abbrev pub inside : List Entry → ℕ → ℕ → List Entry
 inside l i k = keep (starts k (block k i)) l
@@ -87,19 +87,19 @@ abbrev pub insert : Entry → List Entry → List Entry
 insert e [] = e ∷ []
 insert e (x ∷ xs) = pick (ltb (e .base) (x .base)) (e ∷ x ∷ xs) (x ∷ insert e xs)
 
--- "The new entry has each mark that any replaced entry had; a new one has none."
+-- R14: with every mark of what it replaces
 abbrev pub newEntry : List Entry → ℕ → ℕ → ℕ → Entry
 newEntry l i k w = record { base = block k i * 2 ^ k; order = k; word = w; marks = marksOf (inside l i k) }
 
--- "Otherwise all entries in the run go and one of order k takes their place."
+-- R12
 abbrev pub storeNew : List Entry → ℕ → ℕ → ℕ → List Entry
 storeNew l i k w = insert (newEntry l i k w) (clear l i k)
 
--- "If one entry of order k or more covers it"
+-- R11: such an entry
 abbrev pub over : ℕ → ℕ → Entry → Bool
 over i k e = both (covers i e) (leb k (e .order))
 
--- "that entry's word is replaced, its order kept"
+-- R11: its word alone changes
 abbrev pub withWord : ℕ → ℕ → Entry → Entry
 withWord i w e =
     record { base = e .base; order = e .order; word = pick (covers i e) w (e .word); marks = e .marks }
@@ -108,7 +108,7 @@ abbrev pub store : List Entry → ℕ → ℕ → ℕ → List Entry
 store l i k w = pick (any (over i k) l) (map (withWord i w) l) (storeNew l i k w)
 
 -- ERASE, MARK, UNMARK
--- "Erase, mark and unmark act on the whole entry covering the index."
+-- R15: they concern the entry that covers the index
 abbrev pub erase : List Entry → ℕ → List Entry
 erase l i = without (covers i) l
 

@@ -1,4 +1,4 @@
--- The head's tier is that of document 01's wording.
+-- The head's tier is that of the rules' wording (R17 to R19).
 use Prim.Native.Nat.{ℕ, zero, suc, _+_, _^_, _≤_, _<_, max}
 use mathlib.Core.Path.{_≡_, refl, sym, _∙_}
 use mathlib.Core.Bool.{Bool, true, false}

@@ -1,4 +1,4 @@
--- What a walk down sees: a slot's word, and whether an entry of order k or more covers the index.
+-- What a walk down sees: a slot's word, and whether an entry of at least order k covers the index.
 use Prim.Native.Nat.{ℕ, _*_, _%_, _^_, _<_}
 use mathlib.Core.Path.{_≡_, refl, subst, _∙_}
 use mathlib.Core.Bool.{Bool, true, false, not}

@@ -123,7 +123,7 @@ empty-node l ν u c n o d q = rw (no-node, first-none (covers (d * 2 ^ (tierOrde
         (c * 2 ^ (tierOrder (suc u))) (d * 2 ^ (tierOrder u)) (ltb-false _ _ s)
         (block-at (tierOrder (suc u)) c ∙ sym top) ∙ eqb-true _ _ t)))
 
--- a slot's mark is the OR of the marks of the 64 slots below
+-- the mark of a slot is the OR of the marks of the 64 slots below
 pub mark-up : (l : List Entry) (m u c : ℕ) → slotMark l m (suc u) c ≡ true →
     (d : ℕ) × (d / slots ≡ c) × (slotMark l m u d ≡ true)
 unfolding slotMark

@@ -1,4 +1,4 @@
--- The head's tier in document 01's own words, to compare with `height`.
+-- The head's tier as R17 to R19 word it, to compare with `height`.
 use Prim.Native.Nat.{ℕ, _+_, _^_}
 use mathlib.Core.Bool.{Bool, true, false}
 use mathlib.Core.List.{List, [], _∷_}
@@ -8,7 +8,7 @@ use Rattle.blocks.specs.Lists.{least}
 use Rattle.model.specs.declared.Entry.{Entry}
 use Rattle.tree.specs.Tree.{tierOrder}
 
--- "One entry only, base 0 and order 0: the head is that entry, no node."
+-- R18: the entry that is the head itself
 abbrev pub lone : List Entry → Bool
 lone [] = false
 lone (e ∷ []) = both (eqb (e .base) 0) (eqb (e .order) 0)
@@ -22,7 +22,7 @@ abbrev pub allFit : ℕ → List Entry → Bool
 allFit h [] = true
 allFit h (e ∷ l) = both (fitsUnder h e) (allFit h l)
 
--- "Else the head node has the least s such that ..": the tiers from 1 on
+-- R19: the tiers from 1 on
 abbrev pub headTier : Bool → List Entry → ℕ
 headTier true l = 0
 headTier false [] = 0

@@ -1,4 +1,4 @@
--- The tree a list prescribes (document 01, "The tree a list prescribes"): head, nodes and marks.
+-- The canonical tree (document 01: the tree a list prescribes): head, nodes and marks (R16 to R20, R24 to R26).
 --
 -- A block of tier u has 2^(6u) indices. The node (u, b), of shift 6u - 6, covers block b of tier u; its slots are
 -- the blocks of tier u - 1 in it. So the slot (u, c) leads to the node (u, c), and the head is the slot of block 0
@@ -14,7 +14,7 @@ use Rattle.blocks.specs.Blocks.{block}
 use Rattle.model.specs.Model.{starts, within, hasMark}
 use Rattle.model.specs.declared.Entry.{Entry}
 
--- "A node has a shift s: 0, 6, .. 60, and covers an aligned block of 64 * 2^s indices"
+-- R16
 abbrev pub slotBits : ℕ
 slotBits = 6
 
@@ -38,15 +38,14 @@ fits h e = both (ltb (e .order) (max 1 (tierOrder h))) (starts (tierOrder h) 0 e
 unfoldable pub tall : Entry → ℕ
 tall e = least (λ h. fits h e) topTier 0
 
--- "the head node has the least s such that all runs lie below 64 * 2^s and every order is below s + 6"; tier 0: no node
--- (HeadShift has document 01's wording, and HeadShiftLaws that the two agree)
+-- R17 to R19; tier 0: no node
+-- (HeadShift has the wording of the rules, and HeadShiftLaws that the two agree)
 abbrev pub height : List Entry → ℕ
 height [] = 0
 height (e ∷ l) = max (tall e) (height l)
 
 -- NODES
--- "Inside the head's block, a node exists for an aligned block of a lower shift exactly when some entry within it has
--- an order below that shift + 6."
+-- R20: the block of number b of tier u has a node
 unfoldable pub has : List Entry → ℕ → ℕ → Bool
 has l u b = both (leb u (height l)) (any (within (tierOrder u) b) l)
 
@@ -71,7 +70,7 @@ blocks u (e ∷ l) = addIf (ltb (e .order) (tierOrder u)) (block (tierOrder u) (
 abbrev pub at : ℕ → List ℕ → List Node
 at u bs = map (λ b. record { tier = u; number = b }) bs
 
--- the nodes of tier u and below, "widest shift first, then lowest block"
+-- the nodes of tier u and below, in the order of R35
 abbrev pub nodesTo : ℕ → List Entry → List Node
 nodesTo zero l = []
 nodesTo (suc u) l = at (suc u) (blocks (suc u) l) ++ nodesTo u l
@@ -79,7 +78,7 @@ nodesTo (suc u) l = at (suc u) (blocks (suc u) l) ++ nodesTo u l
 abbrev pub nodes : List Entry → List Node
 nodes l = nodesTo (height l) l
 
--- "nodes of the new tree whose block had none before", and "Needed"
+-- R85: the nodes that a new tree needs, and their number
 abbrev pub newNodes : List Entry → List Entry → List Node
 newNodes old l = without (λ p. has old (p .tier) (p .number)) (nodes l)
 
@@ -87,6 +86,6 @@ abbrev pub needed : List Entry → List Entry → ℕ
 needed old l = length (newNodes old l)
 
 -- MARKS
--- "A slot's mark is set exactly if its entry, or any entry below, has it. A sibling slot's mark bits are clear."
+-- R24, R25: no entry starts in a sibling slot
 unfoldable pub slotMark : List Entry → ℕ → ℕ → ℕ → Bool
 slotMark l m u c = any (λ e. both (starts (tierOrder u) c e) (hasMark m e)) l

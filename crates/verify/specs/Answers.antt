@@ -11,14 +11,14 @@ use Rattle.layout.specs.Decide.{nodeCount, isSized, isWellFormed}
 use Rattle.layout.specs.Decode.{listOf, placesOf}
 use Rattle.layout.specs.Places.{Places}
 
--- "1: pool length is not 4 + 69N, N in range", "2: pool not sound"; "checking only 0, 1 or 2"
+-- R69, R70, R84
 abbrev pub checkAnswer : List ℕ → ℕ
 checkAnswer ws = pick (isSized ws) (pick (isWellFormed (nodeCount ws) ws) 0 2) 1
 
 abbrev pub initAnswer : List ℕ → ℕ
 initAnswer ws = pick (isSized ws) 0 1
 
--- "Blanking, whatever stood there, leaves N in word 0 and 0 in all others."
+-- R38
 abbrev pub emptyPool : ℕ → List ℕ
 emptyPool n = n ∷ replicate (poolWords n - 1) 0
 

@@ -30,7 +30,7 @@ fn nodes_in(pool: &[u64]) -> u64
     n
 }
 
-// 0 if the words are those that some list of entries prescribes, with its nodes at some numbers; 1 if the length is
+// 0 if some list of entries prescribes the words, with its nodes at some numbers; 1 if the length is
 // not that of a pool; else 2.
 pub fn check(pool: &[u64]) -> u64
     ensures { λ r. ⌜ r ≡ checkAnswer (now (pool .entry)) ⌝ }

@@ -1,4 +1,4 @@
--- The starred cases of document 01 hold, by computation from the definitions.
+-- The starred cases (R106 to R118) hold, by computation from the definitions.
 use mathlib.Core.Path.{_≡_, refl}
 use mathlib.Core.Bool.{true}
 use Rattle.tree.specs.Tree.{tall, has, slotMark}

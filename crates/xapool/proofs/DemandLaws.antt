@@ -1,5 +1,5 @@
 -- Demand 3: for every list of calls on one pool, the words after it are those that the model fed the same calls
--- prescribes, under some numbering of nodes, and every other node is free.
+-- prescribes at some places, with all other nodes free.
 use Prim.Native.Nat.{ℕ, zero, suc, _*_, _≤_}
 use mathlib.Core.Path.{_≡_, refl, sym, ap, subst, _∙_}
 use mathlib.Core.List.{List, [], _∷_, _++_}
@@ -112,7 +112,7 @@ module _ {n : ℕ} {l : List Entry} {os : Places} {ws : List ℕ} (lo : 1 ≤ n)
     call-stands Call.check b = stay
     call-stands (Call.batch bs rs) b = batch-stands bs rs b
 
--- "the pool after it, if its sheet ends just after": the words after each command of a batch that runs
+-- R104: the words after each command of a batch that runs
 bytes-take : {bs : List ℕ} (p : ℕ) → Bytes bs → Bytes (take p bs)
 bytes-take {bs} p b = record {
   small = λ i. byT (ltb i p)
@@ -136,13 +136,13 @@ after-each {n} {l} {ws} lo hi s bs rs b cs ds e room =
     let h : replyBytes * length cs ≤ length rs = omega (arith, length-append cs ds) in
     (p, q, rw (q, le-ltb (length rs) (replyBytes * length cs) h) at r)
 
--- "Demand 3 is a single claim about the whole list of calls, and not one for each call."
+-- R102
 pub demand-3 : {n : ℕ} {l : List Entry} {ws : List ℕ} → 1 ≤ n → n ≤ maxNodes → Stands n l ws → {cs : List Call} →
     All Bytewise cs → Stands n (listAfterAll n l cs) (wordsAfterAll ws cs)
 demand-3 lo hi s end = s
 demand-3 lo hi s (also {x = c} b bs) = demand-3 lo hi (call-stands lo hi (s .prescribed) c b) bs
 
--- "From a fresh pool (blanking just answered 0) it starts empty."
+-- R91
 pub demand-3-fresh : (ws : List ℕ) → initAnswer ws ≡ 0 → {cs : List Call} → All Bytewise cs →
     Stands (nodeCount ws) (listAfterAll (nodeCount ws) [] cs) (wordsAfterAll (initWords ws) cs)
 demand-3-fresh ws e b =
@@ -152,7 +152,7 @@ demand-3-fresh ws e b =
     (rw t (record { places = replicate (nodeCount ws) none; prescribed = empty-prescribed (nodeCount ws) })) b)
     (λ t. absurd (let z : _≡_ {A = ℕ} 1 0 = rw t at e in omega arith))
 
--- "From a pool that the check answered with 0 it starts as the one list that prescribes those words."
+-- R92
 pub demand-3-checked : (ws : List ℕ) → checkAnswer ws ≡ 0 → {cs : List Call} → All Bytewise cs →
     Stands (nodeCount ws) (listAfterAll (nodeCount ws) (listOf ws) cs) (wordsAfterAll ws cs)
 demand-3-checked ws e b =

@@ -1,7 +1,5 @@
--- Document 01, "When the kit says no": each answer of a call is given exactly when the table says, lowest number
--- first, and 1
--- to 4 alter nothing.
-use Prim.Native.Nat.{ℕ, _*_, _≤_, _<_}
+-- Each answer of a call is given exactly when the table says, and 1 to 4 alter nothing (R68 to R72, R81, R82).
+use Prim.Native.Nat.{ℕ, _*_}
 use mathlib.Core.Path.{_≡_, refl, sym, ap, subst, _∙_}
 use mathlib.Core.List.{List}
 use native.Mathlib.Omega.{arith}
@@ -9,29 +7,21 @@ use lib.Dec.{ltb}
 use lib.ListN.{length}
 use borrow.Author.Tests.{ltb-true, ltb-false}
 use Rattle.blocks.proofs.BoolLaws.{byT}
-use Rattle.model.specs.declared.Entry.{Entry}
-use Rattle.layout.specs.Places.{Places}
-use Rattle.layout.specs.WellFormed.{WellFormed, Sized, Prescribed}
-use Rattle.layout.specs.Decode.{listOf, placesOf}
-use Rattle.layout.specs.Decide.{nodeCount}
+use Rattle.layout.specs.WellFormed.{WellFormed}
 use Rattle.verify.specs.Answers.{checkAnswer, Verdict, Verdict.well-formed, Verdict.wrong-size, Verdict.malformed}
 use Rattle.verify.proofs.AnswerLaws.{meaning, accepted}
-use Rattle.batch.specs.declared.Command.{Command}
 use Rattle.batch.specs.Batch.{Parsed, Parsed.commands, Parsed.refused, parse}
 use Rattle.batch.specs.Reply.{replyBytes}
-use Rattle.xapool.specs.Calls.{Called, refuseCall, badRecord, replyShort, done, running, run}
+use Rattle.xapool.specs.Calls.{refuseCall, done, run}
+use Rattle.xapool.specs.Refusal.{
+  CallRow,
+  CallRow.row-1,
+  CallRow.row-2,
+  CallRow.row-3,
+  CallRow.row-4,
+  CallRow.row-0,
+}
 use Rattle.xapool.proofs.CallLaws.{run-unchecked, run-checked}
-
--- the rows of the table for a run, each under the conditions that the ones above it leave
-pub data CallRow (ws bs rs : List ℕ) : Called → Type 0 where
-  row-1 : ((n : ℕ) → Sized n ws → ⊥) → CallRow ws bs rs (refuseCall ws rs 1 0)
-  row-2 : (n : ℕ) → Sized n ws → ((l : List Entry) (os : Places) → Prescribed n l os ws → ⊥) →
-      CallRow ws bs rs (refuseCall ws rs 2 0)
-  row-3 : WellFormed ws → (at : ℕ) → parse bs ≡ Parsed.refused at → CallRow ws bs rs (refuseCall ws rs badRecord at)
-  row-4 : WellFormed ws → (cs : List Command) → parse bs ≡ Parsed.commands cs → length rs < replyBytes * length cs →
-      CallRow ws bs rs (refuseCall ws rs replyShort (length cs))
-  row-0 : WellFormed ws → (cs : List Command) → parse bs ≡ Parsed.commands cs → replyBytes * length cs ≤ length rs →
-      CallRow ws bs rs (running (nodeCount ws) (record { list = listOf ws; places = placesOf ws }) cs rs)
 
 module _ (ws bs rs : List ℕ) where
   checked : checkAnswer ws ≡ done → CallRow ws bs rs (run ws bs rs)

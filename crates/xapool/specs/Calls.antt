@@ -1,4 +1,4 @@
--- The three calls (document 01, "When the kit says no"): the result, and every word and byte after the call.
+-- The calls: the result, and every word and byte after the call (R68 to R72, R81 to R84, R87).
 use Prim.Native.Nat.{ℕ, _*_}
 use mathlib.Core.List.{List, [], _∷_, _++_}
 use lib.Dec.{ltb, eqb}
@@ -35,11 +35,11 @@ pub record Called : Type 0 where
   pub words : List ℕ
   pub reply : List ℕ
 
--- "1 to 4 refuse the call: pool and replies unaltered, nothing run."
+-- R82
 abbrev pub refuseCall : List ℕ → List ℕ → ℕ → ℕ → Called
 refuseCall ws rs a n = record { result = result a n; words = ws; reply = rs }
 
--- INIT (document 01: blanking) and CHECK: "Blanking gives only 0 or 1, checking only 0, 1 or 2, number 0."
+-- INIT (document 01: blanking) and CHECK (R84)
 abbrev pub initResult : List ℕ → Result
 initResult ws = result (initAnswer ws) 0
 
@@ -61,7 +61,7 @@ module _ (n : ℕ) where
   replies l [] = []
   replies l (c ∷ cs) = encode (execute n l c .reply) ++ replies (execute n l c .list) cs
 
-  -- a batch that runs: "Reply bytes past the last reply stay."
+  -- a batch that runs (R68); the other bytes of the reply stay (R87)
   abbrev pub running : State → List Command → List ℕ → Called
   running s cs rs =
       let t = states n s cs in
@@ -71,14 +71,14 @@ module _ (n : ℕ) where
         reply = replies (s .list) cs ++ drop (replyBytes * length cs) rs;
       }
 
-  -- "reply space under 24 bytes a command"
+  -- R72
   abbrev pub runParsed : List ℕ → List ℕ → Parsed → Called
   runParsed ws rs (refused at) = refuseCall ws rs badRecord at
   runParsed ws rs (commands cs) =
       pick (ltb (length rs) (replyBytes * length cs)) (refuseCall ws rs replyShort (length cs))
       (running (record { list = listOf ws; places = placesOf ws }) cs rs)
 
--- "Lowest number first.": 1 and 2 are the check's
+-- R81: 1 and 2, which are the check's, go first
 unfoldable pub run : (pool batch reply : List ℕ) → Called
 run ws bs rs =
     pick (eqb (checkAnswer ws) done) (runParsed (nodeCount ws) ws rs (parse bs)) (refuseCall ws rs (checkAnswer ws) 0)

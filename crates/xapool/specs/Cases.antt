@@ -1,4 +1,4 @@
--- The starred cases of document 01, "Sheets to try", as one table. proofs/Cases has the theorem that they all hold.
+-- The starred cases (R106 to R118) as one table. proofs/Cases has the theorem that they all hold.
 use Prim.Native.Nat.{ℕ, _+_, _-_, _^_}
 use mathlib.Core.Bool.{Bool, true}
 use mathlib.Core.List.{List, [], _∷_, _++_, map}
@@ -106,11 +106,11 @@ last64 = 2 ^ 64 - 1
 
 unfoldable pub cases : List Case
 cases =
-    -- 1. Fresh: load 0 gives 10, count 0.
+    -- case 1 (R106)
     record { n = 1; before = []; last = Load 0; facts = answer 2 10 0 0 ∷ [] }
-    -- 2. Store 0, order 0, entry 3: bare head, no node used.
+    -- case 2 (R107)
     ∷ record { n = 1; before = []; last = Store 0 0 3; facts = entry 1 0 0 3 0 0 ∷ word headWord 3 ∷ shifts [] ∷ [] }
-    -- 3. Then store 64, entry 5: needs 3. N = 2: answer 11; N = 3: done.
+    -- case 3 (R108): with 2 nodes and with 3
     ∷ record { n = 2; before = store2; last = Store 64 0 5; facts = needs 3 ∷ answer 1 11 0 0 ∷ asAfter store2 ∷ [] }
     ∷ record {
       n = 3;
@@ -118,24 +118,24 @@ cases =
       last = Store 64 0 5;
       facts = needs 3 ∷ entry 1 64 0 5 0 0 ∷ shifts (6 ∷ 0 ∷ 0 ∷ []) ∷ [];
     }
-    -- 4. Then store 4096: needs 3. Instead store 4095: needs 1.
+    -- case 4 (R109)
     ∷ record { n = 6; before = store3; last = Store 4096 0 7; facts = needs 3 ∷ entry 1 4096 0 7 0 0 ∷ [] }
     ∷ record { n = 4; before = store3; last = Store 4095 0 7; facts = needs 1 ∷ entry 1 4095 0 7 0 0 ∷ [] }
-    -- 5. Empty, store 2^64 - 1, order 0: needs 11.
+    -- case 5 (R110)
     ∷ record { n = 11; before = []; last = Store last64 0 5; facts = needs 11 ∷ entry 1 last64 0 5 0 0 ∷ [] }
-    -- 6. After case 2, the same store: needs 21, the most any store can.
+    -- case 6 (R111)
     ∷ record { n = 21; before = store2; last = Store last64 0 5; facts = needs 21 ∷ entry 1 last64 0 5 0 0 ∷ [] }
-    -- 7. Empty, order 6 at 0: one node of shift 6; load 63 gives base 0, order 6, count 1.
+    -- case 7 (R112)
     ∷ record { n = 1; before = []; last = Store 0 6 5; facts = needs 1 ∷ shifts (6 ∷ []) ∷ [] }
     ∷ record { n = 1; before = Store 0 6 5 ∷ []; last = Load 63; facts = entry 2 0 6 5 0 1 ∷ [] }
-    -- 8. Empty, order 3 at 13: base 8, slots 9 to 15 hold 34.
+    -- case 8 (R113)
     ∷ record {
       n = 1;
       before = [];
       last = Store 13 3 5;
       facts = entry 1 8 3 5 0 0 ∷ word (place 0 (slotField + 8)) 5 ∷ slotsHold 0 9 7 34;
     }
-    -- 9. Then store 10, order 0, entry 9: load 15 gives 9, base 8, order 3. Erase 11: no node left.
+    -- case 9 (R114): the load, then the erase
     ∷ record {
       n = 1;
       before = Store 13 3 5 ∷ Store 10 0 9 ∷ [];
@@ -148,16 +148,16 @@ cases =
       last = Erase 11;
       facts = entry 3 8 3 9 0 0 ∷ shifts [] ∷ asAfter [] ∷ [];
     }
-    -- 10. Entries 64 (mark 0) and 65 (mark 1); order 6 at 64: marks byte 3, shift-0 node given up.
+    -- case 10 (R115)
     ∷ record {
       n = 2;
       before = Store 64 0 5 ∷ Mark 64 0 ∷ Store 65 0 7 ∷ Mark 65 1 ∷ [];
       last = Store 64 6 9;
       facts = entry 1 64 6 9 3 0 ∷ word marksWord 3 ∷ shifts (6 ∷ []) ∷ [];
     }
-    -- 11. After case 3, erase 64: as case 2.
+    -- case 11 (R116)
     ∷ record { n = 3; before = store3; last = Erase 64; facts = entry 3 64 0 5 0 0 ∷ asAfter store2 ∷ [] }
-    -- 12. Order 63 at 2^63: slots 8 to 15 of a shift-60 node. Order 64: answer 5.
+    -- case 12 (R117)
     ∷ record {
       n = 1;
       before = [];
@@ -170,9 +170,7 @@ cases =
           ∷ slotsHold 0 9 7 34 ++ (word (place 0 (slotField + 16)) 0 ∷ []);
     }
     ∷ record { n = 1; before = []; last = Store (2 ^ 63) 64 5; facts = answer 1 5 0 0 ∷ asAfter [] ∷ [] }
-    -- 13. After case 3, find 1 to 2^64 - 1, filter 3: found at 64 in 64 steps; budget 63: paused at 64. With 64
-    -- marked 0,
-    -- filter 0: 2 steps.
+    -- case 13 (R118): found, paused, and by a mark
     ∷ record { n = 3; before = store3; last = Find 1 last64 3 64; facts = entry 6 64 0 5 0 64 ∷ [] }
     ∷ record { n = 3; before = store3; last = Find 1 last64 3 63; facts = answer 6 13 64 63 ∷ [] }
     ∷ record {

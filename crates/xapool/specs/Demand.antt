@@ -1,5 +1,4 @@
--- Demand 3: the pool after a list of calls, and the model fed the same calls (document 01, "The plain list of demand
--- 3").
+-- Demand 3: the pool after a list of calls, and the model fed the same calls (R88 to R105).
 use Prim.Native.Nat.{ℕ, _*_}
 use mathlib.Core.List.{List, [], _∷_}
 use lib.Dec.{ltb}
@@ -16,7 +15,7 @@ use Rattle.execute.specs.Execute.{execute}
 use Rattle.verify.specs.Answers.{initWords}
 use Rattle.xapool.specs.Calls.{run}
 
--- "Every call on a sheet brings its own sheet and reply space."
+-- R105: each run with a batch (document 01: a sheet) and a reply space of its own
 pub data Call : Type 0 where
   init : Call
   check : Call
@@ -32,20 +31,19 @@ abbrev pub wordsAfterAll : List ℕ → List Call → List ℕ
 wordsAfterAll ws [] = ws
 wordsAfterAll ws (c ∷ cs) = wordsAfterAll (wordsAfter ws c) cs
 
--- THE MODEL: "It is fed N and, for each call, its kind, its sheet's bytes and the length of its reply space. After the
--- start it reads no word of the pool and no reply."
+-- THE MODEL (R88, R89): no word of the pool, and of a reply only the length
 module _ (n : ℕ) where
-  -- "Any other sheet's commands are taken in order, each on the list that the last one left."
+  -- R96
   abbrev pub executeAll : List Entry → List Command → List Entry
   executeAll l [] = l
   executeAll l (c ∷ cs) = executeAll (execute n l c .list) cs
 
-  -- "A sheet that the table refuses with 3 or 4 leaves it."
+  -- R95
   abbrev pub feed : List Entry → (replyLength : ℕ) → Parsed → List Entry
   feed l k (refused at) = l
   feed l k (commands cs) = pick (ltb k (replyBytes * length cs)) l (executeAll l cs)
 
-  -- "Blanking empties it. Checking leaves it."
+  -- R93, R94
   abbrev pub listAfter : List Entry → Call → List Entry
   listAfter l init = []
   listAfter l check = l
@@ -62,7 +60,7 @@ Bytewise init = Unit
 Bytewise check = Unit
 Bytewise (batch bs rs) = Bytes bs
 
--- "the words are those that this list prescribes, under some numbering of nodes, and every other node is blank"
+-- R103
 pub record Stands (n : ℕ) (l : List Entry) (ws : List ℕ) : Type 0 where
   pub places : Places
   pub prescribed : Prescribed n l places ws

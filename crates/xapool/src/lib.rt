@@ -1,6 +1,5 @@
-// The three calls offered to a host: init, check and run, and the count of a batch by itself. None has a `requires`: each refuses what it cannot use,
-// states its
-// result and every word and byte that it was lent.
+// The calls that a host can make: init, check and run, and the count of a batch by itself. None has a `requires`: each
+// refuses what it cannot use, and says what its result is and what is in all that it was lent (R138).
 //
 // pool: the borrowed words; batch: the borrowed bytes of the commands; reply: the borrowed bytes for their replies;
 // at: a place in the batch; out: a place in the reply; low: every node below it is in use.
@@ -31,7 +30,7 @@ const REPLY_SHORT: u64 = 4;
 
 const REPLY_SIZE: u64 = 24;
 
-// What a call answers: document 01's number of the answer, and the number that goes with it.
+// What a call answers: the number of the answer, and the number that goes with it (R68 to R72).
 #[repr(C)]
 pub struct Result {
     pub answer: u64,
@@ -117,7 +116,7 @@ pub extern "C" fn xapool_init(pool: &mut [u64]) -> Result
     }
 }
 
-/// Whether a pool's words are those that some list of entries prescribes. Answers 0, 1 or 2; writes nothing.
+/// Whether a pool is well-formed: whether some list of entries prescribes its words. Answers 0, 1 or 2; writes nothing.
 #[no_mangle]
 pub extern "C" fn xapool_check(pool: &[u64]) -> Result
     ensures { λ r. ⌜ r ≡ checkResult (now (pool .entry)) ⌝ }

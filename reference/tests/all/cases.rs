@@ -1,4 +1,4 @@
-//! Cases 1 to 15 of document 01, with every figure it names and whole pools of words.
+//! Cases 1 to 15 (R106 to R120), with every figure they name and whole pools of words.
 
 use crate::helpers::*;
 use reference::batch::Command;

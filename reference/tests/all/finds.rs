@@ -1,4 +1,4 @@
-//! Find's steps where document 01 needs a close reading (design, section 2, item 5).
+//! Find's steps where the rules need a close reading (docs/DECISIONS.md, reading 5).
 
 use crate::helpers::*;
 use reference::batch::Command;

@@ -1,4 +1,4 @@
-//! Helpers: records and replies by document 01's tables, pools under test, expected words.
+//! Helpers: records and replies by the rules' tables, pools under test, expected words.
 
 use reference::batch::Command;
 use reference::calls::{check, init, run, Outcome};
@@ -10,7 +10,7 @@ pub const LAST: u64 = u64::MAX;
 pub const JUNK: u64 = 0xDEAD_BEEF_DEAD_BEEF;
 pub const UNTOUCHED: u8 = 0xAA;
 
-/// Node words as the document computes them: node n is 4 * (1,024 + n) + 2.
+/// Node words by R31.
 pub fn node_word(number: usize) -> u64 {
     4 * (1024 + number as u64) + 2
 }

@@ -1,4 +1,4 @@
-//! All tests of the reference program. Expected values come from document 01.
+//! All tests of the reference program. Expected values come from the rules (docs/RULES.md).
 
 mod cases;
 mod cells;

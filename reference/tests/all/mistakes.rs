@@ -1,4 +1,4 @@
-//! The five "Easy ways to get it wrong" of document 01, each with what is right.
+//! The five easy ways to get it wrong (R121 to R125), each with what is right.
 
 use crate::helpers::*;
 

@@ -1,0 +1,25 @@
+-- The rows of the table of a call's answers (R68 to R72, R81).
+use Prim.Native.Nat.{ℕ, _*_, _≤_, _<_}
+use mathlib.Core.Path.{_≡_}
+use mathlib.Core.List.{List}
+use lib.ListN.{length}
+use Rattle.model.specs.declared.Entry.{Entry}
+use Rattle.layout.specs.Places.{Places}
+use Rattle.layout.specs.WellFormed.{WellFormed, Sized, Prescribed}
+use Rattle.layout.specs.Decode.{listOf, placesOf}
+use Rattle.layout.specs.Decide.{nodeCount}
+use Rattle.batch.specs.declared.Command.{Command}
+use Rattle.batch.specs.Batch.{Parsed, Parsed.commands, Parsed.refused, parse}
+use Rattle.batch.specs.Reply.{replyBytes}
+use Rattle.xapool.specs.Calls.{Called, refuseCall, badRecord, replyShort, running}
+
+-- the rows of the table for a run, each under the conditions that the ones above it leave
+pub data CallRow (ws bs rs : List ℕ) : Called → Type 0 where
+  row-1 : ((n : ℕ) → Sized n ws → ⊥) → CallRow ws bs rs (refuseCall ws rs 1 0)
+  row-2 : (n : ℕ) → Sized n ws → ((l : List Entry) (os : Places) → Prescribed n l os ws → ⊥) →
+      CallRow ws bs rs (refuseCall ws rs 2 0)
+  row-3 : WellFormed ws → (at : ℕ) → parse bs ≡ Parsed.refused at → CallRow ws bs rs (refuseCall ws rs badRecord at)
+  row-4 : WellFormed ws → (cs : List Command) → parse bs ≡ Parsed.commands cs → length rs < replyBytes * length cs →
+      CallRow ws bs rs (refuseCall ws rs replyShort (length cs))
+  row-0 : WellFormed ws → (cs : List Command) → parse bs ≡ Parsed.commands cs → replyBytes * length cs ≤ length rs →
+      CallRow ws bs rs (running (nodeCount ws) (record { list = listOf ws; places = placesOf ws }) cs rs)
