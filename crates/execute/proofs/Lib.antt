@@ -3,4 +3,5 @@ pub mod ReplyLaws
 pub mod LocalLaws
 pub mod PartLaws
 pub mod Footprint
+pub mod BudgetLaws
 pub mod TableLaws
