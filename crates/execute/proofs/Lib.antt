@@ -4,3 +4,4 @@ pub mod LocalLaws
 pub mod PartLaws
 pub mod Footprint
 pub mod TableLaws
+pub mod ReplyFits
