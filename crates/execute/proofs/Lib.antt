@@ -5,3 +5,4 @@ pub mod PartLaws
 pub mod Footprint
 pub mod BudgetLaws
 pub mod TableLaws
+pub mod ReplyFits
