@@ -55,7 +55,7 @@ extern "C" {
 #define XAPOOL_MARKS 3
 
 /* The words of a pool of n nodes, n from 1 to 1,000. One node is enough for entries at indices 0
- * to 63; a store needs at most 21 new nodes. */
+ * to 63; a store needs at most 21 new nodes (proved: needed-most, crates/tree/proofs/MostLaws.antt). */
 #define XAPOOL_WORDS(n) (XAPOOL_ANCHOR_WORDS + XAPOOL_NODE_WORDS * (n))
 
 /* The bytes of the replies to c commands. */

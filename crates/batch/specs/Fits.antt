@@ -7,11 +7,12 @@ use Rattle.batch.specs.Batch.{Command, Store, Load, Erase, Mark, Unmark,
 pub record Bytes (s : List ℕ) : Type 0 where
   pub small : (i : ℕ) → getD s i 0 < 256
 
--- the index and the word of a store
+-- the fields that a list or a reply can come to hold: the index and the word of a store, the last index and the budget
+-- of a find
 abbrev pub Fits : Command → Type 0
 Fits (Store i k w) = (i < 2 ^ 64) × (w < 2 ^ 64)
 Fits (Load i) = Unit
 Fits (Erase i) = Unit
 Fits (Mark i m) = Unit
 Fits (Unmark i m) = Unit
-Fits (Find a z f k) = Unit
+Fits (Find a z f k) = (z < 2 ^ 64) × (k < 2 ^ 16)

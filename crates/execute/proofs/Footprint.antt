@@ -3,14 +3,14 @@ use Prim.Native.Nat.{ℕ}
 use mathlib.Core.Path.{_≡_, refl, sym, ap, _∙_}
 use mathlib.Core.Bool.{Bool, true, false, not}
 use mathlib.Core.Logic.{_⊎_, inl, inr}
-use mathlib.Core.List.{List, _∷_, map}
+use mathlib.Core.List.{List}
 use mathlib.Core.Option.{Option, none, some}
 use native.Mathlib.Omega.{arith}
 use lib.Dec.{leb, ltb}
 use borrow.Author.Tests.{le-leb, eqb-true, eq-eqb}
-use Rattle.blocks.specs.Lists.{any, All, end, also}
+use Rattle.blocks.specs.Lists.{any}
 use Rattle.blocks.proofs.BoolLaws.{byT, clash}
-use Rattle.blocks.proofs.ListLaws.{first-yes, first-no, each}
+use Rattle.blocks.proofs.ListLaws.{first-yes, each}
 use Rattle.model.specs.declared.Entry.{Entry}
 use Rattle.model.specs.Model.{
   Valid,
@@ -27,19 +27,18 @@ use Rattle.model.specs.Model.{
 }
 use Rattle.model.proofs.ValidLaws.{room, room-some, erase-clear, erase-none}
 use Rattle.tree.proofs.ReadLaws.{over-some, over-none}
-use Rattle.tree.proofs.RelabelLaws.{mapO, covering-map}
-use Rattle.tree.proofs.StoreLaws.{store-covering}
+use Rattle.marks.proofs.RemarkLaws.{remark-none}
 use Rattle.layout.specs.Places.{Places, newPlaces, wordAt, render}
 use Rattle.layout.proofs.StayLaws.{same-places}
 use Rattle.batch.specs.declared.Command.{Command}
 use Rattle.batch.specs.declared.Command.the-variants.{Store, Load, Erase, Mark, Unmark, Find}
-use Rattle.execute.specs.Execute.{execute, replyOf, short}
+use Rattle.execute.specs.Execute.{execute, short}
 use Rattle.execute.specs.State.{State, next}
 use Rattle.execute.specs.Part.{rangeOf, addressed, changing, mayWrite}
 use Rattle.execute.proofs.ExecuteLaws.{Kept, load-list, find-list}
 use Rattle.execute.proofs.LocalLaws.{Agree, agree-store, agree-clear, agree-map, agree-move}
 use Rattle.execute.proofs.PartLaws.{word-same}
-use Rattle.execute.proofs.TableLaws.{covered-0}
+use Rattle.execute.proofs.TableLaws.{covered-0, covering-marked, covering-stored}
 
 -- a command leaves the list, or is done and changes it within the range that it addresses
 abbrev Within : ℕ → List Entry → Command → Type 0
@@ -51,15 +50,8 @@ Within n l c =
 module _ (n : ℕ) (l : List Entry) (v : Valid l) where
   -- MARKS
   module _ (i m : ℕ) (b : Bool) where
-    map-none : {s : List Entry} → All (λ x. covers i x ≡ false) s → map (withMark i m b) s ≡ s
-    map-none end = refl
-    map-none (also {x} {l = s} h a) = rw h (ap (λ (t : List Entry). x ∷ t) (map-none a))
-
     kept : (x : Entry) → covers i x ≡ false → withMark i m b x ≡ x
     kept x t = rw t
-
-    covering-marked : {e : Entry} → covering l i ≡ some e → covering (remark l i m b) i ≡ some (withMark i m b e)
-    covering-marked q = covering-map (withMark i m b) (λ x. refl) (λ x. refl) i l ∙ ap (mapO (withMark i m b)) q
 
     agree-mark : {e : Entry} → covering l i ≡ some e → Agree (e .base) (e .order) l (remark l i m b)
     agree-mark q = agree-map (withMark i m b) (λ x. refl) (λ x. refl) i kept v q
@@ -69,11 +61,11 @@ module _ (n : ℕ) (l : List Entry) (v : Valid l) where
   mark-within i m = byT (leb markCount m) (λ t. inl (rw t)) (λ t. go t (covering l i) refl)
     where
       go : leb markCount m ≡ false → (o : Option Entry) → covering l i ≡ o → Within n l (Mark i m)
-      go t none q = inl (rw t (map-none i m true (first-no (covers i) l q)))
+      go t none q = inl (rw t (remark-none l i m true q))
       go t (some e) q =
           inr (
             refl,
-            rw t (covered-0 132 0 _ (covering-marked i m true q)),
+            rw t (covered-0 132 0 _ (covering-marked l i m true q)),
             rw (t, q, le-leb 0 (e .order) (omega arith))
                 (agree-mark i m true q),
           )
@@ -83,11 +75,11 @@ module _ (n : ℕ) (l : List Entry) (v : Valid l) where
   unmark-within i m = byT (leb markCount m) (λ t. inl (rw t)) (λ t. go t (covering l i) refl)
     where
       go : leb markCount m ≡ false → (o : Option Entry) → covering l i ≡ o → Within n l (Unmark i m)
-      go t none q = inl (rw t (map-none i m false (first-no (covers i) l q)))
+      go t none q = inl (rw t (remark-none l i m false q))
       go t (some e) q =
           inr (
             refl,
-            rw t (covered-0 133 0 _ (covering-marked i m false q)),
+            rw t (covered-0 133 0 _ (covering-marked l i m false q)),
             rw (t, q, le-leb 0 (e .order) (omega arith))
                 (agree-mark i m false q),
           )
@@ -111,40 +103,28 @@ module _ (n : ℕ) (l : List Entry) (v : Valid l) where
   -- STORE
   module _ (i k w : ℕ) where
     replaced : {e : Entry} → covering l i ≡ some e → any (over i k) l ≡ true →
-        (replyOf 129 0 (covering (store l i k w) i) .answer ≡ 0)
-        × Agree (rangeOf (record { index = i; order = k }) (covering l i) .index)
+        Agree (rangeOf (record { index = i; order = k }) (covering l i) .index)
         (rangeOf (record { index = i; order = k }) (covering l i) .order) l (store l i k w)
     replaced {e} q t =
         let h : leb k (e .order) ≡ true = sym (over-some l i k e v q) ∙ t in
-        rw (t, q, h) (
-          covered-0 129 0 _
-              (covering-map (withWord i w) (λ x. refl) (λ x. refl) i l ∙ ap (mapO (withWord i w)) q),
-          agree-map (withWord i w) (λ x. refl) (λ x. refl) i (λ x z. rw z) v q,
-        )
+        rw (t, q, h) (agree-map (withWord i w) (λ x. refl) (λ x. refl) i (λ x z. rw z) v q)
 
     fresh : (o : Option Entry) → covering l i ≡ o → any (over i k) l ≡ false →
-        (replyOf 129 0 (covering (store l i k w) i) .answer ≡ 0)
-        × Agree (rangeOf (record { index = i; order = k }) o .index)
-        (rangeOf (record { index = i; order = k }) o .order) l
-        (store l i k w)
-    fresh o q t =
-        let r = room l i k t in
-        rw (t, range o q)
-        (covered-0 129 0 _ (store-covering i k w l r i refl), agree-store i k w l r)
+        Agree (rangeOf (record { index = i; order = k }) o .index)
+        (rangeOf (record { index = i; order = k }) o .order) l (store l i k w)
+    fresh o q t = rw (t, range o q) (agree-store i k w l (room l i k t))
       where
         range : (o : Option Entry) → covering l i ≡ o →
             rangeOf (record { index = i; order = k }) o ≡ record { index = i; order = k }
         range none q = refl
         range (some e) q = rw (sym (over-some l i k e v q) ∙ t)
 
-    done : (replyOf 129 0 (covering (store l i k w) i) .answer ≡ 0)
-        × Agree (rangeOf (record { index = i; order = k }) (covering l i) .index)
+    done : Agree (rangeOf (record { index = i; order = k }) (covering l i) .index)
         (rangeOf (record { index = i; order = k }) (covering l i) .order) l (store l i k w)
     done = byT (any (over i k) l) (λ t. found (covering l i) refl t) (λ t. fresh (covering l i) refl t)
       where
         found : (o : Option Entry) → covering l i ≡ o → any (over i k) l ≡ true →
-            (replyOf 129 0 (covering (store l i k w) i) .answer ≡ 0)
-            × Agree (rangeOf (record { index = i; order = k }) (covering l i) .index)
+            Agree (rangeOf (record { index = i; order = k }) (covering l i) .index)
             (rangeOf (record { index = i; order = k }) (covering l i) .order) l (store l i k w)
         found none q t = absurd (clash t (over-none l i k q))
         found (some e) q t = replaced q t
@@ -155,7 +135,7 @@ module _ (n : ℕ) (l : List Entry) (v : Valid l) where
         byT (ltb maxOrder k) (λ t. inl (rw t))
         (λ t. byT (not (storable w)) (λ s. inl (rw (t, s)))
         (λ s. byT (short n l (store l i k w)) (λ d. inl (rw (t, s, d)))
-        (λ d. inr (refl, rw (t, s, d) (done .0), rw (t, s, d) (done .1)))))
+        (λ d. inr (refl, rw (t, s, d) (covered-0 129 0 _ (covering-stored l i k w .1)), rw (t, s, d) done))))
 
   within : (c : Command) → Within n l c
   within (Store i k w) = store-within i k w

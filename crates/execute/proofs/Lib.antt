@@ -3,4 +3,6 @@ pub mod ReplyLaws
 pub mod LocalLaws
 pub mod PartLaws
 pub mod Footprint
+pub mod BudgetLaws
 pub mod TableLaws
+pub mod ReplyFits

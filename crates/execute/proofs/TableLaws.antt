@@ -1,62 +1,186 @@
--- Each answer of a reply is given exactly when the table says (R73 to R81).
-use Prim.Native.Nat.{ℕ}
-use mathlib.Core.Path.{_≡_}
-use mathlib.Core.Bool.{true, false, not}
+-- Each answer of a reply is given exactly when its row of the table says (R73 to R81).
+use Prim.Native.Nat.{ℕ, _≤_}
+use mathlib.Core.Path.{_≡_, refl, sym, ap, subst, _∙_}
+use mathlib.Core.Bool.{Bool, true, false}
+use mathlib.Core.Logic.{_≢_}
 use mathlib.Core.List.{List}
 use mathlib.Core.Option.{Option, none, some}
 use lib.Dec.{leb, ltb, eqb}
 use borrow.Author.Tests.{leb-true, leb-false, ltb-true, ltb-false, eqb-true, eqb-false}
-use Rattle.blocks.proofs.BoolLaws.{byT, not-true, not-false}
+use Rattle.blocks.specs.Lists.{any}
+use Rattle.blocks.proofs.BoolLaws.{byT, clash}
 use Rattle.model.specs.declared.Entry.{Entry}
-use Rattle.model.specs.Model.{storable, maxOrder, markCount, store}
-use Rattle.lookup.specs.Find.{anyMark}
-use Rattle.batch.specs.declared.Command.the-variants.{Store, Mark, Unmark, Find}
-use Rattle.execute.specs.Execute.{execute, replyOf, short}
-use Rattle.execute.specs.Table.{
-  StoreRow,
-  StoreRow.row-5,
-  StoreRow.row-6,
-  StoreRow.row-11,
-  StoreRow.row-0,
-  FindRow,
-  FindRow.row-8,
-  FindRow.row-9,
-  FindRow.searched,
-  MarkRow,
-  MarkRow.marked,
+use Rattle.model.specs.Model.{
+  Valid,
+  storable,
+  maxOrder,
+  markCount,
+  covering,
+  over,
+  store,
+  erase,
+  withWord,
+  withMark,
+  remark,
+  newEntry,
+}
+use Rattle.model.proofs.ValidLaws.{room, erase-none}
+use Rattle.tree.proofs.ReadLaws.{over-none}
+use Rattle.tree.proofs.RelabelLaws.{mapO, covering-map}
+use Rattle.tree.proofs.StoreLaws.{store-covering}
+use Rattle.marks.proofs.RemarkLaws.{remark-none}
+use Rattle.lookup.specs.declared.Outcome.{Outcome}
+use Rattle.lookup.specs.Load.{depth}
+use Rattle.lookup.specs.Find.{anyMark, find}
+use Rattle.batch.specs.declared.Command.{Command}
+use Rattle.batch.specs.declared.Command.the-variants.{Store, Load, Erase, Mark, Unmark, Find}
+use Rattle.execute.specs.Execute.{Executed, execute, leave, replyOf, finding, marking, short}
+use Rattle.execute.specs.Table.{CommandRow}
+use Rattle.execute.specs.Table.CommandRow.{
+  store-5,
+  store-6,
+  store-11,
+  store-0,
+  load-10,
+  load-0,
+  erase-10,
+  erase-0,
+  mark-7,
+  mark-10,
+  mark-0,
+  unmark-7,
+  unmark-10,
+  unmark-0,
+  find-7,
+  find-8,
+  find-9,
+  find-0,
+  find-12,
+  find-13,
+}
+use Rattle.execute.proofs.BudgetLaws.{Comes, matched, ended, paused, comes, matched-is, ended-is}
+use Rattle.execute.proofs.ExecuteLaws.{short-11, enough-0}
+use Rattle.execute.proofs.ReplyLaws.{
+  find-mark,
+  find-first,
+  find-budget,
+  find-runs,
+  mark-above,
+  unmark-above,
+  mark-runs,
+  unmark-runs,
+  store-order,
+  store-word,
 }
 
-module _ (n : ℕ) (l : List Entry) where
-  pub store-row : (i k w : ℕ) → StoreRow n l i k w (execute n l (Store i k w))
-  unfolding execute
-  store-row i k w =
-      byT (ltb maxOrder k) (λ t. rw t (row-5 (ltb-true _ _ t)))
-      (λ t. byT (not (storable w)) (λ s. rw (t, s) (row-6 (ltb-false _ _ t) (not-true (storable w) s)))
-      (λ s. byT (short n l (store l i k w))
-      (λ d. rw (t, s, d) (row-11 (ltb-false _ _ t) (not-false (storable w) s) (ltb-true _ _ d)))
-      (λ d. rw (t, s, d) (row-0 (ltb-false _ _ t) (not-false (storable w) s) (ltb-false _ _ d)))))
-
-  pub find-row : (a z f k : ℕ) → FindRow l a z f k (execute n l (Find a z f k))
-  unfolding execute
-  find-row a z f k =
-      byT (ltb anyMark f) (λ t. rw t (FindRow.row-7 (ltb-true _ _ t)))
-      (λ t. byT (ltb z a) (λ s. rw (t, s) (row-8 (ltb-false _ _ t) (ltb-true _ _ s)))
-      (λ s. byT (eqb k 0) (λ d. rw (t, s, d) (row-9 (ltb-false _ _ t) (ltb-false _ _ s) (eqb-true _ _ d)))
-      (λ d. rw (t, s, d) (searched (ltb-false _ _ t) (ltb-false _ _ s) (eqb-false _ _ d)))))
-
-  pub mark-row : (i m : ℕ) → MarkRow l 132 i m true (execute n l (Mark i m))
-  unfolding execute
-  mark-row i m =
-      byT (leb markCount m) (λ t. rw t (MarkRow.row-7 (leb-true _ _ t))) (λ t. rw t (marked (leb-false _ _ t)))
-
-  pub unmark-row : (i m : ℕ) → MarkRow l 133 i m false (execute n l (Unmark i m))
-  unfolding execute
-  unmark-row i m =
-      byT (leb markCount m) (λ t. rw t (MarkRow.row-7 (leb-true _ _ t))) (λ t. rw t (marked (leb-false _ _ t)))
-
--- 10: exactly if nothing covers the index
-pub absent-10 : (t d : ℕ) (o : Option Entry) → o ≡ none → replyOf t d o .answer ≡ 10
-absent-10 t d o e = rw e
-
+-- WHAT COVERS THE INDEX
 pub covered-0 : (t d : ℕ) (o : Option Entry) {e : Entry} → o ≡ some e → replyOf t d o .answer ≡ 0
 covered-0 t d o e = rw e
+
+module _ (l : List Entry) where
+  pub covering-marked : (i m : ℕ) (b : Bool) {e : Entry} → covering l i ≡ some e →
+      covering (remark l i m b) i ≡ some (withMark i m b e)
+  covering-marked i m b q = covering-map (withMark i m b) (λ x. refl) (λ x. refl) i l ∙ ap (mapO (withMark i m b)) q
+
+  -- a store leaves an entry over its index
+  pub covering-stored : (i k w : ℕ) → (e : Entry) × (covering (store l i k w) i ≡ some e)
+  covering-stored i k w = byT (any (over i k) l) (λ t. go t (covering l i) refl)
+      (λ t. (newEntry l i k w, rw t (store-covering i k w l (room l i k t) i refl)))
+    where
+      go : any (over i k) l ≡ true → (o : Option Entry) → covering l i ≡ o →
+          (e : Entry) × (covering (store l i k w) i ≡ some e)
+      go t none q = absurd (clash t (over-none l i k q))
+      go t (some e) q =
+          (withWord i w e, rw t (covering-map (withWord i w) (λ x. refl) (λ x. refl) i l ∙ ap (mapO (withWord i w)) q))
+
+  marked-none : (t i m : ℕ) (b : Bool) → covering l i ≡ none → marking t l i m b ≡ leave l (replyOf t 0 none)
+  marked-none t i m b q = rw (remark-none l i m b q, q)
+
+  marked-some : (t i m : ℕ) (b : Bool) {e : Entry} → covering l i ≡ some e →
+      marking t l i m b ≡ record { reply = replyOf t 0 (some (withMark i m b e)); list = remark l i m b }
+  marked-some t i m b q = rw (covering-marked i m b q)
+
+module _ (n : ℕ) (l : List Entry) (i : ℕ) where
+  loads : {o : Option Entry} → covering l i ≡ o → leave l (replyOf 130 (depth l i) o) ≡ execute n l (Load i)
+  unfolding execute
+  loads q = rw q
+
+  erases-none : covering l i ≡ none → leave l (replyOf 131 0 none) ≡ execute n l (Erase i)
+  unfolding execute
+  erases-none q = rw (erase-none i q, q)
+
+  erases-some : {e : Entry} → covering l i ≡ some e →
+      record { reply = replyOf 131 0 (some e); list = erase l i } ≡ execute n l (Erase i)
+  unfolding execute
+  erases-some q = rw q
+
+-- THE ROWS
+module _ (n : ℕ) (l : List Entry) (v : Valid l) where
+  found-sole : {a z f k : ℕ} {x : Outcome} → f ≤ anyMark → a ≤ z → k ≢ 0 → x ≡ find l a z f k →
+      leave l (finding 134 x) ≡ execute n l (Find a z f k)
+  found-sole h g b e = ap (λ (o : Outcome). leave l (finding 134 o)) e ∙ sym (find-runs n l _ _ _ _ h g b)
+
+  -- a row whose condition holds is what the command comes to
+  pub row-sole : {c : Command} {x : Executed} → CommandRow n l c x → x ≡ execute n l c
+  row-sole (store-5 {i} {k} {w} h) = sym (store-order n l i k w h)
+  row-sole (store-6 {i} {k} {w} h s) = sym (store-word n l i k w h s)
+  row-sole (store-11 {i} {k} {w} h s d) = sym (short-11 n l i k w h s d)
+  row-sole (store-0 {i} {k} {w} h s d q) =
+      sym (enough-0 n l i k w h s d
+      ∙ ap (λ (o : Option Entry). record { reply = replyOf 129 0 o; list = store l i k w }) q)
+  row-sole (load-10 {i} q) = loads n l i q
+  row-sole (load-0 {i} q) = loads n l i q
+  row-sole (erase-10 {i} q) = erases-none n l i q
+  row-sole (erase-0 {i} q) = erases-some n l i q
+  row-sole (mark-7 {i} {m} h) = sym (mark-above n l i m h)
+  row-sole (mark-10 {i} {m} h q) = sym (mark-runs n l i m h ∙ marked-none l 132 i m true q)
+  row-sole (mark-0 {i} {m} h q) = sym (mark-runs n l i m h ∙ marked-some l 132 i m true q)
+  row-sole (unmark-7 {i} {m} h) = sym (unmark-above n l i m h)
+  row-sole (unmark-10 {i} {m} h q) = sym (unmark-runs n l i m h ∙ marked-none l 133 i m false q)
+  row-sole (unmark-0 {i} {m} h q) = sym (unmark-runs n l i m h ∙ marked-some l 133 i m false q)
+  row-sole (find-7 {a} {z} {f} {k} h) = sym (find-mark n l a z f k h)
+  row-sole (find-8 {a} {z} {f} {k} h g) = sym (find-first n l a z f k h g)
+  row-sole (find-9 {a} {z} {f} {k} h g b) = sym (find-budget n l a z f k h g b)
+  row-sole (find-0 {a} {z} {f} {k} h g b m s) = found-sole h g b (matched-is (comes l v a z f k g) m s)
+  row-sole (find-12 {a} {z} {f} {k} h g b m s) = found-sole h g b (ended-is (comes l v a z f k g) m s)
+  row-sole (find-13 h g b s p) = found-sole h g b (sym (p .by-steps))
+
+  given : {c : Command} {x : Executed} → CommandRow n l c x → CommandRow n l c (execute n l c)
+  given {c} r = subst (CommandRow n l c) (row-sole r) r
+
+  by-cover : {c : Command} (i : ℕ) → (covering l i ≡ none → CommandRow n l c (execute n l c)) →
+      ((e : Entry) → covering l i ≡ some e → CommandRow n l c (execute n l c)) → CommandRow n l c (execute n l c)
+  by-cover {c} i f g = go (covering l i) refl
+    where
+      go : (o : Option Entry) → covering l i ≡ o → CommandRow n l c (execute n l c)
+      go none q = f q
+      go (some e) q = g e q
+
+  -- every command comes to what some row says
+  pub rows : (c : Command) → CommandRow n l c (execute n l c)
+  rows (Store i k w) =
+      byT (ltb maxOrder k) (λ t. given (store-5 (ltb-true _ _ t)))
+      (λ t. byT (storable w)
+      (λ s. byT (short n l (store l i k w))
+      (λ d. given (store-11 (ltb-false _ _ t) s (ltb-true _ _ d)))
+      (λ d. given (store-0 (ltb-false _ _ t) s (ltb-false _ _ d) (covering-stored l i k w .1))))
+      (λ s. given (store-6 (ltb-false _ _ t) s)))
+  rows (Load i) = by-cover i (λ q. given (load-10 q)) (λ e q. given (load-0 q))
+  rows (Erase i) = by-cover i (λ q. given (erase-10 q)) (λ e q. given (erase-0 q))
+  rows (Mark i m) =
+      byT (leb markCount m) (λ t. given (mark-7 (leb-true _ _ t)))
+      (λ t. by-cover i (λ q. given (mark-10 (leb-false _ _ t) q)) (λ e q. given (mark-0 (leb-false _ _ t) q)))
+  rows (Unmark i m) =
+      byT (leb markCount m) (λ t. given (unmark-7 (leb-true _ _ t)))
+      (λ t. by-cover i (λ q. given (unmark-10 (leb-false _ _ t) q)) (λ e q. given (unmark-0 (leb-false _ _ t) q)))
+  rows (Find a z f k) =
+      byT (ltb anyMark f) (λ t. given (find-7 (ltb-true _ _ t)))
+      (λ t. byT (ltb z a) (λ s. given (find-8 (ltb-false _ _ t) (ltb-true _ _ s)))
+      (λ s. byT (eqb k 0) (λ d. given (find-9 (ltb-false _ _ t) (ltb-false _ _ s) (eqb-true _ _ d)))
+      (λ d. go (ltb-false _ _ t) (ltb-false _ _ s) (eqb-false _ _ d) (comes l v a z f k (ltb-false _ _ s)))))
+    where
+      go : {o : Outcome} → f ≤ anyMark → a ≤ z → k ≢ 0 → Comes l a z f k o →
+          CommandRow n l (Find a z f k) (execute n l (Find a z f k))
+      go h g b (matched m s) = given (find-0 h g b m s)
+      go h g b (ended m s) = given (find-12 h g b m s)
+      go h g b (paused s p) = given (find-13 h g b s p)

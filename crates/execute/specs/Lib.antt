@@ -3,3 +3,4 @@ pub mod State
 pub mod Table
 pub mod Part
 pub mod Contracts
+pub mod Widths

@@ -1,47 +1,75 @@
--- The rows of the table of answers that stand in a reply (R73 to R81): what a command comes to, each row under its
--- condition and the failure of those before it. The conditions exclude each other.
-use Prim.Native.Nat.{ℕ, _-_, _≤_, _<_}
+-- The table of answers that stand in a reply (R73 to R81): what a command comes to, a row for every answer of every
+-- command. A row has its condition and the failure of those of smaller number, so no two rows of a command hold at once.
+-- Tags and answers stand in it as numbers, so that it holds `Execute` to them.
+use Prim.Native.Nat.{ℕ, _+_, _*_, _-_, _≤_, _<_}
 use mathlib.Core.Path.{_≡_}
 use mathlib.Core.Logic.{_≢_}
-use mathlib.Core.Bool.{Bool, true, false}
+use mathlib.Core.Bool.{true, false}
 use mathlib.Core.List.{List}
+use mathlib.Core.Option.{none, some}
 use lib.ListN.{length}
 use Rattle.model.specs.declared.Entry.{Entry}
-use Rattle.model.specs.Model.{storable, maxOrder, markCount, covering, store}
-use Rattle.tree.specs.Tree.{nodes, needed}
-use Rattle.lookup.specs.Find.{anyMark, find}
-use Rattle.execute.specs.Execute.{
-  Executed,
-  leave,
-  refuse,
-  replyOf,
-  finding,
-  marking,
-  orderAbove,
-  notStorable,
-  markAbove,
-  firstAbove,
-  noBudget,
-  tooFewNodes,
-}
+use Rattle.model.specs.Model.{storable, maxOrder, markCount, covering, store, erase, withMark, remark}
+use Rattle.tree.specs.Tree.{slots, nodes, needed}
+use Rattle.lookup.specs.declared.Outcome.the-variants.{Paused}
+use Rattle.lookup.specs.Load.{depth}
+use Rattle.lookup.specs.Find.{anyMark, find, firstMatch}
+use Rattle.lookup.specs.Steps.{steps}
+use Rattle.batch.specs.declared.Command.{Command}
+use Rattle.batch.specs.declared.Command.the-variants.{Store, Load, Erase, Mark, Unmark, Find}
+use Rattle.batch.specs.Reply.{answered, answeredBy}
+use Rattle.execute.specs.Execute.{Executed, leave, refuse}
 
--- what a store comes to: 5, 6, 11 or done, each under the conditions that the ones before it leave
-pub data StoreRow (n : ℕ) (l : List Entry) (i k w : ℕ) : Executed → Type 0 where
-  row-5 : maxOrder < k → StoreRow n l i k w (refuse l 129 orderAbove)
-  row-6 : k ≤ maxOrder → storable w ≡ false → StoreRow n l i k w (refuse l 129 notStorable)
-  row-11 : k ≤ maxOrder → storable w ≡ true → n - length (nodes l) < needed l (store l i k w) →
-      StoreRow n l i k w (refuse l 129 tooFewNodes)
-  row-0 : k ≤ maxOrder → storable w ≡ true → needed l (store l i k w) ≤ n - length (nodes l) →
-      StoreRow n l i k w (record { reply = replyOf 129 0 (covering (store l i k w) i); list = store l i k w })
+-- R66: the budget that no find uses up, and the steps that a find takes with it: to its match, or to its end
+abbrev pub enough : List Entry → ℕ
+enough l = slots * length (nodes l) + 2
 
--- what a find comes to: 7, 8, 9, or the search itself (0, 12 or 13)
-pub data FindRow (l : List Entry) (a z f k : ℕ) : Executed → Type 0 where
-  row-7 : anyMark < f → FindRow l a z f k (refuse l 134 markAbove)
-  row-8 : f ≤ anyMark → z < a → FindRow l a z f k (refuse l 134 firstAbove)
-  row-9 : f ≤ anyMark → a ≤ z → k ≡ 0 → FindRow l a z f k (refuse l 134 noBudget)
-  searched : f ≤ anyMark → a ≤ z → k ≢ 0 → FindRow l a z f k (leave l (finding 134 (find l a z f k)))
+abbrev pub stepsIn : List Entry → (first last filter : ℕ) → ℕ
+stepsIn l a z f = steps (find l a z f (enough l))
 
--- what a mark or unmark comes to: 7, or 10 and done by what covers the index
-pub data MarkRow (l : List Entry) (t i m : ℕ) (b : Bool) : Executed → Type 0 where
-  row-7 : markCount ≤ m → MarkRow l t i m b (refuse l t markAbove)
-  marked : m < markCount → MarkRow l t i m b (marking t l i m b)
+-- R65: where a find with budget k pauses. No entry matches that meets first .. y, for any y before that place
+pub record PausesAt (l : List Entry) (a z f k p : ℕ) : Type 0 where
+  pub by-steps : find l a z f k ≡ Paused p k
+  pub from-first : a ≤ p
+  pub to-last : p ≤ z
+  pub passed : (y : ℕ) → a ≤ y → y < p → firstMatch l a y f ≡ none
+
+-- n: the nodes of the pool; l: the list before the command
+pub data CommandRow (n : ℕ) (l : List Entry) : Command → Executed → Type 0 where
+  -- a store
+  store-5 : {i k w : ℕ} → maxOrder < k → CommandRow n l (Store i k w) (refuse l 129 5)
+  store-6 : {i k w : ℕ} → k ≤ maxOrder → storable w ≡ false → CommandRow n l (Store i k w) (refuse l 129 6)
+  store-11 : {i k w : ℕ} → k ≤ maxOrder → storable w ≡ true → n - length (nodes l) < needed l (store l i k w) →
+      CommandRow n l (Store i k w) (refuse l 129 11)
+  store-0 : {i k w : ℕ} {e : Entry} → k ≤ maxOrder → storable w ≡ true →
+      needed l (store l i k w) ≤ n - length (nodes l) → covering (store l i k w) i ≡ some e →
+      CommandRow n l (Store i k w) (record { reply = answeredBy 129 e 0; list = store l i k w })
+  -- a load
+  load-10 : {i : ℕ} → covering l i ≡ none → CommandRow n l (Load i) (leave l (answered 130 10 0 (depth l i)))
+  load-0 : {i : ℕ} {e : Entry} → covering l i ≡ some e →
+      CommandRow n l (Load i) (leave l (answeredBy 130 e (depth l i)))
+  -- an erase
+  erase-10 : {i : ℕ} → covering l i ≡ none → CommandRow n l (Erase i) (refuse l 131 10)
+  erase-0 : {i : ℕ} {e : Entry} → covering l i ≡ some e →
+      CommandRow n l (Erase i) (record { reply = answeredBy 131 e 0; list = erase l i })
+  -- a mark
+  mark-7 : {i m : ℕ} → markCount ≤ m → CommandRow n l (Mark i m) (refuse l 132 7)
+  mark-10 : {i m : ℕ} → m < markCount → covering l i ≡ none → CommandRow n l (Mark i m) (refuse l 132 10)
+  mark-0 : {i m : ℕ} {e : Entry} → m < markCount → covering l i ≡ some e →
+      CommandRow n l (Mark i m) (record { reply = answeredBy 132 (withMark i m true e) 0; list = remark l i m true })
+  -- an unmark
+  unmark-7 : {i m : ℕ} → markCount ≤ m → CommandRow n l (Unmark i m) (refuse l 133 7)
+  unmark-10 : {i m : ℕ} → m < markCount → covering l i ≡ none → CommandRow n l (Unmark i m) (refuse l 133 10)
+  unmark-0 : {i m : ℕ} {e : Entry} → m < markCount → covering l i ≡ some e →
+      CommandRow n l (Unmark i m) (record { reply = answeredBy 133 (withMark i m false e) 0; list = remark l i m false })
+  -- a find from a to z with filter f and budget k
+  find-7 : {a z f k : ℕ} → anyMark < f → CommandRow n l (Find a z f k) (refuse l 134 7)
+  find-8 : {a z f k : ℕ} → f ≤ anyMark → z < a → CommandRow n l (Find a z f k) (refuse l 134 8)
+  find-9 : {a z f k : ℕ} → f ≤ anyMark → a ≤ z → k ≡ 0 → CommandRow n l (Find a z f k) (refuse l 134 9)
+  -- the first match, none, or the budget used up before either
+  find-0 : {a z f k : ℕ} {e : Entry} → f ≤ anyMark → a ≤ z → k ≢ 0 → firstMatch l a z f ≡ some e →
+      stepsIn l a z f ≤ k → CommandRow n l (Find a z f k) (leave l (answeredBy 134 e (stepsIn l a z f)))
+  find-12 : {a z f k : ℕ} → f ≤ anyMark → a ≤ z → k ≢ 0 → firstMatch l a z f ≡ none → stepsIn l a z f ≤ k →
+      CommandRow n l (Find a z f k) (leave l (answered 134 12 0 (stepsIn l a z f)))
+  find-13 : {a z f k p : ℕ} → f ≤ anyMark → a ≤ z → k ≢ 0 → k < stepsIn l a z f → PausesAt l a z f k p →
+      CommandRow n l (Find a z f k) (leave l (answered 134 13 p k))

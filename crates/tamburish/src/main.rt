@@ -1,8 +1,10 @@
 // The program: a pool of 40 nodes just initialised, one batch from standard input, its replies to standard output. A
-// refused
-// call is one record of six bytes: tag 255, length 3, the answer, and the place in two bytes.
+// refused call is one record of six bytes: tag 255, length 3, the answer, and the place in two bytes (R56).
 ghost use Prim.Native.Nat.{_≤_};
+ghost use mathlib.Core.Path.{_≡_};
 ghost use lib.ListN.{length};
+ghost use Rattle.tamburish.specs.Program;
+ghost use Rattle.tamburish.specs.Program.{ran, refusalSize, refusalOver};
 
 // 4 + 69 * 40 words for 40 nodes.
 const POOL_WORDS: usize = 2764;
@@ -11,19 +13,16 @@ const INPUT_BYTES: usize = 8193;
 // 24 bytes for each of the 744 commands that fit into 8,192 bytes, the shortest having 11.
 const OUTPUT_BYTES: usize = 17856;
 
-const MOST_COMMANDS: u64 = 744;
-
 const REPLY_BYTES: u64 = 24;
 
 const REFUSAL_BYTES: usize = 6;
 
 // The record of a refused call.
 fn refusal(reply: &mut [u8], answer: u64, place: u64) -> usize
-    ensures { λ r. ⌜ r ≤ length (now (reply .entry)) ⌝ }
+    requires { ⌜ refusalSize ≤ length (now reply) ⌝ }
+    ensures { λ r. ⌜ r ≡ refusalSize ⌝ }
+    ensures { λ _. ⌜ now (reply .exit) ≡ refusalOver answer place (now (reply .entry)) ⌝ }
 {
-    if reply.len() < REFUSAL_BYTES {
-        return 0;
-    }
     reply[0] = 255;
     reply[1] = 0;
     reply[2] = 3;
@@ -33,24 +32,22 @@ fn refusal(reply: &mut [u8], answer: u64, place: u64) -> usize
     REFUSAL_BYTES
 }
 
-// Runs the batch on the pool; how many bytes of `reply` are to be written.
+// Initialises the pool and runs the batch on it; how many bytes of `reply` are to be written.
 fn respond(pool: &mut [u64], batch: &[u8], reply: &mut [u8]) -> usize
+    requires { ⌜ refusalSize ≤ length (now reply) ⌝ }
+    ensures { λ r. ⌜ r ≡ Program.size (ran (now (pool .entry)) (now (batch .entry)) (now (reply .entry))) ⌝ }
     ensures { λ r. ⌜ r ≤ length (now (reply .entry)) ⌝ }
+    ensures { λ _. ⌜ now (reply .exit) ≡ Program.space (ran (now (pool .entry)) (now (batch .entry)) (now (reply .entry))) ⌝ }
+    ensures { λ _. ⌜ now (pool .exit) ≡ ran (now (pool .entry)) (now (batch .entry)) (now (reply .entry)) .words ⌝ }
 {
+    xapool::xapool_init(pool);
     let result = xapool::xapool_run(pool, batch, reply);
     let answer = result.answer;
     let number = result.number;
     if answer != 0 {
         return refusal(reply, answer, number);
     }
-    if number > MOST_COMMANDS {
-        return 0;
-    }
-    let bytes = (REPLY_BYTES * number) as usize;
-    if bytes > reply.len() {
-        return 0;
-    }
-    bytes
+    (REPLY_BYTES * number) as usize
 }
 
 fn main() {
@@ -58,7 +55,6 @@ fn main() {
     let mut input = [0u8; INPUT_BYTES];
     let mut output = [0u8; OUTPUT_BYTES];
     let n = io::read_full(0, &mut input);
-    xapool::xapool_init(&mut pool);
     let m = respond(&mut pool, &input[..n], &mut output);
     io::write_all(1, &output[0..m]);
 }

@@ -11,3 +11,4 @@ pub mod HeadShiftLaws
 pub mod GrowLaws
 pub mod ChangeLaws
 pub mod ReadLaws
+pub mod MostLaws

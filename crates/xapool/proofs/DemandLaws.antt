@@ -1,9 +1,9 @@
--- Demand 3: for every list of calls on one pool, the words after it are those that the model fed the same calls
--- prescribes at some places, with all other nodes free.
+-- Pieces of demand 3: for every list of calls on one pool, the words after it are those that the model fed the same
+-- calls prescribes at some places, with all other nodes free. ClaimLaws has the whole.
 use Prim.Native.Nat.{ℕ, zero, suc, _*_, _≤_}
 use mathlib.Core.Path.{_≡_, refl, sym, ap, subst, _∙_}
 use mathlib.Core.List.{List, [], _∷_, _++_}
-use mathlib.Core.Option.{none}
+use mathlib.Core.Option.{Option, none}
 use native.Mathlib.Omega.{arith}
 use lib.Dec.{ltb}
 use lib.ListN.{length, getD, replicate, take, length-append, length-take}
@@ -13,11 +13,13 @@ use Rattle.blocks.specs.Lists.{All, end, also}
 use Rattle.blocks.proofs.BoolLaws.{byT}
 use Rattle.blocks.proofs.UpToLaws.{length-upTo}
 use Rattle.model.specs.declared.Entry.{Entry}
-use Rattle.layout.specs.Words.{maxNodes, poolWords}
-use Rattle.layout.specs.Places.{Places, wordAt, render}
+use Rattle.tree.specs.Tree.{Node}
+use Rattle.layout.specs.Words.{maxNodes, poolWords, fieldAt}
+use Rattle.layout.specs.Places.{Places, numberIn, wordAt, render}
 use Rattle.layout.specs.WellFormed.{WellFormed, Prescribed, Sized}
 use Rattle.layout.specs.Decide.{nodeCount, isSized}
 use Rattle.layout.specs.Decode.{listOf, placesOf}
+use Rattle.decode.proofs.PrescribedWords.{node-word}
 use Rattle.decode.proofs.DecodeLaws.{decode-list, decode-places}
 use Rattle.decode.proofs.DecideLaws.{count-of, sized-is, is-sized}
 use Rattle.verify.specs.Answers.{checkAnswer, initAnswer, initWords}
@@ -45,6 +47,9 @@ use Rattle.xapool.specs.Demand.{
   listAfterAll,
   Bytewise,
   Stands,
+  Starts,
+  Starts.fresh,
+  Starts.checked,
 }
 
 -- the model's list is the state's
@@ -61,6 +66,14 @@ sized {n} {l} {os} lo hi p = record {
   most = hi;
 }
 
+-- every node without a place is free
+abbrev pub stands-by : {n : ℕ} {l : List Entry} {os : Places} {ws : List ℕ} → Prescribed n l os ws → Stands n l ws
+stands-by {n} {l} {os} {ws} p = record {
+  places = os;
+  prescribed = p;
+  others-free = λ m lt e f h. node-word n l os ws p m f lt h ∙ ap (λ (o : Option Node). fieldAt l (numberIn os) o f) e;
+}
+
 -- WHAT A RUN COMES TO on words that a list prescribes
 module _ {n : ℕ} {l : List Entry} {os : Places} {ws : List ℕ} (lo : 1 ≤ n) (hi : n ≤ maxNodes)
     (p : Prescribed n l os ws)
@@ -71,11 +84,11 @@ module _ {n : ℕ} {l : List Entry} {os : Places} {ws : List ℕ} (lo : 1 ≤ n)
         rw (eq-eqb (checkAnswer ws) 0 (prescribed-0 (sized lo hi p) p), count-of (sized lo hi p))
 
     -- the state that is read off the words
-    decoded : _≡_ {A = State} (record { list = listOf ws; places = placesOf ws }) (record { list = l; places = os })
+    pub decoded : _≡_ {A = State} (record { list = listOf ws; places = placesOf ws }) (record { list = l; places = os })
     decoded = λ i. record { list = decode-list p i; places = decode-places p i }
 
     stay : Stands n l ws
-    stay = record { places = os; prescribed = p }
+    stay = stands-by p
 
     -- commands that run
     ran : {cs : List Command} → All Fits cs → let t = states n (record { list = l; places = os }) cs in
@@ -85,10 +98,7 @@ module _ {n : ℕ} {l : List Entry} {os : Places} {ws : List ℕ} (lo : 1 ≤ n)
         let k : Kept n (states n s cs) = states-kept f (record { valid = p .valid; placed = p .placed }) in
         subst (λ (x : List Entry). Stands n x (render (states n s cs .list) (states n s cs .places) n))
         (states-list n s cs)
-        (record {
-          places = states n s cs .places;
-          prescribed = record { valid = k .valid; placed = k .placed; words-are = refl };
-        })
+        (stands-by {os = states n s cs .places} (record { valid = k .valid; placed = k .placed; words-are = refl }))
 
     -- one batch
     batch-stands : (bs rs : List ℕ) → Bytes bs → Stands n (feed n l (length rs) (parse bs)) (run ws bs rs .words)
@@ -104,13 +114,18 @@ module _ {n : ℕ} {l : List Entry} {os : Places} {ws : List ℕ} (lo : 1 ≤ n)
     init-stands : Stands n [] (initWords ws)
     init-stands =
         rw (sized-is (sized lo hi p), count-of (sized lo hi p))
-        (record { places = replicate n none; prescribed = empty-prescribed n })
+        (stands-by (empty-prescribed n))
 
     -- one call
     pub call-stands : (c : Call) → Bytewise c → Stands n (listAfter n l c) (wordsAfter ws c)
     call-stands Call.init b = init-stands
     call-stands Call.check b = stay
     call-stands (Call.batch bs rs) b = batch-stands bs rs b
+
+pub getD-out : (xs : List ℕ) (i : ℕ) → length xs ≤ i → getD xs i 0 ≡ 0
+getD-out [] i h = refl
+getD-out (x ∷ xs) zero h = absurd (omega arith)
+getD-out (x ∷ xs) (suc i) h = getD-out xs i (omega arith)
 
 -- R104: the words after each command of a batch that runs
 bytes-take : {bs : List ℕ} (p : ℕ) → Bytes bs → Bytes (take p bs)
@@ -119,11 +134,6 @@ bytes-take {bs} p b = record {
       (λ t. rw (getD-take p bs i 0 (ltb-true _ _ t)) (b .small i))
       (λ t. rw (getD-out (take p bs) i (simp length-take (omega (arith, ltb-false)))) (omega arith));
 }
-  where
-    getD-out : (xs : List ℕ) (i : ℕ) → length xs ≤ i → getD xs i 0 ≡ 0
-    getD-out [] i h = refl
-    getD-out (x ∷ xs) zero h = absurd (omega arith)
-    getD-out (x ∷ xs) (suc i) h = getD-out xs i (omega arith)
 
 pub after-each : {n : ℕ} {l : List Entry} {ws : List ℕ} → 1 ≤ n → n ≤ maxNodes → Stands n l ws → (bs rs : List ℕ) →
     Bytes bs → (cs ds : List Command) → parse bs ≡ Parsed.commands (cs ++ ds) →
@@ -142,23 +152,32 @@ pub demand-3 : {n : ℕ} {l : List Entry} {ws : List ℕ} → 1 ≤ n → n ≤ 
 demand-3 lo hi s end = s
 demand-3 lo hi s (also {x = c} b bs) = demand-3 lo hi (call-stands lo hi (s .prescribed) c b) bs
 
+-- R91, R92: how a pool starts
+pub record Started (n : ℕ) (l : List Entry) (ws : List ℕ) : Type 0 where
+  pub least : 1 ≤ n
+  pub most : n ≤ maxNodes
+  pub stands : Stands n l ws
+
+pub started : {n : ℕ} {l : List Entry} {ws : List ℕ} → Starts n l ws → Started n l ws
+started (fresh ws e) =
+    byT (isSized ws)
+    (λ t. let s : Sized (nodeCount ws) ws = is-sized ws t in
+    record { least = s .least; most = s .most; stands = rw t (stands-by (empty-prescribed (nodeCount ws))) })
+    (λ t. absurd (let z : _≡_ {A = ℕ} 1 0 = rw t at e in omega arith))
+started (checked ws e) =
+    let s : WellFormed ws = accepted ws e in
+    record {
+      least = s .least;
+      most = s .most;
+      stands = stands-by (record { valid = s .valid; placed = s .placed; words-are = s .words-are });
+    }
+
 -- R91
 pub demand-3-fresh : (ws : List ℕ) → initAnswer ws ≡ 0 → {cs : List Call} → All Bytewise cs →
     Stands (nodeCount ws) (listAfterAll (nodeCount ws) [] cs) (wordsAfterAll (initWords ws) cs)
-demand-3-fresh ws e b =
-    byT (isSized ws)
-    (λ t. let s : Sized (nodeCount ws) ws = is-sized ws t in
-    demand-3 (s .least) (s .most)
-    (rw t (record { places = replicate (nodeCount ws) none; prescribed = empty-prescribed (nodeCount ws) })) b)
-    (λ t. absurd (let z : _≡_ {A = ℕ} 1 0 = rw t at e in omega arith))
+demand-3-fresh ws e b = let s = started (fresh ws e) in demand-3 (s .least) (s .most) (s .stands) b
 
 -- R92
 pub demand-3-checked : (ws : List ℕ) → checkAnswer ws ≡ 0 → {cs : List Call} → All Bytewise cs →
     Stands (nodeCount ws) (listAfterAll (nodeCount ws) (listOf ws) cs) (wordsAfterAll ws cs)
-demand-3-checked ws e b =
-    let s : WellFormed ws = accepted ws e in
-    demand-3 (s .least) (s .most)
-    (record {
-      places = s .places;
-      prescribed = record { valid = s .valid; placed = s .placed; words-are = s .words-are };
-    }) b
+demand-3-checked ws e b = let s = started (checked ws e) in demand-3 (s .least) (s .most) (s .stands) b

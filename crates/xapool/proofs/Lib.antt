@@ -3,3 +3,4 @@ pub mod RunningLaws
 pub mod DemandLaws
 pub mod CallLaws
 pub mod RefusalLaws
+pub mod ClaimLaws

@@ -1,24 +1,26 @@
--- The starred cases (R106 to R118) as one table. proofs/Cases has the theorem that they all hold.
-use Prim.Native.Nat.{ℕ, _+_, _-_, _^_}
+-- The starred cases (R106 to R118) as one table, of batches as bytes. proofs/Cases has the theorem that they all hold.
+use Prim.Native.Nat.{ℕ, _+_, _*_, _-_, _^_}
 use mathlib.Core.Bool.{Bool, true}
 use mathlib.Core.List.{List, [], _∷_, _++_, map}
-use mathlib.Core.Option.{none}
 use lib.Dec.{eqb}
+use lib.ListN.{length, getD, drop, replicate}
 use Rattle.blocks.specs.Choice.{both}
 use Rattle.blocks.specs.Lists.{upTo}
-use Rattle.tree.specs.Tree.{tierOrder, Node, nodes, needed}
-use Rattle.layout.specs.Words.{place, headWord, marksWord, slotField}
-use Rattle.layout.specs.Places.{wordAt, render}
-use Rattle.layout.specs.Decide.{equal}
+use Rattle.model.specs.declared.Entry.{Entry}
 use Rattle.model.specs.Model.{store}
+use Rattle.tree.specs.Tree.{tierOrder, Node, nodes, needed}
+use Rattle.layout.specs.Words.{poolWords, place, headWord, marksWord, slotField}
+use Rattle.layout.specs.Decode.{listOf}
+use Rattle.layout.specs.Decide.{equal}
+use Rattle.verify.specs.Answers.{initWords}
+use Rattle.batch.specs.Bytes.{bytesThen}
 use Rattle.batch.specs.declared.Command.{Command}
 use Rattle.batch.specs.declared.Command.the-variants.{Store, Load, Erase, Mark, Unmark, Find}
-use Rattle.batch.specs.Reply.{encode, answered}
+use Rattle.batch.specs.Reply.{replyBytes, encode, answered}
 use Rattle.batch.specs.declared.Reply.{Reply}
-use Rattle.execute.specs.Execute.{execute}
-use Rattle.execute.specs.State.{State, states}
+use Rattle.xapool.specs.Calls.{Called, done, run}
 
--- what a case says of its last command
+-- what a case says of its last command, by its reply and by the pool's words
 pub data Fact : Type 0 where
   -- the whole reply
   replies : Reply → Fact
@@ -38,46 +40,57 @@ pub record Case : Type 0 where
   pub last : Command
   pub facts : List Fact
 
--- CHECKING A CASE
-abbrev pub fresh : ℕ → State
-fresh n = record { list = []; places = upTo (λ m. none) 0 n }
+-- THE BYTES OF COMMANDS (R42, R44 to R48), to be read back by `run`
+abbrev pub recordThen : Command → List ℕ → List ℕ
+recordThen (Store i k w) more = bytesThen 1 1 (bytesThen 2 17 (bytesThen 8 i (bytesThen 1 k (bytesThen 8 w more))))
+recordThen (Load i) more = bytesThen 1 2 (bytesThen 2 8 (bytesThen 8 i more))
+recordThen (Erase i) more = bytesThen 1 3 (bytesThen 2 8 (bytesThen 8 i more))
+recordThen (Mark i m) more = bytesThen 1 4 (bytesThen 2 9 (bytesThen 8 i (bytesThen 1 m more)))
+recordThen (Unmark i m) more = bytesThen 1 5 (bytesThen 2 9 (bytesThen 8 i (bytesThen 1 m more)))
+recordThen (Find a z f k) more =
+    bytesThen 1 6 (bytesThen 2 19 (bytesThen 8 a (bytesThen 8 z (bytesThen 1 f (bytesThen 2 k more)))))
 
-abbrev pub stateAfter : ℕ → List Command → State
-stateAfter n cs = states n (fresh n) cs
+abbrev pub batchOf : List Command → List ℕ
+batchOf [] = []
+batchOf (c ∷ cs) = recordThen c (batchOf cs)
+
+-- CHECKING A CASE
+-- the commands as one batch on a pool of zeros that was initialised
+abbrev pub ran : ℕ → List Command → Called
+ran n cs = run (initWords (replicate (poolWords n) 0)) (batchOf cs) (replicate (replyBytes * length cs) 0)
 
 abbrev pub shiftOf : Node → ℕ
 shiftOf p = tierOrder (p .tier - 1)
 
-abbrev pub neededBy : State → Command → ℕ
-neededBy s (Store i k w) = needed (s .list) (store (s .list) i k w)
-neededBy s (Load i) = 0
-neededBy s (Erase i) = 0
-neededBy s (Mark i m) = 0
-neededBy s (Unmark i m) = 0
-neededBy s (Find a z f k) = 0
+abbrev pub neededBy : List Entry → Command → ℕ
+neededBy l (Store i k w) = needed l (store l i k w)
+neededBy l (Load i) = 0
+neededBy l (Erase i) = 0
+neededBy l (Mark i m) = 0
+neededBy l (Unmark i m) = 0
+neededBy l (Find a z f k) = 0
 
-abbrev pub wordOf : ℕ → State → ℕ → ℕ
-wordOf n s w = wordAt (s .list) (s .places) n w
-
-abbrev pub allWords : ℕ → State → List ℕ
-allWords n s = render (s .list) (s .places) n
-
-module _ (n : ℕ) (s t : State) (c : Command) where
+-- the last reply, and the words; lists are those that words decode to
+module _ (n : ℕ) (before : List Command) (c : Command) (words reply : List ℕ) where
   abbrev pub holds : Fact → Bool
-  holds (replies r) = equal (encode (execute n (s .list) c .reply)) (encode r)
-  holds (needs k) = eqb (neededBy s c) k
-  holds (shifts ss) = equal (map shiftOf (nodes (t .list))) ss
-  holds (word p x) = eqb (wordOf n t p) x
-  holds (asAfter cs) = equal (allWords n t) (allWords n (stateAfter n cs))
+  holds (replies r) = equal (drop (replyBytes * length before) reply) (encode r)
+  holds (needs k) = eqb (neededBy (listOf (ran n before .words)) c) k
+  holds (shifts ss) = equal (map shiftOf (nodes (listOf words))) ss
+  holds (word p x) = eqb (getD words p 0) x
+  holds (asAfter cs) = equal words (ran n cs .words)
 
   abbrev pub allHold : List Fact → Bool
   allHold [] = true
   allHold (f ∷ fs) = both (holds f) (allHold fs)
 
+abbrev pub endsWell : Case → Called → Bool
+endsWell k r =
+    both (eqb (r .result .answer) done)
+    (both (eqb (r .result .number) (length (k .before) + 1))
+    (allHold (k .n) (k .before) (k .last) (r .words) (r .reply) (k .facts)))
+
 abbrev pub caseHolds : Case → Bool
-caseHolds k =
-    let s = stateAfter (k .n) (k .before) in
-    allHold (k .n) s (stateAfter (k .n) (k .before ++ (k .last ∷ []))) (k .last) (k .facts)
+caseHolds k = endsWell k (ran (k .n) (k .before ++ (k .last ∷ [])))
 
 abbrev pub casesHold : List Case → Bool
 casesHold [] = true

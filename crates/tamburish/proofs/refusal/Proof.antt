@@ -1,11 +1,10 @@
+use mathlib.Core.Path.{refl}
 use native.Mathlib.Omega.{arith}
 use lib.ListN.{length-set}
 use borrow.Author.Needs.{needs}
+use Rattle.tamburish.proofs.ProgramLaws.{refusal-is}
 use Rattle.tamburish.proofs.refusal.Statement.{statement}
 use Rattle.tamburish.proofs.refusal.Tie as tie
-
-returns : tie.Need-returns
-returns c = search needs
 
 slice-write-reply : tie.Need-slice-write-reply
 slice-write-reply c = search needs
@@ -32,19 +31,18 @@ cast-reply-3 : tie.Need-cast-reply-3
 cast-reply-3 c = search needs
 
 slice-write-reply-6 : tie.Need-slice-write-reply-6
-slice-write-reply-6 c = search needs
+slice-write-reply-6 c = simp length-set (omega arith)
 
 same-length : tie.Need-same-length
 same-length c = search needs
 
-returns-2 : tie.Need-returns-2
-returns-2 c = search needs
+returns : tie.Need-returns
+returns c = (refl, refusal-is _ _ _ (c .pre))
 
 pub refusal-spec : {M : Type 1} → statement M
 refusal-spec =
     tie.close
     (tie.spec
-    returns
     slice-write-reply
     slice-write-reply-2
     slice-write-reply-3
@@ -55,4 +53,4 @@ refusal-spec =
     cast-reply-3
     slice-write-reply-6
     same-length
-    returns-2)
+    returns)

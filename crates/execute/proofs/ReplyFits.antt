@@ -1,0 +1,138 @@
+-- Every reply's fields fit their widths, so that `encode` cuts nothing (R49).
+use Prim.Native.Nat.{ℕ, zero, suc, _+_, _^_, _≤_, _<_}
+use mathlib.Core.Path.{_≡_, refl}
+use mathlib.Core.Bool.{not}
+use mathlib.Core.List.{List}
+use mathlib.Core.Option.{Option, none, some}
+use native.Mathlib.Omega.{arith}
+use lib.Dec.{leb, ltb, eqb}
+use borrow.Author.Tests.{ltb-false}
+use Rattle.blocks.specs.Lists.{In}
+use Rattle.blocks.specs.Blocks.{block}
+use Rattle.blocks.proofs.BoolLaws.{byT}
+use Rattle.blocks.proofs.ListLaws.{All-map, first-yes, each, look}
+use Rattle.model.specs.declared.Entry.{Entry}
+use Rattle.model.specs.Model.{EntryOk, Valid, storable, maxOrder, markCount, covers, covering, store}
+use Rattle.model.proofs.ValidLaws.{sorted-ok}
+use Rattle.tree.specs.Tree.{has, height, tierOrder, topTier}
+use Rattle.lookup.specs.Load.{depth, depthTo}
+use Rattle.lookup.specs.declared.Outcome.{Outcome}
+use Rattle.lookup.specs.Find.{anyMark, find, meets}
+use Rattle.lookup.proofs.FindLaws.{Right, right-found, right-ended, right-paused, find-right}
+use Rattle.lookup.proofs.HeadLaws.{height-most}
+use Rattle.batch.specs.declared.Command.{Command}
+use Rattle.batch.specs.declared.Command.the-variants.{Store, Load, Erase, Mark, Unmark, Find}
+use Rattle.batch.specs.Reply.{answered, answeredBy}
+use Rattle.batch.specs.Fits.{Fits}
+use Rattle.execute.specs.Execute.{execute, replyOf, finding, short}
+use Rattle.execute.specs.Widths.{FitsReply}
+use Rattle.execute.proofs.ExecuteLaws.{execute-keeps}
+
+plain : (t a i n : ℕ) → t < 256 → a < 256 → i < 256 ^ 8 → n < 256 ^ 2 → FitsReply (answered t a i n)
+plain t a i n t< a< i< n< = record {
+  tag-fits = t<;
+  answer-fits = a<;
+  index-fits = i<;
+  order-fits = omega arith;
+  word-fits = omega arith;
+  marks-fit = omega arith;
+  count-fits = n<;
+}
+
+-- no field but the answer
+bare : (t a : ℕ) → t < 256 → a < 256 → FitsReply (answered t a 0 0)
+bare t a t< a< = plain t a 0 0 t< a< (omega arith) (omega arith)
+
+depth-le : (l : List Entry) (i u : ℕ) → depthTo l i u ≤ u
+unfolding depthTo
+depth-le l i zero = omega arith
+depth-le l i (suc u) =
+    byT (has l (suc u) (block (tierOrder (suc u)) i)) (λ t. rw t (omega (arith, depth-le l i u)))
+    (λ t. rw t (omega (arith, depth-le l i u)))
+
+module _ {l : List Entry} (v : Valid l) (t : ℕ) (t< : t < 256) where
+  entry-fits : (e : Entry) (n : ℕ) → In e l → n < 256 ^ 2 → FitsReply (answeredBy t e n)
+  entry-fits e n m n< =
+      let ok : EntryOk e = look (sorted-ok v) m in
+      record {
+        tag-fits = t<;
+        answer-fits = omega arith;
+        index-fits = ok .in-range;
+        order-fits = omega (arith, ok .order-le);
+        word-fits = ok .word-fits;
+        marks-fit = omega (arith, ok .marks-fit);
+        count-fits = n<;
+      }
+
+  covered-fits : (i n : ℕ) → n < 256 ^ 2 → FitsReply (replyOf t n (covering l i))
+  covered-fits i n n< = go (covering l i) refl
+    where
+      go : (o : Option Entry) → covering l i ≡ o → FitsReply (replyOf t n o)
+      go none q = plain t 10 0 n t< (omega arith) (omega arith) n<
+      go (some e) q = entry-fits e n (first-yes (covers i) (each l (λ x m. m)) q .1) n<
+
+  found-fits : (a z f k : ℕ) → z < 256 ^ 8 → k < 256 ^ 2 → {o : Outcome} → Right l a z f k o → FitsReply (finding t o)
+  found-fits a z f k z< k< (right-found e n q le _) =
+      entry-fits e n (first-yes (meets f a z) (each l (λ x m. m)) q .1) (omega arith)
+  found-fits a z f k z< k< (right-ended n q le _) = plain t 12 0 n t< (omega arith) (omega arith) (omega arith)
+  found-fits a z f k z< k< (right-paused p n lo hi s e _) =
+      plain t 13 p n t< (omega arith) (omega arith) (omega arith)
+
+module _ (n : ℕ) (l : List Entry) (v : Valid l) where
+  load-fits : (i : ℕ) → FitsReply (execute n l (Load i) .reply)
+  unfolding execute
+  load-fits i =
+      let h : height l ≤ topTier = height-most (All-map (λ x ok. (ok .order-le, ok .in-range)) (sorted-ok v)) in
+      let d : depthTo l i (height l) ≤ height l = depth-le l i (height l) in
+      covered-fits v 130 (omega arith) i (depth l i) (omega arith)
+
+  erase-fits : (i : ℕ) → FitsReply (execute n l (Erase i) .reply)
+  unfolding execute
+  erase-fits i = covered-fits v 131 (omega arith) i 0 (omega arith)
+
+  store-fits : (i k w : ℕ) → Fits (Store i k w) → FitsReply (execute n l (Store i k w) .reply)
+  unfolding execute
+  store-fits i k w f = go (execute-keeps n l v (Store i k w) f .valid)
+    where
+      go : Valid (execute n l (Store i k w) .list) → FitsReply (execute n l (Store i k w) .reply)
+      go u =
+          byT (ltb maxOrder k) (λ t. rw t (bare 129 5 (omega arith) (omega arith)))
+          (λ t. byT (not (storable w)) (λ s. rw (t, s) (bare 129 6 (omega arith) (omega arith)))
+          (λ s. byT (short n l (store l i k w)) (λ d. rw (t, s, d) (bare 129 11 (omega arith) (omega arith)))
+          (λ d. rw (t, s, d) (covered-fits (rw (t, s, d) at u) 129 (omega arith) i 0 (omega arith)))))
+
+  mark-fits : (i m : ℕ) → FitsReply (execute n l (Mark i m) .reply)
+  unfolding execute
+  mark-fits i m = go (execute-keeps n l v (Mark i m) tt .valid)
+    where
+      go : Valid (execute n l (Mark i m) .list) → FitsReply (execute n l (Mark i m) .reply)
+      go u =
+          byT (leb markCount m) (λ t. rw t (bare 132 7 (omega arith) (omega arith)))
+          (λ t. rw t (covered-fits (rw t at u) 132 (omega arith) i 0 (omega arith)))
+
+  unmark-fits : (i m : ℕ) → FitsReply (execute n l (Unmark i m) .reply)
+  unfolding execute
+  unmark-fits i m = go (execute-keeps n l v (Unmark i m) tt .valid)
+    where
+      go : Valid (execute n l (Unmark i m) .list) → FitsReply (execute n l (Unmark i m) .reply)
+      go u =
+          byT (leb markCount m) (λ t. rw t (bare 133 7 (omega arith) (omega arith)))
+          (λ t. rw t (covered-fits (rw t at u) 133 (omega arith) i 0 (omega arith)))
+
+  find-fits : (a z f k : ℕ) → z < 256 ^ 8 → k < 256 ^ 2 → FitsReply (execute n l (Find a z f k) .reply)
+  unfolding execute
+  find-fits a z f k z< k< =
+      byT (ltb anyMark f) (λ t. rw t (bare 134 7 (omega arith) (omega arith)))
+      (λ t. byT (ltb z a) (λ s. rw (t, s) (bare 134 8 (omega arith) (omega arith)))
+      (λ s. byT (eqb k 0) (λ d. rw (t, s, d) (bare 134 9 (omega arith) (omega arith)))
+      (λ d. rw (t, s, d)
+      (found-fits v 134 (omega arith) a z f k z< k< (find-right l v a z f k (ltb-false _ _ s))))))
+
+  -- R49
+  pub reply-fits : (c : Command) → Fits c → FitsReply (execute n l c .reply)
+  reply-fits (Store i k w) f = store-fits i k w f
+  reply-fits (Load i) f = load-fits i
+  reply-fits (Erase i) f = erase-fits i
+  reply-fits (Mark i m) f = mark-fits i m
+  reply-fits (Unmark i m) f = unmark-fits i m
+  reply-fits (Find a z f k) b = find-fits a z f k (b .0) (b .1)

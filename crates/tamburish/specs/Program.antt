@@ -1,0 +1,36 @@
+-- What the program writes: the replies of a run on a pool just initialised, or the record of its refusal (R56).
+use Prim.Native.Nat.{ℕ, zero, suc, _*_, _/_, _%_}
+use mathlib.Core.List.{List, [], _∷_, _++_}
+use lib.ListN.{drop}
+use Rattle.xapool.specs.Calls.{Called, run}
+use Rattle.xapool.specs.Demand.{Call.init, wordsAfter}
+
+-- the call: the pool is initialised, then the batch runs
+unfoldable pub ran : (pool batch reply : List ℕ) → Called
+ran ws bs rs = run (wordsAfter ws init) bs rs
+
+abbrev pub refusalSize : ℕ
+refusalSize = 6
+
+-- R56: tag 255, length 3, the answer, and the place in two bytes
+abbrev pub refusalBytes : (answer place : ℕ) → List ℕ
+refusalBytes a p = 255 ∷ 0 ∷ 3 ∷ a % 256 ∷ p / 256 % 256 ∷ p % 256 ∷ []
+
+-- it stands over the first bytes of the reply space
+unfoldable pub refusalOver : (answer place : ℕ) → List ℕ → List ℕ
+refusalOver a p rs = refusalBytes a p ++ drop refusalSize rs
+
+-- by the answer and the number of the call: how many bytes are written, and the reply space of which they are the first
+abbrev pub sizeFor : (answer number : ℕ) → ℕ
+sizeFor zero k = 24 * k
+sizeFor (suc a) p = refusalSize
+
+abbrev pub spaceFor : (answer number : ℕ) → List ℕ → List ℕ
+spaceFor zero k rs = rs
+spaceFor (suc a) p rs = refusalOver (suc a) p rs
+
+abbrev pub size : Called → ℕ
+size c = sizeFor (c .result .answer) (c .result .number)
+
+abbrev pub space : Called → List ℕ
+space c = spaceFor (c .result .answer) (c .result .number) (c .reply)
