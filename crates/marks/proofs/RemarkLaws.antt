@@ -36,10 +36,11 @@ use Rattle.layout.specs.Places.{Places, Placed, render, prune, newPlaces, alloc
 use Rattle.layout.specs.WellFormed.{WellFormed}
 use Rattle.layout.proofs.NumberLaws.{prune-same, allocate-none}
 use Rattle.lookup.specs.Views.{Holds}
-use Rattle.marks.proofs.BitSetLaws.{set-bits, marks-bits}
+use Rattle.marks.proofs.BitSetLaws.{set-bits}
 use Rattle.marks.proofs.HybridLaws.{hybrid-start, hybrid-end}
 use Rattle.marks.proofs.MarkLaws.{mark-entry}
 use Rattle.layout.specs.Words.{marksWord}
+use Rattle.model.proofs.MarkLaws.{marks-bits}
 
 -- A MARK CHANGED: still a list, at the same places
 set-small : (w m : ℕ) (b : Bool) → w < 8 → m < markCount → setBit m b w < 8

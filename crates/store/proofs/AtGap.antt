@@ -32,11 +32,11 @@ use Rattle.layout.specs.Places.{Places, numberIn, freeCount, newPlaces, render}
 use Rattle.layout.specs.WellFormed.{WellFormed, InUse, num}
 use Rattle.layout.proofs.OwnerLaws.{parent, owner-same}
 use Rattle.layout.proofs.NewNumberLaws.{kept, was}
-use Rattle.layout.proofs.RenderWordLaws.{field-slot, slot-node}
+use Rattle.layout.proofs.RenderWordLaws.{field-slot, slot-node, pool-length, pool-anchor, pool-node}
 use Rattle.lookup.specs.Views.{AtNode}
-use Rattle.lookup.proofs.WordLaws.{pool-length, pool-anchor, pool-node, slot-at}
+use Rattle.lookup.proofs.WordLaws.{slot-at}
 use Rattle.plan.specs.Plan.{Plan, Found, Walked, before, freeAt}
-use Rattle.plan.proofs.AfterStore.{has-le, has-within, has-in, lows, tops, has-path}
+use Rattle.plan.proofs.AfterStore.{lows, tops, has-path}
 use Rattle.plan.proofs.FreeNumbers.{none-before, size-is}
 use Rattle.plan.proofs.FreshNumbers.{Tiers, tiers-same, needed-is, path-number}
 use Rattle.store.specs.Writes.{span, offset, joins, headAt, linked, entered, Laid, built}
@@ -47,6 +47,7 @@ use Rattle.store.proofs.Final.{shift-ok, owner-ok, head-ok}
 use Rattle.store.proofs.RunLaws.{run-fits, run-slot}
 use Rattle.store.proofs.EmptyRange.{has-keeps, in-use-after, stores-unmarked, path-chain-entry}
 use Rattle.store.proofs.Results.{low-le, low-used}
+use Rattle.tree.proofs.NodeListLaws.{has-le, has-within, has-in}
 
 -- how many of the e widest tiers have a new node, where those from v + 1 to u do
 before-is : (h v u top : ℕ) → u ≤ top → (e : ℕ) → e ≤ top → before false h v (suc u) top e ≡ u - max (top - e) v

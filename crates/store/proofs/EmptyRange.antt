@@ -1,6 +1,6 @@
 -- A store where nothing starts in the target range: no node goes, no mark changes, and the path, the chain and the entry
 -- are all that is written.
-use Prim.Native.Nat.{ℕ, suc, _+_, _*_, _-_, _/_, _^_, _≤_, _<_}
+use Prim.Native.Nat.{ℕ, _+_, _*_, _-_, _/_, _^_, _≤_, _<_}
 use mathlib.Core.Path.{_≡_, refl, sym, ap, subst, _∙_}
 use mathlib.Core.Bool.{true, false, not}
 use mathlib.Core.List.{List}
@@ -31,7 +31,7 @@ use Rattle.layout.proofs.PlacesLaws.{placed-new}
 use Rattle.layout.proofs.RenderLaws.{render-is}
 use Rattle.layout.proofs.RenderWordLaws.{field-mark}
 use Rattle.plan.specs.Plan.{Plan, freeTo}
-use Rattle.plan.proofs.AfterStore.{Lies, lies, on-path, in-run, off, has-le, has-within, rooms, tops, has-path, stays}
+use Rattle.plan.proofs.AfterStore.{Lies, lies, on-path, in-run, off, rooms, tops, has-path, stays}
 use Rattle.plan.proofs.FreeNumbers.{below-taken}
 use Rattle.store.specs.Writes.{span, offset, linked, grownWords, entered}
 use Rattle.store.specs.Stored.{Stores, Done, entryOf}
@@ -39,6 +39,7 @@ use Rattle.store.proofs.Freeing.{Freed, freed-none}
 use Rattle.store.proofs.Target.{field₁, fieldAt₁, X-anchor, X-at}
 use Rattle.store.proofs.Final.{enter-long, grow-long, link-long, lg₁, anchor-right, node-right}
 use Rattle.store.proofs.Results.{in-use}
+use Rattle.tree.proofs.NodeListLaws.{has-le, has-within}
 
 -- THE TREE
 module _ (l : List Entry) (valid : Valid l) (i k w : ℕ) (i< : i < 2 ^ 64) (k≤ : k ≤ 63)
