@@ -13,7 +13,7 @@ use Rattle.blocks.specs.Blocks.{bit}
 use Rattle.model.specs.declared.Entry.{Entry}
 use Rattle.tree.specs.Tree.{tierOrder, slots}
 use Rattle.layout.specs.declared.Slot.the-variants.{Held}
-use Rattle.layout.specs.Pool.{slotOf}
+use Rattle.layout.specs.Pool.{slotOf, maxRun}
 use Rattle.layout.specs.Decode.{wide}
 use Rattle.decode.proofs.Restrict.{Chain}
 use Rattle.decode.proofs.SaysLaws.{word-of}
@@ -26,7 +26,7 @@ pub order-pow : (v r : ℕ) → 2 ^ (tierOrder v + r) ≡ wide v * 2 ^ r
 order-pow v r = pow-add 2 (tierOrder v) r ∙ ap (λ (x : ℕ). x * 2 ^ r) (wide-pow v)
 
 -- a slot that is a multiple of 2^r, of whichever node
-pub slot-aligned : (v b j r : ℕ) → r ≤ 5 → j % 2 ^ r ≡ 0 → (slots * b + j) * wide v % 2 ^ (tierOrder v + r) ≡ 0
+pub slot-aligned : (v b j r : ℕ) → r ≤ maxRun → j % 2 ^ r ≡ 0 → (slots * b + j) * wide v % 2 ^ (tierOrder v + r) ≡ 0
 slot-aligned v b j r h e =
     let sixtyfour : 2 ^ (6 - r) * 2 ^ r ≡ slots = let x : 6 - r + r ≡ 6 = omega arith in
     sym (pow-add 2 (6 - r) r) ∙ ap (λ (x : ℕ). 2 ^ x) x in

@@ -87,8 +87,8 @@ is-sorted n (e ∷ l) t =
     (is-sorted _ l (both-r (isEntry e) _ u))
 
 -- THE PLACES
-pub placed-is : {n : ℕ} {l : List Entry} {os : Places} → Placed n l os → isPlaced n l os ≡ true
-placed-is {l} pl = N.placed-is same same-is same-refl (hasNode l) (nodes l)
+pub placed-is : {n : ℕ} (l : List Entry) {os : Places} → Placed n l os → isPlaced n l os ≡ true
+placed-is l pl = N.placed-is same same-is same-refl (hasNode l) (nodes l)
     (λ p t. in-nodes l (p .tier) (p .number) t) (λ p m. nodes-in l m) (distinct-to l (height l)) pl
 
 pub is-placed : (n : ℕ) (l : List Entry) (os : Places) → isPlaced n l os ≡ true → Placed n l os
@@ -117,7 +117,7 @@ pub well-formed-is : {n : ℕ} {l : List Entry} {os : Places} {ws : List ℕ} �
 unfolding isWellFormed
 well-formed-is {n} {l} {os} {ws} S =
     rw (decode-list S, decode-places S)
-    (both-i (sorted-is (S .valid)) (both-i (placed-is (S .placed)) (equal-is (S .words-are))))
+    (both-i (sorted-is (S .valid)) (both-i (placed-is l (S .placed)) (equal-is (S .words-are))))
 
 pub is-well-formed : (n : ℕ) (ws : List ℕ) → isWellFormed n ws ≡ true → Prescribed n (listOf ws) (placesOf ws) ws
 unfolding isWellFormed

@@ -204,7 +204,7 @@ module _ (ws : List ℕ) (l : List Entry) (ν : Numbering) (R : Prescribes (pool
     where
       go : (u : ℕ) → has l u (p .number) ≡ true → raise ν u (p .number) ≡ m →
           getD ws (place m f) 0 ≡ field l (raise ν) u (p .number) f
-      go zero t e = absurd (omega (arith, has-some l 0 (p .number)) t)
+      go zero t e = absurd (omega (arith, has-some l 0 (p .number) t))
       go (suc v) t e = subst (λ (m : ℕ). getD ws (place m f) 0 ≡ field l (raise ν) (suc v) (p .number) f) e
           (field-is v (p .number) t f h)
 

@@ -19,7 +19,7 @@ use Rattle.model.specs.declared.Entry.{Entry}
 use Rattle.model.specs.Model.{Valid, storable, over, starts, within, hasMark, marksOf, inside, newEntry, storeNew}
 use Rattle.model.proofs.RangeLaws.{Inside}
 use Rattle.model.proofs.ValidLaws.{room, store-at-valid}
-use Rattle.tree.specs.Tree.{slots, tierOrder, height, has, Node, newNodes, needed, slotMark}
+use Rattle.tree.specs.Tree.{slots, tierOrder, height, has, Node, newNodes, needed, slotMark, slotBits}
 use Rattle.tree.specs.Slots.{Numbering, slot}
 use Rattle.tree.proofs.StoreLaws.{within-only, store-covering, mark-apart, mark-path, mark-inside}
 use Rattle.layout.specs.Words.{field, fieldAt}
@@ -163,9 +163,9 @@ module _ {ws : List ℕ} (s : WellFormed ws) (i k w : ℕ) (i< : i < 2 ^ 64) (k�
         (sym (field-mark l₁ ν₁ t b (f - 2) (omega arith)) ∙ ap (field l₁ ν₁ t b) e)))
         (λ c. rw c)
 
-    pub path-chain-entry : entered (grownWords (linked ws ps i (k / 6) (height l₁)) ps cs (marksOf l) (height l)
+    pub path-chain-entry : entered (grownWords (linked ws ps i (k / slotBits) (height l₁)) ps cs (marksOf l) (height l)
         (height l₁) (slot l (numberIn os) (height l) 0) (both (nonempty l) (not (eqb (block k i) 0))))
-        (getD ps (k / 6 + 1) 0) (offset i k) (span k) w ≡ render l₁ os₁ (s .n)
+        (getD ps (k / slotBits + 1) 0) (offset i k) (span k) w ≡ render l₁ os₁ (s .n)
     unfolding fieldAt₁
     path-chain-entry = render-is l₁ os₁ (s .n) _
         (enter-long (s .n) l os (s .placed) (s .valid) i k w i< k≤ new enough some-node ps cs plan
