@@ -17,7 +17,7 @@ use native.Mathlib.Nat.{
   le-of-eq,
 }
 use lib.Dec.{eqb, ltb, T, lit<}
-use lib.Pow.{pow-add, pow-pos, pow-mono, pow-lt}
+use lib.Pow.{pow-pos, pow-mono, pow-lt}
 use borrow.Author.Tests.{eqb-true, eqb-false, eq-eqb, ne-eqb, ltb-true, ltb-false, lt-ltb, le-leb, lt-leb}
 use Rattle.blocks.proofs.BoolLaws.{byT}
 use Rattle.blocks.specs.Choice.{pick, both}
@@ -45,7 +45,7 @@ use Rattle.decode.proofs.Restrict.{
 use Rattle.decode.proofs.KeepLaws.{Every, Some, no-both, keep-none, some-with, some-no, any-some, some-any}
 use Rattle.decode.proofs.BelowLaws.{wide-pos, nest, up}
 use Rattle.decode.proofs.SaysLaws.{said}
-use Rattle.decode.proofs.ChainLaws.{order-pow, bit-lt}
+use Rattle.decode.proofs.ChainLaws.{order-pow, bit-lt, in-parts}
 use Rattle.decode.proofs.FitLaws.{chain-oks}
 use Rattle.decode.proofs.CoverLaws.{covers-in, in-covers, bit-suc, unscale, unscale≤}
 use Rattle.decode.proofs.BlockShape.{
@@ -85,15 +85,12 @@ bit-of-bits t (suc i) j (suc k) h =
     (λ e. rw e (omega arith)) in
     rw (bit-suc, q, z) (bit-of-bits t i (suc j) k (omega arith))
 
-pub sixty-four : (r : ℕ) → r ≤ maxRun → 2 ^ (slotBits - r) * 2 ^ r ≡ slots
-sixty-four r h = let x : 6 - r + r ≡ 6 = omega arith in sym (pow-add 2 (6 - r) r) ∙ ap (λ (x : ℕ). 2 ^ x) x
-
 pub slot-mod : (v b j r base K : ℕ) → r ≤ maxRun → base ≡ (slots * b + j) * wide v → base ≡ K * (wide v * 2 ^ r) →
     j % 2 ^ r ≡ 0
 slot-mod v b j r base K small e f =
     let R : ℕ = 2 ^ r in
     let A : ℕ = 2 ^ (slotBits - r) in
-    let s : A * R ≡ slots = sixty-four r small in
+    let s : A * R ≡ slots = in-parts r small in
     let g : (slots * b + j) * wide v ≡ K * R * wide v = sym e ∙ f ∙ (omega arith) in
     let h : slots * b + j ≡ K * R = le-antisymm (unscale≤ v (slots * b + j) (K * R) (le-of-eq g))
     (unscale≤ v (K * R) (slots * b + j) (le-of-eq (sym g))) in
@@ -104,7 +101,7 @@ pub slot-end : (j r : ℕ) → r ≤ maxRun → j < slots → j % 2 ^ r ≡ 0 �
 slot-end j r small lt e =
     let R : ℕ = 2 ^ r in
     let A : ℕ = 2 ^ (slotBits - r) in
-    let s : A * R ≡ slots = sixty-four r small in
+    let s : A * R ≡ slots = in-parts r small in
     let d : j / R * R + j % R ≡ j = div-add-mod' j R in
     byT (ltb (j / R) A)
     (λ t. let q : (j / R + 1) * R ≤ A * R = mul-le-mul-right R (omega (arith, ltb-true (j / R) A t)) in omega arith)

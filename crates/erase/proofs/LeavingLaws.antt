@@ -45,7 +45,7 @@ use Rattle.model.proofs.ValidLaws.{
 use Rattle.tree.specs.Slots.{slot, Numbering}
 use Rattle.tree.specs.Tree.{slotMark, has, height, fits, Node, tierOrder, slots, topTier}
 use Rattle.tree.proofs.StoreLaws.{within-only}
-use Rattle.tree.proofs.HeightLaws.{height-fits, fits-base, fits-order}
+use Rattle.tree.proofs.HeightLaws.{height-fits, fits-base, fits-order, height-most}
 use Rattle.tree.proofs.SlotLaws.{tier-up, node-empty, empty-node, within-up}
 use Rattle.tree.proofs.EraseLaws.{clear-slot-apart, clear-slot-inside, clear-slot-path, height-clear}
 use Rattle.layout.specs.Words.{
