@@ -1,21 +1,15 @@
 -- Words that are prescribed as a whole, word by word.
-use Prim.Native.Nat.{ℕ, zero, suc, _+_, _*_, _-_, _/_, _%_, _<_}
+use Prim.Native.Nat.{ℕ, zero, suc, _+_, _*_, _-_, _/_, _<_}
 use mathlib.Core.Path.{_≡_, refl, sym, ap, subst, _∙_}
 use mathlib.Core.Bool.{true}
-use mathlib.Core.List.{List, [], _∷_}
+use mathlib.Core.List.{List}
 use mathlib.Core.Option.{Option, none, some}
 use native.Mathlib.Omega.{arith}
-use native.Mathlib.Nat.{zero-add}
 use lib.ListN.{getD}
-use borrow.Author.Tests.{lt-ltb, le-ltb, eq-eqb, ne-eqb}
-use Rattle.blocks.specs.Lists.{any, In, here, there, Distinct, d-more}
-use Rattle.blocks.specs.Blocks.{bitsTo}
-use Rattle.blocks.proofs.BoolLaws.{is-false}
-use Rattle.blocks.proofs.UpToLaws.{getD-upTo}
+use Rattle.blocks.specs.Lists.{any}
 use Rattle.model.specs.declared.Entry.{Entry}
 use Rattle.model.specs.Model.{within}
-use Rattle.tree.specs.Tree.{Node, has, slotMark, nodes, tierOrder, slots}
-use Rattle.tree.specs.Slots.{Numbering, slot}
+use Rattle.tree.specs.Tree.{Node, has, nodes, tierOrder, slots}
 use Rattle.layout.specs.Words.{
   field,
   fieldAt,
@@ -27,90 +21,24 @@ use Rattle.layout.specs.Words.{
   shiftField,
   ownerField,
 }
-use Rattle.layout.specs.Places.{Places, same, numberOf, numberIn, standing, wordAt}
-use Rattle.layout.proofs.PlacesLaws.{same-is}
+use Rattle.layout.specs.Places.{Places, numberOf, numberIn, wordAt}
 use Rattle.layout.specs.Pool.{poolOf}
 use Rattle.layout.specs.WellFormed.{Prescribed}
 use Rattle.decode.proofs.FreeLaws.{words-free}
 use Rattle.decode.proofs.Restrict.{hasLevel, Prescribes, NodeIs}
-use Rattle.decode.proofs.SameTree.{
-  to-chain,
-  has-same,
-  none-at-0,
-  lower,
-  slot-same,
-  marks-same,
-  level-owner,
-  head-same,
-}
-use Rattle.tree.proofs.NodeListLaws.{has-within}
-use Rattle.layout.proofs.NumberLaws.{number-at}
+use Rattle.decode.proofs.SameTree.{to-chain, has-same, lower, slot-same, marks-same, level-owner, head-same}
+use Rattle.tree.proofs.NodeListLaws.{has-within, has-some}
+use Rattle.layout.proofs.RenderWordLaws as F
+use Rattle.layout.proofs.NumberLaws.{number-at, in-standing, number-of}
 
 -- PLACES
 abbrev pub node : ℕ → ℕ → Node
 node u b = record { tier = u; number = b }
 
-pub none-some : {p : Node} {C : Type 0} → _≡_ {A = Option Node} none (some p) → C
-none-some e = let z : _≡_ {A = ℕ} 0 1 = cc in absurd (omega arith)
-
-pub same-self : (p : Node) → same p p ≡ true
-same-self p = rw (eq-eqb (p .tier) _ refl, eq-eqb (p .number) _ refl)
-
-pub get-in : (os : Places) (m : ℕ) (p : Node) → getD os m none ≡ some p → In p (standing os)
-get-in [] m p e = none-some e
-get-in (none ∷ os) zero p e = none-some e
-get-in (some q ∷ os) zero p e = let d : p ≡ q = cc in subst (λ (r : Node). In r (q ∷ standing os)) (sym d) here
-get-in (none ∷ os) (suc m) p e = get-in os m p e
-get-in (some q ∷ os) (suc m) p e = there (get-in os m p e)
-
--- a node that stands is found at its number
--- and what is found at a number has it
-pub at-number-of : (os : Places) → Distinct (standing os) → (m : ℕ) (p : Node) → getD os m none ≡ some p →
-    numberOf p os ≡ m
-at-number-of [] d m p e = none-some e
-at-number-of (none ∷ os) d zero p e = none-some e
-at-number-of (none ∷ os) d (suc m) p e = ap suc (at-number-of os d m p e)
-at-number-of (some q ∷ os) d zero p e = let k : q ≡ p = cc in
-    rw (subst (λ (r : Node). same q r ≡ true) k (same-self q))
-at-number-of (some q ∷ os) (d-more n d) (suc m) p e =
-    rw (is-false {b = same q p} (λ t. n (subst (λ (r : Node). In r (standing os)) (sym (same-is q p t))
-    (get-in os m p e)))) (ap suc (at-number-of os d m p e))
-
--- FIELDS
-module _ (l : List Entry) (ν : Numbering) (v b : ℕ) where
-  pub field-shift : field l ν (suc v) b 0 ≡ tierOrder v + 1
-  field-shift = omega arith
-
-  pub field-mark : (μ : ℕ) → μ < 3 → field l ν (suc v) b (2 + μ) ≡ bitsTo (λ j. slotMark l μ v (slots * b + j)) slots
-  field-mark μ h =
-      let e : 2 + μ - 2 ≡ μ = omega arith in
-      let d : suc v - 1 ≡ v = omega arith in
-      rw (
-        ne-eqb (2 + μ) 0 (λ (z : 2 + μ ≡ 0). omega arith),
-        ne-eqb (2 + μ) 1 (λ (z : 2 + μ ≡ 1). omega arith),
-        lt-ltb (2 + μ) 5 (omega arith),
-        e,
-        d,
-      )
-
-  pub field-slot : (j : ℕ) → field l ν (suc v) b (5 + j) ≡ slot l ν v (slots * b + j)
-  field-slot j =
-      let e : 5 + j - 5 ≡ j = omega arith in
-      let d : suc v - 1 ≡ v = omega arith in
-      rw (
-        ne-eqb (5 + j) 0 (λ (z : 5 + j ≡ 0). omega arith),
-        ne-eqb (5 + j) 1 (λ (z : 5 + j ≡ 1). omega arith),
-        le-ltb (5 + j) 5 (omega arith),
-        e,
-        d,
-      )
-
--- a node's slots lie in its block
 -- FROM THE WHOLE TO THE WORDS
 module _ (n : ℕ) (l : List Entry) (os : Places) (ws : List ℕ) (S : Prescribed n l os ws) where
   word : (i : ℕ) → i < poolWords n → getD ws i 0 ≡ wordAt l os n i
-  word i h = ap (λ (x : List ℕ). getD x i 0) (S .words-are) ∙ getD-upTo (wordAt l os n) 0 (poolWords n) i h ∙ ap
-      (wordAt l os n) (zero-add i)
+  word i h = ap (λ (x : List ℕ). getD x i 0) (S .words-are) ∙ F.render-word l os n i h
 
   pub count-is : getD ws 0 0 ≡ n
   count-is = word 0 (omega arith)
@@ -120,10 +48,7 @@ module _ (n : ℕ) (l : List Entry) (os : Places) (ws : List ℕ) (S : Prescribe
 
   pub node-word : (m f : ℕ) → m < n → f < nodeWords → getD ws (place m f) 0 ≡ fieldAt l (numberIn os) (getD os m none)
       f
-  node-word m f lt h =
-      let d : (place m f - 4) / nodeWords ≡ m = omega arith in
-      let r : (place m f - 4) % nodeWords ≡ f = omega arith in
-      word (place m f) (omega arith) ∙ (rw (le-ltb (place m f) 4 (omega arith), d, r))
+  node-word m f lt h = ap (λ (x : List ℕ). getD x (place m f) 0) (S .words-are) ∙ F.render-node l os n m f lt h
 
   found : (v b : ℕ) → hasLevel l v b ≡ true → (numberIn os (suc v) b < n) ×
       (getD os (numberIn os (suc v) b) none ≡ some (node (suc v) b))
@@ -135,7 +60,7 @@ module _ (n : ℕ) (l : List Entry) (os : Places) (ws : List ℕ) (S : Prescribe
   -- what stands at a place is a node of the tree
   pub there-is : (m : ℕ) (p : Node) → getD os m none ≡ some p →
       (v : ℕ) × (p .tier ≡ suc v) × (hasLevel l v (p .number) ≡ true) × (numberIn os (suc v) (p .number) ≡ m)
-  there-is m p e = go p (S .placed .sound p (get-in os m p e)) (at-number-of os (S .placed .once) m p e)
+  there-is m p e = go p (S .placed .sound p (in-standing p os m e)) (number-of p os m (S .placed .once) e)
     where
       go : (p : Node) → has l (p .tier) (p .number) ≡ true → numberOf p os ≡ m →
           (v : ℕ) × (p .tier ≡ suc v) × (hasLevel l v (p .number) ≡ true) × (numberIn os (suc v) (p .number) ≡ m)
@@ -143,7 +68,7 @@ module _ (n : ℕ) (l : List Entry) (os : Places) (ws : List ℕ) (S : Prescribe
         where
           tier : (u : ℕ) → p .tier ≡ u → has l u (p .number) ≡ true →
               (v : ℕ) × (p .tier ≡ suc v) × (hasLevel l v (p .number) ≡ true) × (numberIn os (suc v) (p .number) ≡ m)
-          tier zero e t = absurd (none-at-0 l (p .number) t)
+          tier zero e t = absurd (omega (arith, has-some l 0 (p .number) t))
           tier (suc v) e t = (
             v,
             e,
@@ -160,12 +85,12 @@ module _ (n : ℕ) (l : List Entry) (os : Places) (ws : List ℕ) (S : Prescribe
       let w : (f : ℕ) → f < nodeWords → getD ws (place m f) 0 ≡ field l (numberIn os) (suc v) b f = λ f h. node-word m
       f lt h ∙ ap (λ (o : Option Node). fieldAt l (numberIn os) o f) k in
       record {
-        shift-is = w shiftField (omega arith) ∙ field-shift l (numberIn os) v b;
+        shift-is = w shiftField (omega arith) ∙ F.node-shift l (numberIn os) v b;
         owner-is = w ownerField (omega arith) ∙ sym (level-owner (S .valid) (numberIn os) v b);
-        marks-are = λ μ h. w (markField + μ) (omega arith) ∙ field-mark l (numberIn os) v b μ h
+        marks-are = λ μ h. w (markField + μ) (omega arith) ∙ F.node-mark l (numberIn os) v b μ h
             ∙ sym (marks-same l (lower (numberIn os)) μ v b);
         slots-are = λ j h. let q : (slots * b + j) / slots ≡ b = omega arith in
-            w (slotField + j) (omega arith) ∙ field-slot l (numberIn os) v b j
+            w (slotField + j) (omega arith) ∙ F.node-slot l (numberIn os) v b j
             ∙ sym (slot-same (S .valid) (numberIn os) v (slots * b + j) (rw q inside));
       }
 

@@ -22,13 +22,14 @@ use Rattle.layout.specs.Words.{fieldAt, place, shiftField, marksWord, headWord}
 use Rattle.layout.specs.Places.{render, prune}
 use Rattle.layout.specs.WellFormed.{WellFormed, num, InUse}
 use Rattle.layout.proofs.NumberLaws.{prune-same}
-use Rattle.lookup.proofs.WordLaws.{pool-length, pool-anchor, pool-node, place-of, has-tier}
 use Rattle.lookup.proofs.HeadLaws.{flat-entry}
 use Rattle.marks.proofs.RemarkLaws.{erase-remark}
 use Rattle.erase.specs.Tall.{tallAt, Tall}
 use Rattle.erase.specs.Leaving.{Unmarked}
 use Rattle.erase.proofs.LowerLaws.{tall-none, slot-nil}
-use Rattle.erase.proofs.FreedLaws.{in-use-spares}
+use Rattle.tree.proofs.NodeListLaws.{has-tier}
+use Rattle.layout.proofs.SparesLaws.{in-use-spares}
+use Rattle.layout.proofs.RenderWordLaws.{pool-length, pool-anchor, pool-node, place-of}
 
 -- all three marks off
 zero3 : (w : ℕ) → w < 8 → setBit 2 false (setBit 1 false (setBit 0 false w)) ≡ 0

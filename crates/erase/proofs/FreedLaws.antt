@@ -28,9 +28,10 @@ use Rattle.layout.specs.Places.{render}
 use Rattle.layout.specs.WellFormed.{WellFormed, InUse, num}
 use Rattle.layout.specs.Fill.{filled}
 use Rattle.layout.proofs.FillLaws.{length-filled, filled-before, filled-after, filled-in}
-use Rattle.lookup.proofs.WordLaws.{pool-anchor, pool-node}
 use Rattle.marks.proofs.RemarkLaws.{formed-remark}
-use Rattle.erase.specs.Freed.{Gone, Outside, Freed, Raised, Unlinked, Spares}
+use Rattle.erase.specs.Freed.{Gone, Outside, Freed, Raised, Unlinked}
+use Rattle.layout.specs.Spares.{Spares}
+use Rattle.layout.proofs.RenderWordLaws.{pool-anchor, pool-node}
 
 -- THE WORDS OF ONE NODE
 module _ (ws : List ℕ) (n : ℕ) where
@@ -78,18 +79,6 @@ unlinked {ws} n m o lt lt′ o< e₁ e₂ = rw (e₂, e₁) (record {
 })
 
 -- NODES IN USE
-pub spares-same : (low : ℕ) (ws : List ℕ) → Spares low ws ws
-spares-same low ws = record { count-is = refl; shifts-are = λ m lt. refl }
-
-pub spares-then : {low low′ : ℕ} {ws ws₁ ws₂ : List ℕ} → low′ ≤ low → Spares low ws ws₁ → Spares low′ ws₁ ws₂ →
-    Spares low′ ws ws₂
-spares-then le a b =
-    record {
-      count-is = b .count-is ∙ a .count-is;
-      shifts-are = λ m lt. b .shifts-are m lt ∙ a .shifts-are m
-          (omega arith);
-    }
-
 module _ {ws ws′ : List ℕ} {n : ℕ} where
   pub freed-spares : {x : ℕ} → Freed ws ws′ n x → (low : ℕ) → low ≤ n → Spares low ws ws′
   freed-spares f low le = record {
@@ -108,22 +97,6 @@ module _ {ws ws′ : List ℕ} {n : ℕ} where
     count-is = f .rest countWord (λ p q. omega arith) (omega arith);
     shifts-are = λ m lt. f .rest (place m shiftField) (λ p q. omega arith) (omega arith);
   }
-
--- a run of slots holds no first word
-pub run-spares : {ws ws′ : List ℕ} (n o c : ℕ) → o + c ≤ slots →
-    ws′ ≡ filled ws (place n (slotField + o)) 0 c → (low : ℕ) → Spares low ws ws′
-run-spares {ws} n o c le e low = rw e (record {
-  count-is = filled-before ws (place n (slotField + o)) 0 c countWord (omega arith);
-  shifts-are = λ m lt. byT (ltb (place m shiftField) (place n (slotField + o)))
-      (λ t. filled-before ws (place n (slotField + o)) 0 c (place m shiftField) (ltb-true _ _ t))
-      (λ t. filled-after ws (place n (slotField + o)) 0 c (place m shiftField) (omega (arith, ltb-false, t)));
-})
-
-pub in-use-spares : {low r : ℕ} {ws ws′ : List ℕ} → InUse low ws → r ≤ low → Spares r ws ws′ → InUse r ws′
-in-use-spares u le s = record {
-  at-most = omega (arith, u .at-most, s .count-is);
-  used = λ m lt z. u .used m (omega arith) (sym (s .shifts-are m lt) ∙ z);
-}
 
 pub in-use-remark : {ws ws′ : List ℕ} (s : WellFormed ws) (i m : ℕ) (b : Bool) → m < markCount →
     ws′ ≡ render (remark (s .list) i m b) (s .places) (s .n) → {low : ℕ} → InUse low ws → InUse low ws′

@@ -45,8 +45,8 @@ use Rattle.model.proofs.ValidLaws.{
 use Rattle.tree.specs.Slots.{slot, Numbering}
 use Rattle.tree.specs.Tree.{slotMark, has, height, fits, Node, tierOrder, slots, topTier}
 use Rattle.tree.proofs.StoreLaws.{within-only}
-use Rattle.tree.proofs.HeightLaws.{height-fits, fits-base, fits-order}
-use Rattle.tree.proofs.SlotLaws.{tier-up, node-empty, empty-node}
+use Rattle.tree.proofs.HeightLaws.{height-fits, fits-base, fits-order, height-most}
+use Rattle.tree.proofs.SlotLaws.{tier-up, node-empty, empty-node, within-up}
 use Rattle.tree.proofs.EraseLaws.{clear-slot-apart, clear-slot-inside, clear-slot-path, height-clear}
 use Rattle.layout.specs.Words.{
   fieldAt,
@@ -62,18 +62,17 @@ use Rattle.layout.specs.Words.{
   countWord,
   spareWord,
 }
-use Rattle.layout.proofs.OwnerLaws.{within-up, parent}
+use Rattle.layout.proofs.OwnerLaws.{parent}
 use Rattle.layout.specs.WellFormed.{WellFormed, num}
 use Rattle.layout.proofs.NumberLaws.{nd}
-use Rattle.lookup.proofs.HeadLaws.{height-most}
 use Rattle.lookup.specs.Views.{AtNode, Holds, Stands}
-use Rattle.lookup.proofs.WordLaws.{node-at, pool-length, place-of, has-tier, pool-anchor, pool-node}
+use Rattle.lookup.proofs.WordLaws.{node-at}
 use Rattle.lookup.proofs.StandLaws.{covers-slot, after-is, wid-fits}
-use Rattle.marks.proofs.HybridLaws.{has-low}
 use Rattle.marks.proofs.MarkLaws.{entry-in, entry-covers, one-apart, mark-old}
 use Rattle.erase.specs.Tall.{fieldH, tallAt, Tall}
 use Rattle.erase.specs.Leaving.{cutAt, Cut, Unmarked}
-use Rattle.tree.proofs.NodeListLaws.{has-within}
+use Rattle.tree.proofs.NodeListLaws.{has-within, has-tier, has-low}
+use Rattle.layout.proofs.RenderWordLaws.{pool-length, place-of, pool-anchor, pool-node}
 
 module _ (l : List Entry) (val : Valid l) (i : ℕ) (e : Entry) (q : covering l i ≡ some e) (lone : e .marks ≡ 0) where
   abbrev l′ : List Entry
@@ -221,7 +220,7 @@ module _ {ws₀ : List ℕ} (s : WellFormed ws₀) {i v n : ℕ} {ws : List ℕ}
   pub cut-fits : (place n lastField < length ws) × (n < maxNodes) × (v < topTier) × (length ws ≡ length ws₀)
   cut-fits =
       let h : n < s .n = node-at s (c .at-node) .0 in
-      let t : suc v ≤ topTier = has-low (s .list) (suc v) (block (tierOrder (suc v)) i) (s .valid) (c .at-node .there)
+      let t : suc v ≤ topTier = has-low (s .list) (suc v) (block (tierOrder (suc v)) i) (c .at-node .there)
       in
       (omega (arith, c .size), omega (arith, s .most), omega arith, c .size ∙ sym (pool-length s))
 
@@ -285,7 +284,7 @@ module _ {ws₀ : List ℕ} (s : WellFormed ws₀) {i v n : ℕ} {ws : List ℕ}
   make len e₀ e₁ e₂ e₃ node′ = record {
     valid = erase-valid i (s .valid);
     small = s .most;
-    high = height-most (All-map (λ x o. (o .order-le, o .in-range)) (sorted-ok (s .valid)));
+    high = height-most (s .list);
     fit = height-clear (covers i) (s .list);
     count = s .placed .size;
     once = s .placed .once;
@@ -570,7 +569,7 @@ module _ {ws₀ : List ℕ} (s : WellFormed ws₀) {i v n o : ℕ} (h : Holds (s
   pub run-fits : (place n lastField < length ws₀) × (n < maxNodes) × (o < slots) × (v < topTier)
   run-fits =
       let a : n < s .n = node-at s (h .at-node) .0 in
-      let t : suc v ≤ topTier = has-low (s .list) (suc v) (block (tierOrder (suc v)) (h .entry .base)) (s .valid)
+      let t : suc v ≤ topTier = has-low (s .list) (suc v) (block (tierOrder (suc v)) (h .entry .base))
       (h .at-node .there) in
       (omega (arith, pool-length s), omega (arith, s .most), omega (arith, h .slot-is), omega arith)
 

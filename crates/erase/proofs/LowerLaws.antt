@@ -20,7 +20,7 @@ use Rattle.model.specs.Model.{covers, covering, within}
 use Rattle.model.proofs.ValidLaws.{sorted-ok, covers-lo}
 use Rattle.tree.specs.Slots.{slot, Numbering}
 use Rattle.tree.specs.Tree.{has, height, fits, Node, tierOrder, slots}
-use Rattle.tree.proofs.SlotLaws.{node-empty, slot-num}
+use Rattle.tree.proofs.SlotLaws.{node-empty, slot-num, within-up}
 use Rattle.tree.proofs.StoreLaws.{within-only}
 use Rattle.tree.proofs.HeightLaws.{Low, height-fits, fits-base, fits-order}
 use Rattle.tree.proofs.EraseLaws.{shrink, shrunk}
@@ -41,7 +41,6 @@ use Rattle.layout.specs.Words.{
   spareWord,
   anchorWords,
 }
-use Rattle.layout.proofs.OwnerLaws.{within-up}
 use Rattle.layout.specs.Places.{Places, numberIn, numberOf, render, prune, keepIf}
 use Rattle.layout.proofs.RenderLaws.{render-is}
 use Rattle.layout.proofs.PlacesLaws.{number-prune}

@@ -4,7 +4,7 @@ use mathlib.Core.Path.{_≡_}
 use mathlib.Core.Logic.{_≢_}
 use mathlib.Core.List.{List}
 use lib.ListN.{getD}
-use Rattle.layout.specs.Words.{place, poolWords, nodeWords, countWord, headWord, shiftField, ownerField, slotField}
+use Rattle.layout.specs.Words.{place, poolWords, nodeWords, headWord, ownerField, slotField}
 
 -- the words from ws to ws′: those of node n became 0
 abbrev pub Gone : List ℕ → ℕ → Type 0
@@ -32,8 +32,3 @@ pub record Unlinked (ws ws′ : List ℕ) (n m o : ℕ) : Type 0 where
   pub gone : Gone ws′ n
   pub cleared : m ≢ n → getD ws′ (place m (slotField + o)) 0 ≡ 0
   pub rest : (j : ℕ) → Outside n j → j ≢ place m (slotField + o) → getD ws′ j 0 ≡ getD ws j 0
-
--- the count and the first words of the nodes below low are as they were: none of these nodes was freed
-pub record Spares (low : ℕ) (ws ws′ : List ℕ) : Type 0 where
-  pub count-is : getD ws′ countWord 0 ≡ getD ws countWord 0
-  pub shifts-are : (m : ℕ) → m < low → getD ws′ (place m shiftField) 0 ≡ getD ws (place m shiftField) 0

@@ -36,7 +36,8 @@ ghost use Rattle.layout.specs.Places.{Places, numberIn, prune, render};
 ghost use Rattle.layout.specs.Fill.{filled};
 ghost use Rattle.layout.specs.WellFormed.{WellFormed, InUse, num};
 ghost use Rattle.lookup.specs.Views.{Holds};
-ghost use Rattle.erase.specs.Freed.{Freed, Raised, Unlinked, Spares};
+ghost use Rattle.layout.specs.Spares.{Spares};
+ghost use Rattle.erase.specs.Freed.{Freed, Raised, Unlinked};
 ghost use Rattle.erase.specs.Tall.{Tall, Tower, Headed, Dropped};
 ghost use Rattle.erase.specs.Leaving.{Unmarked, Cut, Cutting, Leaves, Erasing};
 

@@ -27,7 +27,7 @@ use Rattle.layout.specs.Places.{Places, Placed, numberIn, newPlaces}
 use Rattle.layout.proofs.OwnerLaws.{parent, owner-same}
 use Rattle.layout.proofs.FieldLaws.{field-same, apart-slot}
 use Rattle.layout.proofs.PlacesLaws.{number-stays}
-use Rattle.lookup.proofs.WordLaws.{has-tier}
+use Rattle.tree.proofs.NodeListLaws.{has-tier}
 
 -- two lists agree apart from the range of order k that holds i
 pub record Agree (i k : ℕ) (l l′ : List Entry) : Type 0 where

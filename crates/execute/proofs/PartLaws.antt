@@ -19,11 +19,11 @@ use Rattle.tree.specs.Tree.{tierOrder, height, has, Node}
 use Rattle.layout.specs.Words.{anchorWords, nodeWords, fieldAt, field}
 use Rattle.layout.specs.Places.{Places, numberIn, newPlaces, allocate, keepIf, wordAt}
 use Rattle.layout.proofs.NumberLaws.{prune-get, allocate-stays, keep-some, in-standing}
-use Rattle.lookup.proofs.WordLaws.{has-tier}
 use Rattle.execute.specs.State.{State}
 use Rattle.execute.specs.Part.{Range, meetsRange, isHead, nodePart, inPart}
 use Rattle.execute.proofs.ExecuteLaws.{Kept}
 use Rattle.execute.proofs.LocalLaws.{Agree, field-agree}
+use Rattle.tree.proofs.NodeListLaws.{has-tier}
 
 -- A BLOCK THAT DOES NOT MEET THE RANGE lies apart from it
 pub apart-range : (r : Range) (p : Node) → meetsRange r p ≡ false →

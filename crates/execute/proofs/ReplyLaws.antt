@@ -117,7 +117,7 @@ remarks s c t i m b e r w = record {
   reply-is = r ∙ covered-is t (covering (remark (s .list) i m b) i) ∙ sym (ap (λ (x : Executed). x .reply) e);
   words-are =
       w
-      ∙ ap (λ (os : Places). render (remark (s .list) i m b) os (s .n)) (sym (places-remark i m b (s .placed)))
+      ∙ ap (λ (os : Places). render (remark (s .list) i m b) os (s .n)) (sym (places-remark (s .list) i m b (s .placed)))
       ∙ sym (words-after s c (ap (λ (x : Executed). x .list) e));
 }
 

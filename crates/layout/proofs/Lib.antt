@@ -8,3 +8,4 @@ pub mod RenderLaws
 pub mod RenderWordLaws
 pub mod SlotWordLaws
 pub mod StayLaws
+pub mod SparesLaws

@@ -7,7 +7,7 @@ use Rattle.blocks.specs.Choice.{pick}
 use Rattle.blocks.specs.Blocks.{bitsTo}
 use Rattle.model.specs.declared.Entry.{Entry}
 use Rattle.model.specs.Model.{marksOf}
-use Rattle.tree.specs.Tree.{slots, tierOrder, height, Node, slotMark}
+use Rattle.tree.specs.Tree.{slotBits, slots, tierOrder, height, Node, slotMark}
 use Rattle.tree.specs.Slots.{Numbering, slot}
 
 -- R27
@@ -59,7 +59,7 @@ lastField = nodeWords - 1
 
 -- shift + 1, for a node of tier u
 abbrev pub shiftWord : ℕ → ℕ
-shiftWord u = tierOrder u - 5
+shiftWord u = tierOrder u - (slotBits - 1)
 
 -- the owner of a node in slot o of node n
 abbrev pub ownerWord : ℕ → ℕ → ℕ

@@ -38,6 +38,12 @@ pub const SLOT_BITS: u64 = 6;
 
 pub const SLOTS: u64 = 64;
 
+// The tier of the nodes of the greatest shift.
+pub const TOP_TIER: u64 = 11;
+
+// A node of tier u has the shift word SLOT_BITS * u - SHIFT_DROP.
+pub const SHIFT_DROP: u64 = SLOT_BITS - 1;
+
 pub const NODE_OFFSET: u64 = 1024;
 // Internal words from here on are those of nodes, below it those of siblings.
 const NODES_FROM: u64 = 4 * NODE_OFFSET;

@@ -18,13 +18,12 @@ use Rattle.blocks.proofs.BoolLaws.{byT, both-r}
 use Rattle.blocks.proofs.ListLaws.{All-map, look}
 use Rattle.blocks.proofs.BitLaws.{bits-read}
 use Rattle.model.specs.declared.Entry.{Entry}
-use Rattle.model.specs.Model.{Valid, covering, within, hasMark, remark, markCount}
+use Rattle.model.specs.Model.{covering, within, hasMark, remark, markCount}
 use Rattle.model.proofs.ValidLaws.{sorted-ok, covers-self}
 use Rattle.tree.specs.Tree.{slotMark, has, height, Node, slots, tierOrder, topTier}
 use Rattle.tree.specs.Slots.{Numbering}
 use Rattle.tree.proofs.SlotLaws.{tier-up}
-use Rattle.tree.proofs.HeightLaws.{Low, height-fits, fits-base, fits-most}
-use Rattle.tree.proofs.EraseLaws.{height-le}
+use Rattle.tree.proofs.HeightLaws.{Low, height-fits, fits-base}
 use Rattle.layout.specs.Words.{
   field,
   fieldAt,
@@ -45,7 +44,7 @@ use Rattle.layout.specs.Places.{render}
 use Rattle.layout.proofs.RenderLaws.{render-is}
 use Rattle.layout.specs.WellFormed.{WellFormed, num}
 use Rattle.lookup.specs.Views.{AtNode, Holds}
-use Rattle.lookup.proofs.WordLaws.{pool-length, node-at, pool-anchor, has-tier, place-of, pool-node}
+use Rattle.lookup.proofs.WordLaws.{node-at}
 use Rattle.lookup.proofs.StandLaws.{covers-high}
 use Rattle.marks.proofs.MarkLaws.{
   entry-in,
@@ -62,6 +61,8 @@ use Rattle.marks.proofs.MarkLaws.{
   word-mark,
 }
 use Rattle.marks.proofs.BitSetLaws.{bit-kept}
+use Rattle.tree.proofs.NodeListLaws.{has-low, has-tier}
+use Rattle.layout.proofs.RenderWordLaws.{pool-length, pool-anchor, place-of, pool-node}
 
 -- the words where the nodes of the tiers up to v are new
 module _ (l l′ : List Entry) (ν : Numbering) (v : ℕ) where
@@ -324,15 +325,6 @@ pub record Bounds (ws₀ ws : List ℕ) (n v o : ℕ) : Type 0 where
   pub node-in : place n lastField < length ws
   pub same : length ws ≡ length ws₀
 
-pub has-low : (l : List Entry) (u b : ℕ) → Valid l → has l u b ≡ true → u ≤ topTier
-has-low l u b val t =
-    omega (
-      arith,
-      has-tier l u b t .1,
-      height-le {h = 11}
-          (All-map (λ x o. fits-most x (o .order-le, o .in-range)) (sorted-ok val)),
-    )
-
 module _ {ws₀ : List ℕ} (s : WellFormed ws₀) {i m : ℕ} (m< : m < markCount) {on : Bool} where
   pub climb-start : {v n o : ℕ} → Holds (s .list) (num s) i n v o → Climbing s i m on v n o on ws₀
   climb-start {v} h = record {
@@ -348,7 +340,7 @@ module _ {ws₀ : List ℕ} (s : WellFormed ws₀) {i m : ℕ} (m< : m < markCou
     pub climb-bounds : Bounds ws₀ ws n v o
     climb-bounds =
         let h : n < s .n = node-at s (a .at-node) .0 in
-        let t : suc v ≤ topTier = has-low (s .list) (suc v) (block (tierOrder (suc v)) (a .entry .base)) (s .valid)
+        let t : suc v ≤ topTier = has-low (s .list) (suc v) (block (tierOrder (suc v)) (a .entry .base))
         (a .at-node .there) in
         record {
           node-lt = omega (arith, s .most);

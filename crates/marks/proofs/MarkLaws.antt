@@ -50,7 +50,8 @@ use Rattle.tree.proofs.HeightLaws.{Low, height-fits, fits-base}
 use Rattle.tree.proofs.SlotLaws.{tier-up, mark-up, mark-down}
 use Rattle.tree.proofs.RelabelLaws.{mapO, any-map, within-map, covering-map, height-map}
 use Rattle.layout.specs.Words.{field, anchorWord, nodeWords}
-use Rattle.marks.proofs.BitSetLaws.{marks-bits, set-bits, marks-of-bits}
+use Rattle.marks.proofs.BitSetLaws.{set-bits}
+use Rattle.model.proofs.MarkLaws.{marks-bits, marks-of-bits}
 
 -- a node's mark word is 0 where the slot that leads to the node has no mark
 pub word-mark : (l : List Entry) (m v b : ℕ) → not (eqb (bitsTo (λ j. slotMark l m v (slots * b + j)) slots) 0) ≡

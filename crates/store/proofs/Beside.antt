@@ -1,7 +1,7 @@
 -- A store over which the head grows, with nothing of the old tree in the target range.
 use Prim.Native.Nat.{ℕ, _/_, _^_, _≤_, _<_}
-use mathlib.Core.Path.{_≡_, refl, sym, ap, subst, _∙_}
-use mathlib.Core.Bool.{Bool, true, false, not}
+use mathlib.Core.Path.{_≡_, refl, _∙_}
+use mathlib.Core.Bool.{true, not}
 use mathlib.Core.List.{List}
 use native.Mathlib.Omega.{arith}
 use native.Mathlib.Nat.{le-refl}
@@ -15,7 +15,7 @@ use Rattle.blocks.proofs.BoolLaws.{byT, clash, both-l, both-r}
 use Rattle.blocks.proofs.ListLaws.{each, look}
 use Rattle.model.specs.declared.Entry.{Entry}
 use Rattle.model.specs.Model.{storable, storeNew}
-use Rattle.tree.specs.Tree.{height}
+use Rattle.tree.specs.Tree.{height, topTier, slotBits}
 use Rattle.tree.proofs.HeightLaws.{height-fits, fits-base}
 use Rattle.layout.specs.Words.{place, lastField}
 use Rattle.layout.specs.Places.{newPlaces, render}
@@ -71,8 +71,8 @@ module _ {ws : List ℕ} (s : WellFormed ws) (i k w n low h top next : ℕ) (i< 
       (some-node′ s ps cs i k w n next h top i< k≤ r) ps cs (g .plan))
 
   -- what the writes need
-  pub beside-fits : (k / 6 < top) × (top ≤ 11) ×
-      ((u : ℕ) → k / 6 < u → u ≤ top → place (getD ps u 0) lastField < length ws) ×
+  pub beside-fits : (k / slotBits < top) × (top ≤ topTier) ×
+      ((u : ℕ) → k / slotBits < u → u ≤ top → place (getD ps u 0) lastField < length ws) ×
       (h < top → both (not (eqb (getD ws 1 0) 0)) (not (eqb (block k i) 0)) ≡ true → (u : ℕ) → h ≤ u → 1 ≤ u → u ≤ top →
       place (getD cs u 0) lastField < length ws)
   beside-fits =

@@ -1,6 +1,6 @@
 -- A store where nothing starts in the target range: no node goes, no mark changes, and the path, the chain and the entry
 -- are all that is written.
-use Prim.Native.Nat.{ℕ, suc, _+_, _*_, _-_, _/_, _^_, _≤_, _<_}
+use Prim.Native.Nat.{ℕ, _+_, _*_, _-_, _/_, _^_, _≤_, _<_}
 use mathlib.Core.Path.{_≡_, refl, sym, ap, subst, _∙_}
 use mathlib.Core.Bool.{true, false, not}
 use mathlib.Core.List.{List}
@@ -19,7 +19,7 @@ use Rattle.model.specs.declared.Entry.{Entry}
 use Rattle.model.specs.Model.{Valid, storable, over, starts, within, hasMark, marksOf, inside, newEntry, storeNew}
 use Rattle.model.proofs.RangeLaws.{Inside}
 use Rattle.model.proofs.ValidLaws.{room, store-at-valid}
-use Rattle.tree.specs.Tree.{slots, tierOrder, height, has, Node, newNodes, needed, slotMark}
+use Rattle.tree.specs.Tree.{slots, tierOrder, height, has, Node, newNodes, needed, slotMark, slotBits}
 use Rattle.tree.specs.Slots.{Numbering, slot}
 use Rattle.tree.proofs.StoreLaws.{within-only, store-covering, mark-apart, mark-path, mark-inside}
 use Rattle.layout.specs.Words.{field, fieldAt}
@@ -31,7 +31,7 @@ use Rattle.layout.proofs.PlacesLaws.{placed-new}
 use Rattle.layout.proofs.RenderLaws.{render-is}
 use Rattle.layout.proofs.RenderWordLaws.{field-mark}
 use Rattle.plan.specs.Plan.{Plan, freeTo}
-use Rattle.plan.proofs.AfterStore.{Lies, lies, on-path, in-run, off, has-le, has-within, rooms, tops, has-path, stays}
+use Rattle.plan.proofs.AfterStore.{Lies, lies, on-path, in-run, off, rooms, tops, has-path, stays}
 use Rattle.plan.proofs.FreeNumbers.{below-taken}
 use Rattle.store.specs.Writes.{span, offset, linked, grownWords, entered}
 use Rattle.store.specs.Stored.{Stores, Done, entryOf}
@@ -39,6 +39,7 @@ use Rattle.store.proofs.Freeing.{Freed, freed-none}
 use Rattle.store.proofs.Target.{field₁, fieldAt₁, X-anchor, X-at}
 use Rattle.store.proofs.Final.{enter-long, grow-long, link-long, lg₁, anchor-right, node-right}
 use Rattle.store.proofs.Results.{in-use}
+use Rattle.tree.proofs.NodeListLaws.{has-le, has-within}
 
 -- THE TREE
 module _ (l : List Entry) (valid : Valid l) (i k w : ℕ) (i< : i < 2 ^ 64) (k≤ : k ≤ 63)
@@ -162,9 +163,9 @@ module _ {ws : List ℕ} (s : WellFormed ws) (i k w : ℕ) (i< : i < 2 ^ 64) (k�
         (sym (field-mark l₁ ν₁ t b (f - 2) (omega arith)) ∙ ap (field l₁ ν₁ t b) e)))
         (λ c. rw c)
 
-    pub path-chain-entry : entered (grownWords (linked ws ps i (k / 6) (height l₁)) ps cs (marksOf l) (height l)
+    pub path-chain-entry : entered (grownWords (linked ws ps i (k / slotBits) (height l₁)) ps cs (marksOf l) (height l)
         (height l₁) (slot l (numberIn os) (height l) 0) (both (nonempty l) (not (eqb (block k i) 0))))
-        (getD ps (k / 6 + 1) 0) (offset i k) (span k) w ≡ render l₁ os₁ (s .n)
+        (getD ps (k / slotBits + 1) 0) (offset i k) (span k) w ≡ render l₁ os₁ (s .n)
     unfolding fieldAt₁
     path-chain-entry = render-is l₁ os₁ (s .n) _
         (enter-long (s .n) l os (s .placed) (s .valid) i k w i< k≤ new enough some-node ps cs plan

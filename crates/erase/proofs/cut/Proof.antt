@@ -8,10 +8,10 @@ use Rattle.layout.specs.WellFormed.{WellFormed, num}
 use Rattle.lookup.specs.Views.{Holds}
 use Rattle.erase.specs.Tall.{Tall}
 use Rattle.erase.specs.Leaving.{Unmarked}
-use Rattle.erase.proofs.FreedLaws.{spares-then}
 use borrow.Author.Needs.{needs}
 use Rattle.erase.proofs.cut.Statement.{statement}
 use Rattle.erase.proofs.cut.Tie as tie
+use Rattle.layout.proofs.SparesLaws.{spares-then}
 
 -- the words before the head shrinks
 tall : (c : tie.After-shrink-arg) (s : WellFormed (c .before .before .before .before .before .before .before .before

@@ -10,10 +10,10 @@ use Rattle.layout.proofs.FillLaws.{filled-before, filled-after, filled-in}
 use Rattle.lookup.specs.Views.{Holds}
 use Rattle.erase.specs.Leaving.{Unmarked}
 use Rattle.erase.proofs.LeavingLaws.{run-at, run-stands, run-fits, run-small, run-wide, cut-start}
-use Rattle.erase.proofs.FreedLaws.{run-spares}
 use borrow.Author.Needs.{needs}
 use Rattle.erase.proofs.cut_run.Statement.{statement}
 use Rattle.erase.proofs.cut_run.Tie as tie
+use Rattle.layout.proofs.SparesLaws.{run-spares}
 
 -- how many slots the entry takes
 order : (c : tie.After-order-of) (s : WellFormed (c .before .before .before .args .pool .now))

@@ -12,10 +12,11 @@ use Rattle.erase.proofs.LowerLaws.{
   not-empty,
   not-sibling,
 }
-use Rattle.erase.proofs.FreedLaws.{spares-same, raised-spares, freed-spares}
+use Rattle.erase.proofs.FreedLaws.{raised-spares, freed-spares}
 use borrow.Author.Needs.{needs}
 use Rattle.erase.proofs.drop_head.Statement.{statement}
 use Rattle.erase.proofs.drop_head.Tie as tie
+use Rattle.layout.proofs.SparesLaws.{spares-same}
 
 vacant-requires : tie.Need-vacant-requires
 vacant-requires c κs = let H = c .before .before .pre .1 in under-fits (H .tower .tall) (c .before .before .pre .0)

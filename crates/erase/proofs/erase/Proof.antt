@@ -2,12 +2,12 @@ use mathlib.Core.Path.{sym, ap}
 use native.Mathlib.Omega.{arith}
 use lib.ListN.{length-set}
 use Rattle.model.specs.Model.{covered}
-use Rattle.lookup.proofs.WordLaws.{pool-length}
 use Rattle.lookup.proofs.HeadLaws.{at-apart, at-vacant, at-head, at-spot}
 use Rattle.erase.proofs.ErasedLaws.{words-gap, words-head, in-use-head}
 use borrow.Author.Needs.{needs}
 use Rattle.erase.proofs.erase.Statement.{statement}
 use Rattle.erase.proofs.erase.Tie as tie
+use Rattle.layout.proofs.RenderWordLaws.{pool-length}
 
 locate-requires : tie.Need-locate-requires
 locate-requires c κs = search needs

@@ -8,12 +8,13 @@ use borrow.Author.Tests.{not-true, not-false}
 use Rattle.tree.specs.Tree.{slots, topTier}
 use Rattle.layout.specs.Words.{place, lastField, maxNodes}
 use Rattle.layout.specs.WellFormed.{WellFormed}
-use Rattle.erase.specs.Freed.{Spares}
 use Rattle.erase.specs.Leaving.{Cut, Cutting}
 use Rattle.erase.proofs.LeavingLaws.{cut-fits, cut-empty, cut-filled, cut-done, cut-top, cut-next, over-fits}
-use Rattle.erase.proofs.FreedLaws.{spares-same, spares-then, freed-spares, unlinked-spares}
+use Rattle.erase.proofs.FreedLaws.{freed-spares, unlinked-spares}
 use Rattle.erase.proofs.prune_up.Statement.{statement}
 use Rattle.erase.proofs.prune_up.Tie as tie
+use Rattle.layout.specs.Spares.{Spares}
+use Rattle.layout.proofs.SparesLaws.{spares-same, spares-then}
 
 record Bounds (pool₀ pool : List ℕ) (n v : ℕ) : Type 0 where
   node-in : place n lastField < length pool

@@ -7,11 +7,12 @@ use Rattle.layout.specs.Places.{prune, render}
 use Rattle.layout.specs.WellFormed.{WellFormed, num}
 use Rattle.lookup.specs.Views.{Holds}
 use Rattle.marks.proofs.RemarkLaws.{formed-remark, holds-remark}
-use Rattle.erase.proofs.FreedLaws.{in-use-remark, in-use-spares}
+use Rattle.erase.proofs.FreedLaws.{in-use-remark}
 use Rattle.erase.proofs.ErasedLaws.{all-off, bare-erase, bare-height}
 use borrow.Author.Needs.{needs}
 use Rattle.erase.proofs.remove.Statement.{statement}
 use Rattle.erase.proofs.remove.Tie as tie
+use Rattle.layout.proofs.SparesLaws.{in-use-spares}
 
 -- the entry stands at its spot, in the words that a list prescribes
 abbrev At : (c : tie.After-climb-arg2) → WellFormed (c .before .before .before .before .before .before .args .pool

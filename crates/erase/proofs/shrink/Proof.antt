@@ -8,12 +8,12 @@ use borrow.Author.Tests.{not-true, not-false}
 use Rattle.blocks.proofs.BoolLaws.{clash}
 use Rattle.model.specs.declared.Entry.{Entry}
 use Rattle.layout.specs.Places.{Places}
-use Rattle.erase.specs.Freed.{Spares}
 use Rattle.erase.specs.Tall.{Tall, Tower}
 use Rattle.erase.proofs.LowerLaws.{tall-flat, top-child, top-empty, top-held, top-sibling}
-use Rattle.erase.proofs.FreedLaws.{spares-same, spares-then}
 use Rattle.erase.proofs.shrink.Statement.{statement}
 use Rattle.erase.proofs.shrink.Tie as tie
+use Rattle.layout.specs.Spares.{Spares}
+use Rattle.layout.proofs.SparesLaws.{spares-same, spares-then}
 
 abbrev Inv-loop : tie.InvT-loop
 Inv-loop pool₀ top low h₀ floor₀ pool h floor =

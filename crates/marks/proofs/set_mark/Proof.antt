@@ -1,11 +1,11 @@
 use native.Mathlib.Omega.{arith}
 use mathlib.Core.Path.{_∙_}
-use Rattle.lookup.proofs.WordLaws.{pool-length}
 use Rattle.lookup.proofs.HeadLaws.{at-apart, at-vacant, at-head, at-spot}
 use Rattle.marks.proofs.RemarkLaws.{words-none, head-mark, answer-none, answer-some}
 use borrow.Author.Needs.{needs}
 use Rattle.marks.proofs.set_mark.Statement.{statement}
 use Rattle.marks.proofs.set_mark.Tie as tie
+use Rattle.layout.proofs.RenderWordLaws.{pool-length}
 
 locate-requires : tie.Need-locate-requires
 locate-requires c κs = search needs

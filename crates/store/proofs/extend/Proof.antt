@@ -12,11 +12,12 @@ use Rattle.store.specs.Writes.{span, offset, linked, grownWords, entered
 use borrow.Author.Needs.{needs}
 use Rattle.store.proofs.extend.Statement.{statement}
 use Rattle.store.proofs.extend.Tie as tie
+use Rattle.tree.specs.Tree.{slotBits}
 
 -- in the code's terms
 extended-is : (ws ps cs ws₁ ws₂ ws₃ : List ℕ) (i k w h top o c : ℕ) (chained zero : Bool) →
-    ws₁ ≡ linked ws ps i (k / 6) top → ws₂ ≡ grownWords ws₁ ps cs (getD ws 2 0) h top (getD ws 1 0) chained →
-    ws₃ ≡ entered ws₂ (getD ps (k / 6 + 1) 0) o c w → o ≡ offset i k → c ≡ span k →
+    ws₁ ≡ linked ws ps i (k / slotBits) top → ws₂ ≡ grownWords ws₁ ps cs (getD ws 2 0) h top (getD ws 1 0) chained →
+    ws₃ ≡ entered ws₂ (getD ps (k / slotBits + 1) 0) o c w → o ≡ offset i k → c ≡ span k →
     chained ≡ both (not (eqb (getD ws 1 0) 0)) (not zero) → zero ≡ eqb (block k i) 0 → ws₃ ≡ extended ws ps cs i k w h top
 unfolding extended
 extended-is ws ps cs ws₁ ws₂ ws₃ i k w h top o c chained zero e₁ e₂ e₃ p q r z = e₃ ∙ rw (e₂, e₁, p, q, r, z)
@@ -77,7 +78,7 @@ enter-requires : tie.Need-enter-requires
 enter-requires c κs = let a = c .before .before .before .before .before .before .before .before .before .before .before .before .before .before .before .before .before .before .before .args in let p = c .before .before .before .before .before .before .before .before .before .before .before .before .before .before .before .before .before .before .before .pre in
     let k₁ = c .before .before .before .before .before .before .before .before .link .kept .0 in
     let k₂ = c .before .before .before .before .grow .kept .0 in
-    let h = p .1 .1 .0 (a .order / 6 + 1) (omega arith) (omega arith) in (
+    let h = p .1 .1 .0 (a .order / slotBits + 1) (omega arith) (omega arith) in (
       omega arith,
       (omega (arith, c .before .before .before .before .before .before .before .before .before .before .offset-of .ensures .1, c .before .before .before .before .before .before .before .before .before .before .before .span-of .ensures .0), c .before .before .before .before .before .before .before .before .before .before .before .span-of .ensures .1),
     )

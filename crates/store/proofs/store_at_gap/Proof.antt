@@ -7,6 +7,7 @@ use Rattle.store.proofs.AtGap.{slots-done, slots-used}
 use borrow.Author.Needs.{needs}
 use Rattle.store.proofs.store_at_gap.Statement.{statement}
 use Rattle.store.proofs.store_at_gap.Tie as tie
+use Rattle.tree.specs.Tree.{slotBits}
 
 store-below-requires : tie.Need-store-below-requires
 store-below-requires c κs = search needs
@@ -62,7 +63,7 @@ same-length-4 c = search needs
 returns-4 : tie.Need-returns-4
 returns-4 c = let a = c .before .before .before .before .before .before .before .before .before .before .before .before .before .args in let p = c .before .before .before .before .before .before .before .before .before .before .before .before .before .pre in
     let f = c .before .before .before .before .before .before .before .before .before .before .before .before .before .fits in
-    let tier-is : a .order / 6 ≡ a .u = omega (arith, c .before .before .before .before .before .before .before .before .before .before .if2 .left, c .before .before .before .before .before .before .before .before .before .before .before .if1 .left) in
+    let tier-is : a .order / slotBits ≡ a .u = omega (arith, c .before .before .before .before .before .before .before .before .before .before .if2 .left, c .before .before .before .before .before .before .before .before .before .before .before .if1 .left) in
     let o-is = c .before .before .before .before .before .before .before .before .offset-of .ensures .0 in
     let c-is = c .before .before .before .before .before .before .before .before .before .span-of .ensures .0 in
     let empty = c .before .before .before .before .before .before .all-empty .ensures (not-false _ (c .before .before .before .before .before .if3 .left)) in

@@ -1,13 +1,13 @@
 use native.Mathlib.Omega.{arith}
 use mathlib.Core.Path.{refl}
-use Rattle.plan.proofs.Reading.{pool-long}
 use Rattle.store.proofs.Beside.{beside-fits, beside-done, beside-used}
 use borrow.Author.Needs.{needs}
 use Rattle.store.proofs.store_beside.Statement.{statement}
 use Rattle.store.proofs.store_beside.Tie as tie
+use Rattle.layout.proofs.RenderWordLaws.{pool-length}
 
 slice-read-head : tie.Need-slice-read-head
-slice-read-head c = omega (arith, pool-long (c .before .before .pre .0))
+slice-read-head c = omega (arith, pool-length (c .before .before .pre .0))
 
 slice-aggregate-plan : tie.Need-slice-aggregate-plan
 slice-aggregate-plan c = search needs
@@ -35,7 +35,7 @@ extend-requires : tie.Need-extend-requires
 extend-requires c κs = let p = c .before .before .before .before .before .before .before .before .before .before .before .before .before .before .pre in
     let f = beside-fits (p .0) _ _ _ _ _ _ _ _ (c .before .before .before .before .before .before .before .before .before .before .before .before .before .before .fits .index .fits) (p .1 .0 .0) _ _ _ (p .1 .1 .0 (p .0))
     (c .before .before .before .before .before .before .before .before .plan .ensures (p .0) .if-chosen _ (c .before .before .before .before .choice .given .1)) (p .1 .1 .1) in (
-      (omega (arith, pool-long (p .0)), p .1 .0 .0, f .0, f .1),
+      (omega (arith, pool-length (p .0)), p .1 .0 .0, f .0, f .1),
       (
         (omega (arith, c .before .before .before .before .before .before .before .before .plan .kept .1 .0), omega (arith, c .before .before .before .before .before .before .before .before .plan .kept .1 .1 .0)),
         (f .2, f .3),
