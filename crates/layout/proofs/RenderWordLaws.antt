@@ -1,5 +1,5 @@
 -- The words that a list prescribes, one by one.
-use Prim.Native.Nat.{ℕ, _+_, _*_, _-_, _/_, _%_, _<_}
+use Prim.Native.Nat.{ℕ, _-_, _/_, _%_, _<_}
 use mathlib.Core.Path.{_≡_, ap, _∙_}
 use mathlib.Core.Bool.{true}
 use mathlib.Core.List.{List}
@@ -7,15 +7,14 @@ use mathlib.Core.Option.{none}
 use native.Mathlib.Omega.{arith}
 use native.Mathlib.Nat.{zero-add}
 use lib.ListN.{length, getD}
-use borrow.Author.Tests.{lt-ltb, le-ltb, ne-eqb}
+use borrow.Author.Tests.{lt-ltb, le-ltb}
 use Rattle.blocks.specs.Lists.{any}
-use Rattle.blocks.specs.Blocks.{bitsTo}
 use Rattle.blocks.proofs.UpToLaws.{length-upTo, getD-upTo}
 use Rattle.model.specs.declared.Entry.{Entry}
 use Rattle.model.specs.Model.{within}
-use Rattle.tree.specs.Tree.{slotMark, tierOrder, slots}
+use Rattle.tree.specs.Tree.{tierOrder}
 use Rattle.tree.specs.Slots.{slot, nodeWord, Numbering}
-use Rattle.layout.specs.Words.{field, fieldAt, anchorWord, place, nodeWords, poolWords}
+use Rattle.layout.specs.Words.{fieldAt, anchorWord, place, nodeWords, poolWords, anchorWords, IsField}
 use Rattle.layout.specs.Places.{Places, numberIn, wordAt, render}
 
 pub slot-node : (s : List Entry) (ν : Numbering) (u c : ℕ) → any (within (tierOrder u) c) s ≡ true →
@@ -31,24 +30,12 @@ module _ (l : List Entry) (os : Places) (n : ℕ) where
   get : (p : ℕ) → p < poolWords n → getD (render l os n) p 0 ≡ wordAt l os n p
   get p h = getD-upTo (wordAt l os n) 0 (poolWords n) p h ∙ ap (wordAt l os n) (zero-add p)
 
-  pub render-anchor : (p : ℕ) → p < 4 → getD (render l os n) p 0 ≡ anchorWord l (numberIn os) n p
-  render-anchor p h = get p (omega arith) ∙ rw (lt-ltb p 4 h)
+  pub render-anchor : (p : ℕ) → p < anchorWords → getD (render l os n) p 0 ≡ anchorWord l (numberIn os) n p
+  render-anchor p h = get p (omega arith) ∙ rw (lt-ltb p anchorWords h)
 
-  pub render-node : (m f : ℕ) → m < n → f < nodeWords → getD (render l os n) (place m f) 0 ≡ fieldAt l (numberIn os)
+  pub render-node : (m f : ℕ) → m < n → IsField f → getD (render l os n) (place m f) 0 ≡ fieldAt l (numberIn os)
       (getD os m none) f
   render-node m f a b =
-      let d : (place m f - 4) / nodeWords ≡ m = omega arith in
-      let r : (place m f - 4) % nodeWords ≡ f = omega arith in
-      get (place m f) (omega arith) ∙ rw (le-ltb (place m f) 4 (omega arith), d, r)
-
-pub field-mark : (l : List Entry) (ν : Numbering) (u b x : ℕ) → x < 3 →
-    field l ν u b (2 + x) ≡ bitsTo (λ j. slotMark l x (u - 1) (slots * b + j)) slots
-field-mark l ν u b x h =
-    let e : 2 + x - 2 ≡ x = omega arith in
-    rw (ne-eqb (2 + x) 0 (omega arith), ne-eqb (2 + x) 1 (omega arith), lt-ltb (2 + x) 5 (omega arith), e)
-
-pub field-slot : (l : List Entry) (ν : Numbering) (u b j : ℕ) →
-    field l ν u b (5 + j) ≡ slot l ν (u - 1) (slots * b + j)
-field-slot l ν u b j =
-    let e : 5 + j - 5 ≡ j = omega arith in
-    rw (ne-eqb (5 + j) 0 (omega arith), ne-eqb (5 + j) 1 (omega arith), le-ltb (5 + j) 5 (omega arith), e)
+      let d : (place m f - anchorWords) / nodeWords ≡ m = omega arith in
+      let r : (place m f - anchorWords) % nodeWords ≡ f = omega arith in
+      get (place m f) (omega arith) ∙ rw (le-ltb (place m f) anchorWords (omega arith), d, r)

@@ -6,3 +6,4 @@ pub mod Decode
 pub mod Fill
 pub mod Decide
 pub mod View
+pub mod Reading
