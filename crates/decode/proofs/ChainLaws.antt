@@ -16,7 +16,7 @@ use Rattle.layout.specs.declared.Slot.the-variants.{Held}
 use Rattle.layout.specs.Pool.{slotOf, maxRun}
 use Rattle.layout.specs.Decode.{wide}
 use Rattle.decode.proofs.Restrict.{Chain}
-use Rattle.decode.proofs.SaysLaws.{word-of}
+use Rattle.layout.proofs.SaysLaws.{word-of}
 
 pub wide-pow : (v : ℕ) → 2 ^ (tierOrder v) ≡ wide v
 wide-pow zero = refl

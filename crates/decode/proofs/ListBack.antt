@@ -31,7 +31,7 @@ use Rattle.decode.proofs.KeepLaws.{
   some-no,
 }
 use Rattle.decode.proofs.BelowLaws.{up}
-use Rattle.decode.proofs.SaysLaws.{said}
+use Rattle.layout.proofs.SaysLaws.{said}
 use Rattle.decode.proofs.FitLaws.{chain-low, base-low}
 use Rattle.decode.proofs.ChainLaws.{wide-pow}
 use Rattle.decode.proofs.SlotsShown.{

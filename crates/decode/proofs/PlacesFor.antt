@@ -19,21 +19,21 @@ use Rattle.model.specs.Model.{Valid, within}
 use Rattle.tree.specs.Tree.{Node, height, has, nodes, tierOrder, slots}
 use Rattle.tree.specs.Slots.{Numbering, slot}
 use Rattle.tree.proofs.NodeListLaws.{nodes-in, in-nodes, has-within, has-some, has-le, has-in}
-use Rattle.layout.specs.Words.{owner, field, fieldAt, anchorWord, place, poolWords, nodeWords}
+use Rattle.layout.specs.Words.{owner, field, fieldAt, anchorWord, place, poolWords, IsField}
 use Rattle.layout.specs.Places.{Places, Placed, numberIn, standing}
 use Rattle.layout.proofs.FieldLaws.{field-same}
 use Rattle.layout.proofs.OwnerLaws.{parent}
 use Rattle.layout.proofs.RenderLaws.{render-is}
 use Rattle.layout.specs.Pool.{poolOf}
 use Rattle.layout.specs.WellFormed.{Prescribed}
-use Rattle.decode.proofs.FreeLaws.{by-field, free-words}
+use Rattle.layout.proofs.FreeLaws.{free-words}
+use Rattle.layout.proofs.NodeLaws.{all-words}
 use Rattle.decode.proofs.Restrict.{hasLevel, Prescribes, NodeIs}
 use Rattle.decode.proofs.SameTree.{to-sorted, has-same, slot-same, marks-same, level-owner, head-same}
 use Rattle.decode.proofs.PrescribedWords.{node}
 use Rattle.tree.proofs.SlotLaws.{slot-num}
 use Rattle.layout.proofs.NumberLaws.{in-standing, number-of}
 use Rattle.blocks.proofs.PlacingLaws.{none-some}
-use Rattle.layout.proofs.RenderWordLaws.{node-shift, node-mark, node-slot}
 
 -- a list of places made number by number
 module _ (f : ℕ → Option Node) where
@@ -135,7 +135,7 @@ module _ (n : ℕ) (l : List Entry) (ν : Numbering) (num : Numbered n l ν) whe
       (λ e. let ne : suc v ≡ height l → ⊥ = eqb-false _ _ e in
       rw (e, number-is (suc (suc v)) (b / slots) (parent l (suc v) b t (omega (arith, has-le l (suc v) b t)))))
 
-  field-num : (u b : ℕ) → has l u b ≡ true → (f : ℕ) → f < nodeWords →
+  field-num : (u b : ℕ) → has l u b ≡ true → (f : ℕ) → IsField f →
       field l (numberIn placesBy) u b f ≡ field l ν u b f
   field-num zero b t f h = absurd (omega (arith, has-some l 0 b t))
   field-num (suc v) b t f h =
@@ -143,7 +143,7 @@ module _ (n : ℕ) (l : List Entry) (ν : Numbering) (num : Numbered n l ν) whe
       (λ d q. slot-num l ν (numberIn placesBy) v d (λ k. number-is v d
       (has-in l v d (omega (arith, has-le l (suc v) b t)) k))) f h
 
-  pub place-words : (m f : ℕ) → m < n → f < nodeWords → fieldAt l (numberIn placesBy) (getD placesBy m none) f ≡
+  pub place-words : (m f : ℕ) → m < n → IsField f → fieldAt l (numberIn placesBy) (getD placesBy m none) f ≡
       fieldAt l ν (placeOf l ν m) f
   place-words m f lt h = ap (λ (o : Option Node). fieldAt l (numberIn placesBy) o f) (place-at m lt) ∙ go
       (placeOf l ν m) refl
@@ -180,21 +180,19 @@ module _ (ws : List ℕ) (l : List Entry) (ν : Numbering) (R : Prescribes (pool
   abbrev pub places : Places
   places = placesBy (getD ws 0 0) l (raise ν) num
 
-  field-is : (v b : ℕ) → has l (suc v) b ≡ true → (f : ℕ) → f < nodeWords →
+  field-is : (v b : ℕ) → has l (suc v) b ≡ true → (f : ℕ) → IsField f →
       getD ws (place (ν v b) f) 0 ≡ field l (raise ν) (suc v) b f
   field-is v b t =
       let m : ℕ = ν v b in
       let I : NodeIs (poolOf ws) l ν m v b = R .nodes v b (has-of v b t) in
       let inside : any (within (tierOrder (suc v)) b) l ≡ true = has-within l (suc v) b t in
-      by-field (λ f. getD ws (place m f) 0 ≡ field l (raise ν) (suc v) b f)
-      (I .shift-is ∙ sym (node-shift l (raise ν) v b))
+      all-words ws m l (raise ν) (height l) v b (I .shift-is)
       (I .owner-is ∙ level-owner valid (raise ν) v b)
-      (λ μ h. I .marks-are μ h ∙ marks-same l ν μ v b ∙ sym (node-mark l (raise ν) v b μ h))
+      (λ μ h. I .marks-are μ h ∙ marks-same l ν μ v b)
       (λ j h. let q : (slots * b + j) / slots ≡ b = omega arith in
-      I .slots-are j h ∙ slot-same valid (raise ν) v (slots * b + j) (rw q inside)
-      ∙ sym (node-slot l (raise ν) v b j))
+      I .slots-are j h ∙ slot-same valid (raise ν) v (slots * b + j) (rw q inside))
 
-  node-words : (m f : ℕ) → m < getD ws 0 0 → f < nodeWords → (o : Option Node) → placeOf l (raise ν) m ≡ o →
+  node-words : (m f : ℕ) → m < getD ws 0 0 → IsField f → (o : Option Node) → placeOf l (raise ν) m ≡ o →
       getD ws (place m f) 0 ≡ fieldAt l (raise ν) o f
   node-words m f lt h none q =
       free-words ws m (R .frees m lt (λ v b t e. none-some

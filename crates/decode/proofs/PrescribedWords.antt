@@ -1,5 +1,5 @@
 -- Words that are prescribed as a whole, word by word.
-use Prim.Native.Nat.{ℕ, zero, suc, _+_, _*_, _-_, _/_, _<_}
+use Prim.Native.Nat.{ℕ, zero, suc, _+_, _*_, _/_, _<_}
 use mathlib.Core.Path.{_≡_, refl, sym, ap, subst, _∙_}
 use mathlib.Core.Bool.{true}
 use mathlib.Core.List.{List}
@@ -9,26 +9,28 @@ use lib.ListN.{getD}
 use Rattle.blocks.specs.Lists.{any}
 use Rattle.model.specs.declared.Entry.{Entry}
 use Rattle.model.specs.Model.{within}
-use Rattle.tree.specs.Tree.{Node, has, nodes, tierOrder, slots}
+use Rattle.tree.specs.Tree.{Node, has, height, tierOrder, slots}
 use Rattle.layout.specs.Words.{
   field,
   fieldAt,
+  anchorWord,
   place,
-  poolWords,
-  nodeWords,
-  slotField,
-  markField,
-  shiftField,
-  ownerField,
+  IsField,
+  anchorWords,
+  countWord,
+  headWord,
+  marksWord,
+  spareWord,
 }
-use Rattle.layout.specs.Places.{Places, numberOf, numberIn, wordAt}
+use Rattle.layout.specs.Places.{Places, numberOf, numberIn}
 use Rattle.layout.specs.Pool.{poolOf}
 use Rattle.layout.specs.WellFormed.{Prescribed}
-use Rattle.decode.proofs.FreeLaws.{words-free}
+use Rattle.layout.proofs.FreeLaws.{words-free}
+use Rattle.layout.proofs.NodeLaws.{get-shift, get-owner, get-mark, get-slot}
+use Rattle.layout.proofs.RenderWordLaws.{render-anchor, render-node}
 use Rattle.decode.proofs.Restrict.{hasLevel, Prescribes, NodeIs}
 use Rattle.decode.proofs.SameTree.{to-chain, has-same, lower, slot-same, marks-same, level-owner, head-same}
 use Rattle.tree.proofs.NodeListLaws.{has-within, has-some}
-use Rattle.layout.proofs.RenderWordLaws as F
 use Rattle.layout.proofs.NumberLaws.{number-at, in-standing, number-of}
 
 -- PLACES
@@ -37,18 +39,17 @@ node u b = record { tier = u; number = b }
 
 -- FROM THE WHOLE TO THE WORDS
 module _ (n : ℕ) (l : List Entry) (os : Places) (ws : List ℕ) (S : Prescribed n l os ws) where
-  word : (i : ℕ) → i < poolWords n → getD ws i 0 ≡ wordAt l os n i
-  word i h = ap (λ (x : List ℕ). getD x i 0) (S .words-are) ∙ F.render-word l os n i h
+  anchor : (i : ℕ) → i < anchorWords → getD ws i 0 ≡ anchorWord l (numberIn os) n i
+  anchor i h = ap (λ (x : List ℕ). getD x i 0) (S .words-are) ∙ render-anchor l os n i h
 
-  pub count-is : getD ws 0 0 ≡ n
-  count-is = word 0 (omega arith)
+  pub count-is : getD ws countWord 0 ≡ n
+  count-is = anchor countWord (omega arith)
 
-  pub spare-is : getD ws 3 0 ≡ 0
-  spare-is = word 3 (omega arith)
+  pub spare-is : getD ws spareWord 0 ≡ 0
+  spare-is = anchor spareWord (omega arith)
 
-  pub node-word : (m f : ℕ) → m < n → f < nodeWords → getD ws (place m f) 0 ≡ fieldAt l (numberIn os) (getD os m none)
-      f
-  node-word m f lt h = ap (λ (x : List ℕ). getD x (place m f) 0) (S .words-are) ∙ F.render-node l os n m f lt h
+  pub node-word : (m f : ℕ) → m < n → IsField f → getD ws (place m f) 0 ≡ fieldAt l (numberIn os) (getD os m none) f
+  node-word m f lt h = ap (λ (x : List ℕ). getD x (place m f) 0) (S .words-are) ∙ render-node l os n m f lt h
 
   found : (v b : ℕ) → hasLevel l v b ≡ true → (numberIn os (suc v) b < n) ×
       (getD os (numberIn os (suc v) b) none ≡ some (node (suc v) b))
@@ -82,15 +83,15 @@ module _ (n : ℕ) (l : List Entry) (os : Places) (ws : List ℕ) (S : Prescribe
       let (lt, k) = found v b t in
       let inside : any (within (tierOrder (suc v)) b) l ≡ true = has-within l (suc v) b
       (sym (has-same (S .valid) v b) ∙ t) in
-      let w : (f : ℕ) → f < nodeWords → getD ws (place m f) 0 ≡ field l (numberIn os) (suc v) b f = λ f h. node-word m
+      let w : (f : ℕ) → IsField f → getD ws (place m f) 0 ≡ field l (numberIn os) (suc v) b f = λ f h. node-word m
       f lt h ∙ ap (λ (o : Option Node). fieldAt l (numberIn os) o f) k in
       record {
-        shift-is = w shiftField (omega arith) ∙ F.node-shift l (numberIn os) v b;
-        owner-is = w ownerField (omega arith) ∙ sym (level-owner (S .valid) (numberIn os) v b);
-        marks-are = λ μ h. w (markField + μ) (omega arith) ∙ F.node-mark l (numberIn os) v b μ h
+        shift-is = get-shift ws m l (numberIn os) (height l) v b w;
+        owner-is = get-owner ws m l (numberIn os) (height l) v b w ∙ sym (level-owner (S .valid) (numberIn os) v b);
+        marks-are = λ μ h. get-mark ws m l (numberIn os) (height l) v b w μ h
             ∙ sym (marks-same l (lower (numberIn os)) μ v b);
         slots-are = λ j h. let q : (slots * b + j) / slots ≡ b = omega arith in
-            w (slotField + j) (omega arith) ∙ F.node-slot l (numberIn os) v b j
+            get-slot ws m l (numberIn os) (height l) v b w j h
             ∙ sym (slot-same (S .valid) (numberIn os) v (slots * b + j) (rw q inside));
       }
 
@@ -108,8 +109,8 @@ module _ (n : ℕ) (l : List Entry) (os : Places) (ws : List ℕ) (S : Prescribe
     frees = λ m lt f. words-free ws m (λ i h.
         let lt′ : m < n = subst (λ (x : ℕ). m < x) count-is lt in
         node-word m i lt′ h ∙ ap (λ (o : Option Node). fieldAt l (numberIn os) o i) (free m f (getD os m none) refl));
-    head-is = word 1 (omega arith) ∙ sym (head-same (S .valid) (numberIn os));
-    marks-are = word 2 (omega arith);
+    head-is = anchor headWord (omega arith) ∙ sym (head-same (S .valid) (numberIn os));
+    marks-are = anchor marksWord (omega arith);
   }
     where
       free : (m : ℕ) → ((v b : ℕ) → hasLevel l v b ≡ true → numberIn os (suc v) b ≡ m → ⊥) → (o : Option Node) →

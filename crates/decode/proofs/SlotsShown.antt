@@ -44,7 +44,7 @@ use Rattle.decode.proofs.Restrict.{
 }
 use Rattle.decode.proofs.KeepLaws.{Every, Some, no-both, keep-none, some-with, some-no, any-some, some-any}
 use Rattle.decode.proofs.BelowLaws.{wide-pos, nest, up}
-use Rattle.decode.proofs.SaysLaws.{said}
+use Rattle.layout.proofs.SaysLaws.{said}
 use Rattle.decode.proofs.ChainLaws.{order-pow, bit-lt, in-parts}
 use Rattle.decode.proofs.FitLaws.{chain-oks}
 use Rattle.decode.proofs.CoverLaws.{covers-in, in-covers, bit-suc, unscale, unscale≤}

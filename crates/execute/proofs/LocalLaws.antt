@@ -22,7 +22,7 @@ use Rattle.tree.specs.Tree.{slots, tierOrder, height, has, slotMark}
 use Rattle.tree.specs.Slots.{Numbering, slot}
 use Rattle.tree.proofs.RelabelLaws.{mapO, covering-map}
 use Rattle.tree.proofs.StoreLaws.{within-only, marked-only, store-apart, store-covering-not}
-use Rattle.layout.specs.Words.{nodeWords, field}
+use Rattle.layout.specs.Words.{field, IsField}
 use Rattle.layout.specs.Places.{Places, Placed, numberIn, newPlaces}
 use Rattle.layout.proofs.OwnerLaws.{parent, owner-same}
 use Rattle.layout.proofs.FieldLaws.{field-same, apart-slot}
@@ -131,7 +131,7 @@ module _ (i k : ℕ) {l l′ : List Entry} (ag : Agree i k l l′) where
         number-stays n l os pl l′ (record { tier = v; number = d })
         (rw (le-leb v (height l) (omega (arith, low))) s) (rw (le-leb v (height l′) (omega (arith, low′))) s′)
 
-    pub field-agree : (f : ℕ) → f < nodeWords →
+    pub field-agree : (f : ℕ) → IsField f →
         field l′ (numberIn (newPlaces l l′ os)) (suc v) b f ≡ field l (numberIn os) (suc v) b f
     field-agree =
         field-same l l′ (numberIn os) (numberIn (newPlaces l l′ os)) v b

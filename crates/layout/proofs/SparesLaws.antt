@@ -7,11 +7,11 @@ use lib.Dec.{ltb}
 use borrow.Author.Tests.{ltb-true, ltb-false}
 use Rattle.blocks.proofs.BoolLaws.{byT}
 use Rattle.tree.specs.Tree.{slots}
-use Rattle.layout.specs.Words.{place, poolWords, nodeWords, countWord, shiftField, slotField}
+use Rattle.layout.specs.Words.{countWord, shiftPlace, slotPlace}
 use Rattle.layout.specs.WellFormed.{InUse}
-use Rattle.layout.specs.Fill.{filled}
+use Rattle.layout.specs.Fill.{filled, cleared}
 use Rattle.layout.specs.Spares.{Spares, Spared}
-use Rattle.layout.proofs.FillLaws.{filled-before, filled-after}
+use Rattle.layout.proofs.FillLaws.{filled-before, filled-after, cleared-before}
 
 pub spares-same : (low : ℕ) (ws : List ℕ) → Spares low ws ws
 spares-same low ws = record { count-is = refl; shifts-are = λ m lt. refl }
@@ -27,12 +27,12 @@ spares-then le a b =
 
 -- a run of slots holds no first word
 pub run-spares : {ws ws′ : List ℕ} (n o c : ℕ) → o + c ≤ slots →
-    ws′ ≡ filled ws (place n (slotField + o)) 0 c → (low : ℕ) → Spares low ws ws′
+    ws′ ≡ filled ws (slotPlace n o) 0 c → (low : ℕ) → Spares low ws ws′
 run-spares {ws} n o c le e low = rw e (record {
-  count-is = filled-before ws (place n (slotField + o)) 0 c countWord (omega arith);
-  shifts-are = λ m lt. byT (ltb (place m shiftField) (place n (slotField + o)))
-      (λ t. filled-before ws (place n (slotField + o)) 0 c (place m shiftField) (ltb-true _ _ t))
-      (λ t. filled-after ws (place n (slotField + o)) 0 c (place m shiftField) (omega (arith, ltb-false, t)));
+  count-is = filled-before ws (slotPlace n o) 0 c countWord (omega arith);
+  shifts-are = λ m lt. byT (ltb (shiftPlace m) (slotPlace n o))
+      (λ t. filled-before ws (slotPlace n o) 0 c (shiftPlace m) (ltb-true _ _ t))
+      (λ t. filled-after ws (slotPlace n o) 0 c (shiftPlace m) (omega (arith, ltb-false, t)));
 })
 
 pub in-use-spares : {low r : ℕ} {ws ws′ : List ℕ} → InUse low ws → r ≤ low → Spares r ws ws′ → InUse r ws′
@@ -42,10 +42,10 @@ in-use-spares u le s = record {
 }
 
 -- a node is zeroed
-spares-node : {low : ℕ} {ws : List ℕ} (n : ℕ) → low ≤ n → Spares low ws (filled ws (poolWords n) 0 nodeWords)
+spares-node : {low : ℕ} {ws : List ℕ} (n : ℕ) → low ≤ n → Spares low ws (cleared ws n)
 spares-node {ws} n le = record {
-  count-is = filled-before ws (poolWords n) 0 nodeWords countWord (omega arith);
-  shifts-are = λ m lt. filled-before ws (poolWords n) 0 nodeWords (place m shiftField) (omega arith);
+  count-is = cleared-before ws n countWord (omega arith);
+  shifts-are = λ m lt. cleared-before ws n (shiftPlace m) (omega arith);
 }
 
 pub spared-all : (low : ℕ) (ws : List ℕ) → Spared low low ws ws
@@ -60,7 +60,7 @@ spared-then a b =
     }
 
 pub spared-zeroed : {low r q : ℕ} {ws ws′ ws″ : List ℕ} (n : ℕ) → Spared low r ws ws′ →
-    ws″ ≡ filled ws′ (poolWords n) 0 nodeWords → q ≡ min r n → Spared low q ws ws″
+    ws″ ≡ cleared ws′ n → q ≡ min r n → Spared low q ws ws″
 spared-zeroed n a e d =
     rw (e, d) (record {
       at-most = omega (arith, a .at-most);

@@ -14,8 +14,8 @@ use Rattle.blocks.proofs.BoolLaws.{byT}
 use Rattle.tree.specs.Tree.{slots}
 use Rattle.decode.proofs.ChainLaws.{bit-lt}
 use Rattle.decode.proofs.CoverLaws.{bit-suc}
-use Rattle.scan.specs.Local.{Decides}
-use Rattle.scan.proofs.TestLaws.{decide-eqb}
+use Rattle.layout.specs.Reading.{Decides}
+use Rattle.layout.proofs.PassLaws.{decide-eqb}
 use Rattle.blocks.proofs.TwoWordLaws.{and-odd}
 
 -- ONE WORD

@@ -27,12 +27,13 @@ use Rattle.tree.proofs.HeightLaws.{height-fits, fits-i, fits-base, fits-tall}
 use Rattle.tree.proofs.NeededLaws.{path-up}
 use Rattle.tree.proofs.SlotLaws.{tier-up, zero-starts}
 use Rattle.tree.proofs.StoreLaws.{within-only}
-use Rattle.layout.specs.Words.{place, nodeWords, shiftField, shiftWord, ownerField, slotField, field, fieldAt}
+use Rattle.layout.specs.Words.{place, shiftField, ownerField, fieldSlot, shiftWord, field, fieldAt, shiftPlace, ownerPlace, slotPlace, IsField}
 use Rattle.layout.specs.Places.{Places, numberIn, freeCount, newPlaces, render}
 use Rattle.layout.specs.WellFormed.{WellFormed, InUse, num}
 use Rattle.layout.proofs.OwnerLaws.{parent, owner-same}
 use Rattle.layout.proofs.NewNumberLaws.{kept, was}
-use Rattle.layout.proofs.RenderWordLaws.{field-slot, slot-node, pool-length, pool-anchor, pool-node}
+use Rattle.layout.proofs.RenderWordLaws.{slot-node, pool-length, pool-anchor, pool-node}
+use Rattle.layout.proofs.FieldLaws.{field-shift, field-owner, field-slot}
 use Rattle.lookup.specs.Views.{AtNode}
 use Rattle.lookup.proofs.WordLaws.{slot-at}
 use Rattle.plan.specs.Plan.{Plan, Found, Walked, before, freeAt}
@@ -211,7 +212,7 @@ module _ {ws : List ℕ} (s : WellFormed ws) (i k w u first : ℕ) (i< : i < 2 ^
     lg = record { len = pool-length s }
 
     -- a field of a node that stays, if it is to be what it is
-    same : (t b f : ℕ) → has l t b ≡ true → f < nodeWords → field l ν t b f ≡ field₁ l l′ ν′ t b f →
+    same : (t b f : ℕ) → has l t b ≡ true → IsField f → field l ν t b f ≡ field₁ l l′ ν′ t b f →
         R (place (ν′ t b) f) ws
     same t b f o h e = record {
       is = pool-node s (ν′ t b) f (num-lt (s .n) l os (s .placed) l′ enough t b (keeps t b o)) h ∙
@@ -219,24 +220,24 @@ module _ {ws : List ℕ} (s : WellFormed ws) (i k w u first : ℕ) (i< : i < 2 ^
           (e ∙ sym (X-node (s .n) l os (s .placed) l′ enough t b f (keeps t b o) h)));
     }
 
-    shift-there : (t b : ℕ) → has l t b ≡ true → R (place (ν′ t b) shiftField) ws
-    shift-there t b o = same t b 0 o (omega arith) (sym (field₁-shift l l′ ν′ t b))
+    shift-there : (t b : ℕ) → has l t b ≡ true → R (shiftPlace (ν′ t b)) ws
+    shift-there t b o = same t b shiftField o (omega arith) (field-shift l ν t b ∙ sym (field₁-shift l l′ ν′ t b))
 
-    owner-there : (t b : ℕ) → t < H → has l t b ≡ true → R (place (ν′ t b) ownerField) ws
+    owner-there : (t b : ℕ) → t < H → has l t b ≡ true → R (ownerPlace (ν′ t b)) ws
     owner-there t b h o =
         let h′ : t < H′ = omega (arith, height-same) in
-        same t b 1 o (omega arith) (sym (owner-same l l′ ν ν′ t b h h′ (kept (s .n) l os (s .placed) l′ enough (suc t)
-        (b / slots) (parent l t b o h) (parent l′ t b (keeps t b o) h′))) ∙ sym (field₁-owner l l′ ν′ t b))
+        same t b ownerField o (omega arith) (field-owner l ν t b ∙ (sym (owner-same l l′ ν ν′ t b h h′ (kept (s .n) l os (s .placed) l′ enough (suc t)
+        (b / slots) (parent l t b o h) (parent l′ t b (keeps t b o) h′))) ∙ sym (field₁-owner l l′ ν′ t b)))
 
     slot-there : (t : ℕ) → suc u ≤ t → t < H →
-        R (place (ν′ (suc t) (block (tierOrder (suc t)) i)) (slotField + block (tierOrder t) i % slots)) ws
+        R (slotPlace (ν′ (suc t) (block (tierOrder (suc t)) i)) (block (tierOrder t) i % slots)) ws
     slot-there t a h =
         let e₁ : suc t - 1 ≡ t = omega arith in
         let e₂ : slots * block (tierOrder (suc t)) i + block (tierOrder t) i % slots ≡ block (tierOrder t) i =
         ap (λ (y : ℕ). slots * y + block (tierOrder t) i % slots) (tier-up t i) ∙ omega arith in
         let x : has l t (block (tierOrder t) i) ≡ true = has-over t a (omega arith) in
         let x′ : has l′ t (block (tierOrder t) i) ≡ true = keeps t (block (tierOrder t) i) x in
-        same (suc t) (block (tierOrder (suc t)) i) (5 + block (tierOrder t) i % slots) (has-over (suc t) (omega arith) h)
+        same (suc t) (block (tierOrder (suc t)) i) (fieldSlot (block (tierOrder t) i % slots)) (has-over (suc t) (omega arith) h)
         (omega arith)
         (field-slot l ν (suc t) (block (tierOrder (suc t)) i) (block (tierOrder t) i % slots) ∙
         (ap₂ (slot l ν) e₁ e₂ ∙ (slot-node l ν t (block (tierOrder t) i) (has-within l t (block (tierOrder t) i) x) ∙
@@ -257,9 +258,9 @@ module _ {ws : List ℕ} (s : WellFormed ws) (i k w u first : ℕ) (i< : i < 2 ^
           (omega arith))))));
     }
 
-    head-owner : R (place (ν′ H 0) ownerField) ws
-    head-owner = same H 0 1 head-has (omega arith)
-        (rw (eq-eqb H H refl, field₁-owner l l′ ν′ H 0, eq-eqb H H′ (sym height-same)))
+    head-owner : R (ownerPlace (ν′ H 0)) ws
+    head-owner = same H 0 ownerField head-has (omega arith) (field-owner l ν H 0 ∙
+        (rw (eq-eqb H H refl, field₁-owner l l′ ν′ H 0, eq-eqb H H′ (sym height-same))))
 
     head-num : getD ps′ H′ 0 ≡ ν′ H 0
     head-num = ap (λ (y : ℕ). getD ps′ y 0) height-same ∙ (ps′-is H (le-refl _) ∙ ap (ν′ H) top-zero)
@@ -296,17 +297,17 @@ module _ {ws : List ℕ} (s : WellFormed ws) (i k w u first : ℕ) (i< : i < 2 ^
 
     linked-is : linked ws ps′ i v H′ ≡ J
     linked-is =
-        let shift-stays : set J (place (getD ps′ H′ 0) shiftField) (shiftWord H′) ≡ J = set-stays (s .n) Y _ _
+        let shift-stays : set J (shiftPlace (getD ps′ H′ 0)) (shiftWord H′) ≡ J = set-stays (s .n) Y _ _
         (shift-ok (s .n) l os (s .placed) (s .valid) i k w i< k≤ new enough some-node ps′ [] plan lg)
         (rw head-num (keeps-J (shift-there H 0 head-has))) in
-        let owner-stays : set J (place (getD ps′ H′ 0) ownerField) 0 ≡ J = set-stays (s .n) Y _ _
+        let owner-stays : set J (ownerPlace (getD ps′ H′ 0)) 0 ≡ J = set-stays (s .n) Y _ _
         (owner-ok (s .n) l os (s .placed) (s .valid) i k w i< k≤ new enough some-node ps′ [] plan lg)
         (rw head-num (keeps-J head-owner)) in
         let head-stays : set J 1 (nodeWord (getD ps′ H′ 0)) ≡ J = set-stays (s .n) Y _ _
         (head-ok (s .n) l os (s .placed) (s .valid) i k w i< k≤ new enough some-node ps′ [] plan lg)
         (keeps-J head-there) in
         ap (λ (y : List ℕ). headAt y (getD ps′ H′ 0) H′) joins-is ∙
-        (ap (λ (y : List ℕ). set (set y (place (getD ps′ H′ 0) ownerField) 0) 1 (nodeWord (getD ps′ H′ 0))) shift-stays ∙
+        (ap (λ (y : List ℕ). set (set y (ownerPlace (getD ps′ H′ 0)) 0) 1 (nodeWord (getD ps′ H′ 0))) shift-stays ∙
         (ap (λ (y : List ℕ). set y 1 (nodeWord (getD ps′ H′ 0))) owner-stays ∙ head-stays))
 
     pub words-after : (ps : List ℕ) → ((t : ℕ) → v < t → t ≤ u + 1 → getD ps t 0 ≡ ν′ t (block (tierOrder t) i)) →
@@ -387,7 +388,7 @@ module _ {ws : List ℕ} (s : WellFormed ws) (i k w u first : ℕ) (i< : i < 2 ^
 -- AS THE CODE HAS IT: empty slots of the entry's node
 module _ {ws : List ℕ} (s : WellFormed ws) (i k w u a o c : ℕ) (i< : i < 2 ^ 64) (k≤ : k ≤ 63)
     (g : AtGap (s .list) (num s) i k u a) (tier-is : k / slotBits ≡ u) (o-is : o ≡ offset i k) (c-is : c ≡ span k)
-    (empty : (t : ℕ) → t < c → getD ws (place a (slotField + (o + t))) 0 ≡ 0) where
+    (empty : (t : ℕ) → t < c → getD ws (slotPlace a (o + t)) 0 ≡ 0) where
   abbrev b₀ : ℕ
   b₀ = block (tierOrder (k / slotBits + 1)) i
 
@@ -397,7 +398,7 @@ module _ {ws : List ℕ} (s : WellFormed ws) (i k w u a o c : ℕ) (i< : i < 2 ^
 
   slot-zero : (t : ℕ) → t < span k → slot (s .list) (num s) (k / slotBits) (slots * b₀ + (offset i k + t)) ≡ 0
   slot-zero t h = sym (slot-at s at₀ (offset i k + t) (omega (arith, run-fits i k))) ∙
-      subst (λ (y : ℕ). getD ws (place a (slotField + (y + t))) 0 ≡ 0) o-is (empty t (omega (arith, c-is)))
+      subst (λ (y : ℕ). getD ws (slotPlace a (y + t)) 0 ≡ 0) o-is (empty t (omega (arith, c-is)))
 
   none-in : All (λ x. block k (x .base) ≡ block k i → ⊥) (s .list)
   none-in = each (s .list) (λ x m q.

@@ -17,7 +17,7 @@ use Rattle.model.specs.declared.Entry.{Entry}
 use Rattle.model.specs.Model.{storable, storeNew}
 use Rattle.tree.specs.Tree.{height, topTier, slotBits}
 use Rattle.tree.proofs.HeightLaws.{height-fits, fits-base}
-use Rattle.layout.specs.Words.{place, lastField}
+use Rattle.layout.specs.Words.{lastPlace}
 use Rattle.layout.specs.Places.{newPlaces, render}
 use Rattle.layout.specs.WellFormed.{WellFormed, InUse}
 use Rattle.lookup.proofs.StepLaws.{in-nonempty}
@@ -72,9 +72,9 @@ module _ {ws : List ℕ} (s : WellFormed ws) (i k w n low h top next : ℕ) (i< 
 
   -- what the writes need
   pub beside-fits : (k / slotBits < top) × (top ≤ topTier) ×
-      ((u : ℕ) → k / slotBits < u → u ≤ top → place (getD ps u 0) lastField < length ws) ×
+      ((u : ℕ) → k / slotBits < u → u ≤ top → lastPlace (getD ps u 0) < length ws) ×
       (h < top → both (not (eqb (getD ws 1 0) 0)) (not (eqb (block k i) 0)) ≡ true → (u : ℕ) → h ≤ u → 1 ≤ u → u ≤ top →
-      place (getD cs u 0) lastField < length ws)
+      lastPlace (getD cs u 0) < length ws)
   beside-fits =
       let r = ready s i k w n low h top next i< k≤ ps cs head kn g in
       let len = long s ps cs i k w n next h top i< k≤ r in (

@@ -19,8 +19,8 @@ use Rattle.erase.proofs.drop_head.Tie as tie
 use Rattle.layout.proofs.SparesLaws.{spares-same}
 
 vacant-requires : tie.Need-vacant-requires
-vacant-requires c κs = let H = c .before .before .pre .1 in under-fits (H .tower .tall) (c .before .before .pre .0)
-    (H .there) (H .number) .0
+vacant-requires c κs = let H = c .before .before .pre .1 in
+    (under-fits (H .tower .tall) (c .before .before .pre .0) (H .there) (H .number) .0, (omega arith, omega arith))
 
 same-length : tie.Need-same-length
 same-length c = search needs
@@ -35,11 +35,8 @@ returns c = (
   λ low _. spares-same low _,
 )
 
-add-field : tie.Need-add-field
-add-field c = omega arith
-
-field-requires : tie.Need-field-requires
-field-requires c κs = let H = c .before .before .before .before .before .pre .1 in
+slot-word-requires : tie.Need-slot-word-requires
+slot-word-requires c κs = let H = c .before .before .before .before .before .pre .1 in
     omega (
       arith,
       under-fits (H .tower .tall) (c .before .before .before .before .before .pre .0) (H .there)
@@ -58,7 +55,7 @@ raise-requires c κs = let H = c .before .before .before .before .before .before
       under-fits (H .tower .tall) (c .before .before .before .before .before .before .before .before .before .before
           .before .pre .0) (H .there) (H .number) .0,
       under-child (H .tower .tall) (c .before .before .before .before .before .before .before .before .before .before
-          .before .pre .0) (H .there) (H .number) (c .before .before .before .before .before .field .ensures)
+          .before .pre .0) (H .there) (H .number) (c .before .before .before .before .before .slot-word .ensures)
           (c .before .before .before .before .read-slot .ensures)
           _ (c .before .before .k .given .1) .2,
     )
@@ -74,7 +71,7 @@ returns-2 c = (
   (λ k l os w t q. record {
     yes = λ e. absurd (clash e refl);
     no = λ _. stay-held w (c .before .before .before .before .before .before .before .before .before .before .pre .0)
-        t q (c .before .before .before .before .field .ensures) (c .before .before .before .read-slot .ensures)
+        t q (c .before .before .before .before .slot-word .ensures) (c .before .before .before .read-slot .ensures)
         (c .before .enum-told .given .1)
         (c .if2 .taken);
   }),
@@ -99,7 +96,7 @@ returns-3 : tie.Need-returns-3
 returns-3 c = let d = c .before .before .raise .ensures in (
   (λ k l os w t q. record {
     yes = λ _. drop-child w (c .before .before .before .before .before .before .before .before .before .before .before
-        .before .before .before .pre .0) t q (c .before .before .before .before .before .before .before .before .field
+        .before .before .before .pre .0) t q (c .before .before .before .before .before .before .before .before .slot-word
         .ensures) (c .before .before .before .before .before .before .before .read-slot .ensures)
         (c .before .before .before .before .before .before .before .before .before .before .before .vacant .ensures .0
         (not-false _ (c .before .before .before .before .before .before .before .before .before .before .if1
@@ -117,7 +114,7 @@ returns-4 : tie.Need-returns-4
 returns-4 c = let d = c .before .before .free-head .ensures in (
   (λ k l os w t q. record {
     yes = λ _. drop-held w (c .before .before .before .before .before .before .before .before .before .before .before
-        .before .before .before .pre .0) t q (c .before .before .before .before .before .before .before .before .field
+        .before .before .before .pre .0) t q (c .before .before .before .before .before .before .before .before .slot-word
         .ensures) (c .before .before .before .before .before .before .before .read-slot .ensures)
         (c .before .before .before .before .before .before .before .before .before .before .before .vacant .ensures .0
         (not-false _ (c .before .before .before .before .before .before .before .before .before .before .if1
@@ -137,7 +134,7 @@ returns-5 c = (
   (λ k l os w t q. record {
     yes = λ e. absurd (clash e refl);
     no = λ _. absurd (not-empty w (c .before .before .before .before .before .before .before .before .before .pre .0)
-        t q (c .before .before .before .field .ensures) (c .before .before .read-slot .ensures)
+        t q (c .before .before .before .slot-word .ensures) (c .before .before .read-slot .ensures)
         (c .before .before .before .before .before .before .vacant .ensures .0
         (not-false _ (c .before .before .before .before .before .if1 .left))) (c .enum-told2 .given .1));
   }),
@@ -152,7 +149,7 @@ returns-6 c = (
   (λ k l os w t q. record {
     yes = λ e. absurd (clash e refl);
     no = λ _. absurd (not-sibling w (c .before .before .before .before .before .before .before .before .before .pre
-        .0) t q (c .before .before .before .field .ensures) (c .before .before .read-slot .ensures) _
+        .0) t q (c .before .before .before .slot-word .ensures) (c .before .before .read-slot .ensures) _
         (c .enum-told3 .given .1));
   }),
   λ low _. spares-same low _,
@@ -165,8 +162,7 @@ drop-head-spec =
     vacant-requires
     same-length
     returns
-    add-field
-    field-requires
+    slot-word-requires
     read-slot-requires
     enum-known-k
     raise-requires

@@ -6,7 +6,7 @@ use native.Mathlib.Numerals.{add-one}
 use lib.ListN.{length}
 use borrow.Author.Tests.{not-true, not-false}
 use Rattle.tree.specs.Tree.{slots, topTier}
-use Rattle.layout.specs.Words.{place, lastField, maxNodes}
+use Rattle.layout.specs.Words.{maxNodes, lastPlace}
 use Rattle.layout.specs.WellFormed.{WellFormed}
 use Rattle.erase.specs.Leaving.{Cut, Cutting}
 use Rattle.erase.proofs.LeavingLaws.{cut-fits, cut-empty, cut-filled, cut-done, cut-top, cut-next, over-fits}
@@ -17,7 +17,7 @@ use Rattle.layout.specs.Spares.{Spares}
 use Rattle.layout.proofs.SparesLaws.{spares-same, spares-then}
 
 record Bounds (pool₀ pool : List ℕ) (n v : ℕ) : Type 0 where
-  node-in : place n lastField < length pool
+  node-in : lastPlace n < length pool
   node-lt : n < maxNodes
   tier-lt : v < topTier
   same : length pool ≡ length pool₀
@@ -38,7 +38,7 @@ loop-holds : tie.Need-loop-holds Inv-loop μ-loop
 loop-holds c = (bounds (c .before .pre) refl, c .before .pre, omega arith, spares-same _ _, λ ws s k. k)
 
 vacant-requires : tie.Need-vacant-requires Inv-loop μ-loop
-vacant-requires c κs = c .before .loop .inv .0 .node-in
+vacant-requires c κs = (c .before .loop .inv .0 .node-in, (omega arith, omega arith))
 
 same-length : tie.Need-same-length Inv-loop μ-loop
 same-length c = c .before .before .before .loop .inv .0 .same
@@ -53,11 +53,11 @@ returns c = let w = c .before .before .before .loop .inv in (
   ),
 )
 
-least-requires : tie.Need-least-requires Inv-loop μ-loop
-least-requires c κs = tt
+lesser-requires : tie.Need-lesser-requires Inv-loop μ-loop
+lesser-requires c κs = tt
 
-field-requires : tie.Need-field-requires Inv-loop μ-loop
-field-requires c κs = omega (arith, c .before .before .before .before .before .loop .inv .0 .node-in)
+owner-of-requires : tie.Need-owner-of-requires Inv-loop μ-loop
+owner-of-requires c κs = omega (arith, c .before .before .before .before .before .loop .inv .0 .node-in)
 
 free-head-requires : tie.Need-free-head-requires Inv-loop μ-loop
 free-head-requires c κs = c .before .before .before .before .before .before .before .before .loop .inv .0 .node-in
@@ -70,7 +70,7 @@ returns-2 : tie.Need-returns-2 Inv-loop μ-loop
 returns-2 c = let w = c .before .before .before .before .before .before .before .before .before .before .before .loop
     .inv in
     let d = c .before .before .free-head .ensures in
-    let e = c .before .before .before .before .before .before .before .least .ensures in
+    let e = c .before .before .before .before .before .before .before .lesser .ensures in
     let le = w .2 in (
       omega arith,
       (
@@ -79,7 +79,7 @@ returns-2 c = let w = c .before .before .before .before .before .before .before 
             cut-top s k′ (cut-empty s k′ (c .before .before .before .before .before .before .before .before .before
             .vacant .ensures .0 (not-false _ (c .before .before .before .before .before .before .before .before
             .if1 .left))))
-            (sym (c .before .before .before .before .before .field .ensures) ∙ c .before .before .before .before .if2
+            (sym (c .before .before .before .before .before .owner-of .ensures) ∙ c .before .before .before .before .if2
             .taken) (c .before .before .free-head .kept .0) (d .gone) (d .head) (d .rest),
       ),
     )
@@ -97,7 +97,7 @@ unlink-requires c κs = let w = c .before .before .before .before .before .befor
     (not-false _ (c .before .before .before .before .before .if1 .left))) in (
       w .0 .node-in,
       (
-        over-fits (k .formed) (k .state) g (c .before .before .field .result) (c .before .before .field .ensures)
+        over-fits (k .formed) (k .state) g (c .before .before .owner-of .result) (c .before .before .owner-of .ensures)
             (c .before .if2 .left) .0,
         omega arith,
       ),
@@ -118,14 +118,14 @@ step-cut : (c : tie.After-slice-known3 Inv-loop μ-loop) (ws : List ℕ) (s : We
     (c .before .before .before .before .before .before .before .before .before .before .before .loop .pool) →
     Cut s (c .before .before .before .before .before .before .before .before .before .before .before .before .before
     .args .i) (suc (c .before .before .before .before .before .before .before .before .before .before .before
-    .loop .v)) ((c .before .before .before .before .before .field .result - 1) / slots)
+    .loop .v)) ((c .before .before .before .before .before .owner-of .result - 1) / slots)
     (c .before .before .unlink .last .0)
 step-cut c ws s k =
     let d = c .before .before .unlink .ensures in
     let g = cut-empty s k (c .before .before .before .before .before .before .before .before .before .vacant .ensures
     .0 (not-false _ (c .before .before .before .before .before .before .before .before .if1 .left))) in
-    let p = c .before .before .before .before .before .field .result in
-    let r = c .before .before .before .before .before .field .ensures in
+    let p = c .before .before .before .before .before .owner-of .result in
+    let r = c .before .before .before .before .before .owner-of .ensures in
     let ne = c .before .before .before .before .if2 .left in
     cut-next s k g p r ne (c .before .before .unlink .kept .0) (d .gone) (d .cleared (over-fits s k g p r ne .1))
     (d .rest)
@@ -142,18 +142,18 @@ next : (c : tie.After-slice-known3 Inv-loop μ-loop) →
     .first) (c .before .before .before .before .before .before .before .before .before .before .before .before
     .before .args .tier) (c .before .before .before .before .before .before .before .before .before .before
     .before .before .before .args .low) (c .before .before .unlink .last .0)
-    ((c .before .before .before .before .before .field .result - 1) / slots)
+    ((c .before .before .before .before .before .owner-of .result - 1) / slots)
     (suc (c .before .before .before .before .before .before .before .before .before .before .before .loop .v))
-    (c .before .before .before .before .before .before .before .least .result)
+    (c .before .before .before .before .before .before .before .lesser .result)
 next c =
     let w = c .before .before .before .before .before .before .before .before .before .before .before .loop .inv in
     let k = w .1 in
     let k′ : Cutting (c .before .before .before .before .before .before .before .before .before .before .before
     .before .before .args .i) (suc (c .before .before .before .before .before .before .before .before .before
-    .before .before .loop .v)) ((c .before .before .before .before .before .field .result - 1) / slots)
+    .before .before .loop .v)) ((c .before .before .before .before .before .owner-of .result - 1) / slots)
     (c .before .before .unlink .last .0) =
     record { before = k .before; formed = k .formed; state = step-cut c (k .before) (k .formed) (k .state) } in
-    let e = c .before .before .before .before .before .before .before .least .ensures in
+    let e = c .before .before .before .before .before .before .before .lesser .ensures in
     let le = w .2 in (
       bounds k′ (c .before .before .unlink .kept .0 ∙ w .0 .same),
       k′,
@@ -184,8 +184,8 @@ prune-up-spec =
     vacant-requires
     same-length
     returns
-    least-requires
-    field-requires
+    lesser-requires
+    owner-of-requires
     free-head-requires
     same-length-2
     returns-2

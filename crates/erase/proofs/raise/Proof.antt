@@ -3,8 +3,8 @@ use borrow.Author.Needs.{needs}
 use Rattle.erase.proofs.raise.Statement.{statement}
 use Rattle.erase.proofs.raise.Tie as tie
 
-put-requires : tie.Need-put-requires
-put-requires c κs = search needs
+put-owner-requires : tie.Need-put-owner-requires
+put-owner-requires c κs = search needs
 
 free-head-requires : tie.Need-free-head-requires
 free-head-requires c κs = search needs
@@ -14,7 +14,7 @@ same-length c = search needs
 
 returns : tie.Need-returns
 returns c = raised _ _ _ (c .before .before .before .before .before .before .before .before .before .pre .1)
-    (c .before .before .before .before .before .before .put .ensures) (c .before .before .free-head .ensures)
+    (c .before .before .before .before .before .before .put-owner .ensures) (c .before .before .free-head .ensures)
 
 pub raise-spec : {M : Type 1} → statement M
-raise-spec = tie.close (tie.spec put-requires free-head-requires same-length returns)
+raise-spec = tie.close (tie.spec put-owner-requires free-head-requires same-length returns)

@@ -63,8 +63,8 @@ returns c = let f = not-true _ (c .if1 .taken) in
       ),
     )
 
-least-requires : tie.Need-least-requires Inv-loop μ-loop
-least-requires c κs = search needs
+lesser-requires : tie.Need-lesser-requires Inv-loop μ-loop
+lesser-requires c κs = search needs
 
 sub-h : tie.Need-sub-h Inv-loop μ-loop
 sub-h c = omega (
@@ -85,7 +85,7 @@ loop-again c = let f = not-false _ (c .before .if1 .left) in
     let w = c .before .before .before .before .before .before .before .before .before .before .before .before .loop
     .inv in
     let T = w .0 in
-    let e = c .least .ensures in
+    let e = c .lesser .ensures in
     let le = w .2 in
     let pos = c .before .before .before .before .before .before .before .before .before .before .before .loop-test
     .taken in
@@ -182,7 +182,7 @@ shrink-spec =
     drop-head-requires
     same-length
     returns
-    least-requires
+    lesser-requires
     sub-h
     loop-less
     loop-again

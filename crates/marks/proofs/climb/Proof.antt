@@ -9,7 +9,7 @@ use lib.ListN.{getD, set}
 use lib.Seq.{getD-set-same}
 use Rattle.blocks.specs.Blocks.{setBit}
 use Rattle.tree.specs.Tree.{slots, topTier}
-use Rattle.layout.specs.Words.{place, markField}
+use Rattle.layout.specs.Words.{markPlace}
 use Rattle.layout.specs.WellFormed.{WellFormed, num}
 use Rattle.lookup.specs.Views.{Holds}
 use Rattle.marks.proofs.HybridLaws.{
@@ -39,11 +39,8 @@ loop-holds c = let h = c .before .pre .1 in
       λ s k. climb-start s m< k,
     )
 
-add-field : tie.Need-add-field Inv-loop μ-loop
-add-field c = omega arith
-
-field-requires : tie.Need-field-requires Inv-loop μ-loop
-field-requires c κs = omega arith
+mark-word-requires : tie.Need-mark-word-requires Inv-loop μ-loop
+mark-word-requires c κs = omega arith
 
 with-bit-requires : tie.Need-with-bit-requires Inv-loop μ-loop
 with-bit-requires c κs = omega arith
@@ -56,20 +53,17 @@ returns c = λ s h.
     climb-stop s (c .before .before .before .before .before .before .pre .0)
     (c .before .before .before .before .loop .inv .1 s h)
     (sym (c .before .with-bit .ensures ∙ ap (setBit (c .before .before .before .before .loop .o)
-    (c .before .before .before .before .loop .b)) (c .before .before .field .ensures)) ∙
-    (c .if1 .taken ∙ c .before .before .field .ensures))
+    (c .before .before .before .before .loop .b)) (c .before .before .mark-word .ensures)) ∙
+    (c .if1 .taken ∙ c .before .before .mark-word .ensures))
 
-add-put : tie.Need-add-put Inv-loop μ-loop
-add-put c = omega arith
-
-put-requires : tie.Need-put-requires Inv-loop μ-loop
-put-requires c κs = omega arith
+put-mark-word-requires : tie.Need-put-mark-word-requires Inv-loop μ-loop
+put-mark-word-requires c κs = omega arith
 
 nonzero-requires : tie.Need-nonzero-requires Inv-loop μ-loop
 nonzero-requires c κs = tt
 
-field-requires-2 : tie.Need-field-requires-2 Inv-loop μ-loop
-field-requires-2 c κs = let k = c .before .before .before .before .put .kept .0 in omega arith
+owner-of-requires : tie.Need-owner-of-requires Inv-loop μ-loop
+owner-of-requires c κs = let k = c .before .before .before .before .put-mark-word .kept .0 in omega arith
 
 sub-n : tie.Need-sub-n Inv-loop μ-loop
 sub-n c = omega arith
@@ -81,33 +75,32 @@ add-v : tie.Need-add-v Inv-loop μ-loop
 add-v c = omega arith
 
 -- where the mark word stands
-abbrev word-at : tie.After-field-arg2 Inv-loop μ-loop → ℕ
-word-at c = place (c .before .before .before .before .before .before .before .before .before .before .loop .n)
-    (markField + c .before .before .before .before .before .before .before .before .before .before .before .before
+abbrev word-at : tie.After-owner-of-arg Inv-loop μ-loop → ℕ
+word-at c = markPlace (c .before .before .before .before .before .before .before .before .before .before .loop .n) (c .before .before .before .before .before .before .before .before .before .before .before .before
     .args .m)
 
 -- the mark word after the store, and the bit that goes up
-stored : (c : tie.After-field-arg2 Inv-loop μ-loop) → c .before .before .before .before .put .last .0 ≡
+stored : (c : tie.After-owner-of-arg Inv-loop μ-loop) → c .before .before .before .before .put-mark-word .last .0 ≡
     set (c .before .before .before .before .before .before .before .before .before .before .loop .pool) (word-at c)
     (setBit (c .before .before .before .before .before .before .before .before .before .before .loop .o)
     (c .before .before .before .before .before .before .before .before .before .before .loop .b)
     (getD (c .before .before .before .before .before .before .before .before .before .before .loop .pool)
     (word-at c) 0))
 stored c =
-    c .before .before .before .before .put .ensures ∙
+    c .before .before .before .before .put-mark-word .ensures ∙
     ap (set (c .before .before .before .before .before .before .before .before .before .before .loop .pool)
     (word-at c))
     (c .before .before .before .before .before .before .before .with-bit .ensures ∙ ap
     (setBit (c .before .before .before .before .before .before .before .before .before .before .loop .o)
     (c .before .before .before .before .before .before .before .before .before .before .loop .b))
-    (c .before .before .before .before .before .before .before .before .field .ensures))
+    (c .before .before .before .before .before .before .before .before .mark-word .ensures))
 
-bit-of : (c : tie.After-field-arg2 Inv-loop μ-loop) →
-    c .before .nonzero .result ≡ not (eqb (getD (c .before .before .before .before .put .last .0) (word-at c) 0) 0)
+bit-of : (c : tie.After-owner-of-arg Inv-loop μ-loop) →
+    c .before .nonzero .result ≡ not (eqb (getD (c .before .before .before .before .put-mark-word .last .0) (word-at c) 0) 0)
 bit-of c =
-    let e : getD (c .before .before .before .before .put .last .0) (word-at c) 0 ≡ c .before .before .before .before
+    let e : getD (c .before .before .before .before .put-mark-word .last .0) (word-at c) 0 ≡ c .before .before .before .before
     .before .before .before .with-bit .result =
-    ap (λ (w : List ℕ). getD w (word-at c) 0) (c .before .before .before .before .put .ensures) ∙
+    ap (λ (w : List ℕ). getD w (word-at c) 0) (c .before .before .before .before .put-mark-word .ensures) ∙
     getD-set-same (c .before .before .before .before .before .before .before .before .before .before .loop .pool)
     (word-at c) (c .before .before .before .before .before .before .before .with-bit .result) 0
     (omega (
@@ -132,21 +125,21 @@ next : (c : tie.Else2 Inv-loop μ-loop) (s : WellFormed
     .before .before .before .before .before .before .args .on)
     (suc (c .before .before .before .before .before .before .before .before .before .before .before .before .loop
     .v))
-    ((c .before .field2 .result - 1) / slots) ((c .before .field2 .result - 1) % slots)
-    (c .before .before .before .nonzero .result) (c .before .before .before .before .before .before .put .last .0)
+    ((c .before .owner-of .result - 1) / slots) ((c .before .owner-of .result - 1) % slots)
+    (c .before .before .before .nonzero .result) (c .before .before .before .before .before .before .put-mark-word .last .0)
 next c s h =
     climb-next s (c .before .before .before .before .before .before .before .before .before .before .before .before
     .before .before .pre .0) (c .before .before .before .before .before .before .before .before .before .before
     .before .before .loop .inv .1 s h) (stored (c .before .before)) (bit-of (c .before .before))
-    (c .before .field2 .ensures)
+    (c .before .owner-of .ensures)
     (c .if2 .left)
 
 bounds : (c : tie.Else2 Inv-loop μ-loop) →
     Bounds (c .before .before .before .before .before .before .before .before .before .before .before .before .before
-    .before .args .pool .now) (c .before .before .before .before .before .before .put .last .0)
-    ((c .before .field2 .result - 1) / slots) (suc
+    .before .args .pool .now) (c .before .before .before .before .before .before .put-mark-word .last .0)
+    ((c .before .owner-of .result - 1) / slots) (suc
     (c .before .before .before .before .before .before .before .before .before .before .before .before .loop .v))
-    ((c .before .field2 .result - 1) % slots)
+    ((c .before .owner-of .result - 1) % slots)
 bounds c = let h = c .before .before .before .before .before .before .before .before .before .before .before .before
     .before .before .pre .1 in climb-bounds (h .formed)
     (c .before .before .before .before .before .before .before .before .before .before .before .before .before .before
@@ -159,7 +152,7 @@ loop-again : tie.Need-loop-again Inv-loop μ-loop
 loop-again c = rw add-one (bounds c, λ s h. next c s h)
 
 mark-anchor-requires : tie.Need-mark-anchor-requires Inv-loop μ-loop
-mark-anchor-requires c κs = let k = c .before .before .before .before .before .before .before .put .kept .0 in (
+mark-anchor-requires c κs = let k = c .before .before .before .before .before .before .before .put-mark-word .kept .0 in (
   omega arith,
   c .before .before .before .before .before .before .before .before .before .before .before .before
       .before .before .before .pre .0,
@@ -167,7 +160,7 @@ mark-anchor-requires c κs = let k = c .before .before .before .before .before .
 
 same-length-2 : tie.Need-same-length-2 Inv-loop μ-loop
 same-length-2 c = c .before .before .mark-anchor .kept .0 ∙
-    (c .before .before .before .before .before .before .before .before .before .before .put .kept .0 ∙ c .before
+    (c .before .before .before .before .before .before .before .before .before .before .put-mark-word .kept .0 ∙ c .before
     .before .before .before .before .before .before .before .before .before .before .before .before .before .before
     .before .loop .inv .0 .same)
 
@@ -179,7 +172,7 @@ returns-2 c = λ s h.
     (c .before .before .before .before .before .before .before .before .before .before .before .before .before
     .before .before .before .loop .inv .1 s h) (stored (c .before .before .before .before .before .before))
     (bit-of (c .before .before .before .before .before .before))
-    (c .before .before .before .before .before .field2 .ensures)
+    (c .before .before .before .before .before .owner-of .ensures)
     (c .before .before .before .before .if2 .taken)
 
 pub climb-spec : {M : Type 1} → statement M
@@ -189,15 +182,13 @@ climb-spec =
     Inv-loop
     μ-loop
     loop-holds
-    add-field
-    field-requires
+    mark-word-requires
     with-bit-requires
     same-length
     returns
-    add-put
-    put-requires
+    put-mark-word-requires
     nonzero-requires
-    field-requires-2
+    owner-of-requires
     sub-n
     sub-o
     add-v

@@ -7,7 +7,6 @@ use lib.Dec.{eqb}
 use lib.ListN.{length, getD}
 use Rattle.blocks.specs.Choice.{both}
 use Rattle.blocks.specs.Blocks.{block}
-use Rattle.layout.specs.Words.{place, lastField}
 use Rattle.store.specs.Writes.{span, offset, linked, grownWords, entered, extended}
 use borrow.Author.Needs.{needs}
 use Rattle.store.proofs.extend.Statement.{statement}

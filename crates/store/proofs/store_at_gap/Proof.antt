@@ -33,10 +33,13 @@ span-of-requires c κs = search needs
 offset-of-requires : tie.Need-offset-of-requires
 offset-of-requires c κs = search needs
 
-all-empty-requires : tie.Need-all-empty-requires
-all-empty-requires c κs = let p = c .before .before .before .before .before .before .pre in (
+add-vacant : tie.Need-add-vacant
+add-vacant c = omega (arith, c .before .offset-of .ensures .1, c .before .before .span-of .ensures .0)
+
+vacant-requires : tie.Need-vacant-requires
+vacant-requires c κs = let p = c .before .before .before .before .before .before .pre in (
   node-fits (p .0) (p .1 .1 .1 (p .0) .at-node) .0,
-  omega (arith, c .before .offset-of .ensures .1, c .before .before .span-of .ensures .0),
+  (omega arith, omega (arith, c .before .offset-of .ensures .1, c .before .before .span-of .ensures .0)),
 )
 
 store-new-requires-2 : tie.Need-store-new-requires-2
@@ -66,7 +69,7 @@ returns-4 c = let a = c .before .before .before .before .before .before .before 
     let tier-is : a .order / slotBits ≡ a .u = omega (arith, c .before .before .before .before .before .before .before .before .before .before .if2 .left, c .before .before .before .before .before .before .before .before .before .before .before .if1 .left) in
     let o-is = c .before .before .before .before .before .before .before .before .offset-of .ensures .0 in
     let c-is = c .before .before .before .before .before .before .before .before .before .span-of .ensures .0 in
-    let empty = c .before .before .before .before .before .before .all-empty .ensures (not-false _ (c .before .before .before .before .before .if3 .left)) in
+    let empty = λ t lt. c .before .before .before .before .before .before .vacant .ensures .0 (not-false _ (c .before .before .before .before .before .if3 .left)) (c .before .before .before .before .before .before .before .before .offset-of .result + t) (omega arith) (omega arith) in
     let entered = c .before .before .before .enter .ensures in (
       λ s. slots-done s (a .index) (a .order) (a .word) (a .u) (a .a) _ _ (f .index .fits) (p .1 .0 .0) (p .1 .1 .1 s)
           tier-is o-is c-is empty (c .entry-of .ensures) entered,
@@ -86,7 +89,8 @@ store-at-gap-spec =
     returns-2
     span-of-requires
     offset-of-requires
-    all-empty-requires
+    add-vacant
+    vacant-requires
     store-new-requires-2
     same-length-3
     returns-3
