@@ -619,6 +619,17 @@ module _ {ws₀ : List ℕ} (s : WellFormed ws₀) {i v n o : ℕ} (h : Holds (s
         B≡ : block (tierOrder (suc v)) i ≡ block (tierOrder v) (h .entry .base) / slots
         B≡ = sym same-block ∙ tier-up v (h .entry .base)
 
+        slot-0 : (t : ℕ) → t < 2 ^ r → fieldUnder (erase (s .list) i) (num s) (height (s .list)) (suc v)
+            (block (tierOrder (suc v)) i) (fieldSlot (o + t)) ≡ 0
+        slot-0 t t< =
+            let w : o + 2 ^ r ≤ slots = run-wide in
+            let v≡ : suc v - 1 ≡ v = omega arith in
+            under-slot (erase (s .list) i) (num s) (suc v) (block (tierOrder (suc v)) i) (height (s .list)) (o + t) ∙
+            rw v≡ (slot-goes (s .list) (s .valid) i (h .entry) (h .covering-is) bare₀ (num s) v
+            (slots * block (tierOrder (suc v)) i + (o + t))
+            (in-run (slots * block (tierOrder (suc v)) i + (o + t)) (omega (arith, B≡, h .slot-is))
+            (omega (arith, B≡, h .slot-is))))
+
         inner : (m f : ℕ) → IsField f → slotPlace n o ≤ place m f →
             place m f < slotPlace n o + 2 ^ r → getD ws (place m f) 0 ≡ cutAt (s .list) (erase (s .list) i)
             (num s) v (getD (s .places) m none) f
@@ -636,17 +647,6 @@ module _ {ws₀ : List ℕ} (s : WellFormed ws₀) {i v n o : ℕ} (h : Holds (s
             )
             (subst (λ (k : ℕ). fieldUnder (erase (s .list) i) (num s) (height (s .list)) (suc v)
             (block (tierOrder (suc v)) i) k ≡ 0) f≡ (slot-0 t t<)))
-
-        slot-0 : (t : ℕ) → t < 2 ^ r → fieldUnder (erase (s .list) i) (num s) (height (s .list)) (suc v)
-            (block (tierOrder (suc v)) i) (fieldSlot (o + t)) ≡ 0
-        slot-0 t t< =
-            let w : o + 2 ^ r ≤ slots = run-wide in
-            let v≡ : suc v - 1 ≡ v = omega arith in
-            under-slot (erase (s .list) i) (num s) (suc v) (block (tierOrder (suc v)) i) (height (s .list)) (o + t) ∙
-            rw v≡ (slot-goes (s .list) (s .valid) i (h .entry) (h .covering-is) bare₀ (num s) v
-            (slots * block (tierOrder (suc v)) i + (o + t))
-            (in-run (slots * block (tierOrder (suc v)) i + (o + t)) (omega (arith, B≡, h .slot-is))
-            (omega (arith, B≡, h .slot-is))))
 
         go : (m f : ℕ) → IsField f → (m ≡ n → fieldSlot o ≤ f → f < fieldSlot o + 2 ^ r → ⊥) → (x : Option Node) →
             getD (s .places) m none ≡ x → fieldAt (s .list) (num s) x f ≡ cutAt (s .list) (erase (s .list) i) (num s)

@@ -152,4 +152,3 @@ module _ (l l′ : List Entry) (ν ν′ : Numbering) (v b : ℕ)
       (λ x h. rw v≡ (bits-same (λ j. slotMark l′ x v (slots * b + j)) (λ j. slotMark l x v (slots * b + j)) slots
       (λ j g. m x (slots * b + j) h (omega arith))))
       (λ j h. rw v≡ (s (slots * b + j) (omega arith)))
-

@@ -10,7 +10,7 @@ ghost use Rattle.blocks.specs.Blocks.{block, bit, NextBit};
 ghost use Rattle.tree.specs.Tree.{slots, tierOrder, topTier};
 ghost use Rattle.tree.specs.Slots.{siblingWord, nodeWord};
 ghost use Rattle.layout.specs.Words.{nodeWords, shiftPlace, ownerPlace, markPlace, slotPlace, lastPlace};
-ghost use Rattle.layout.specs.Words.{maxNodes, shiftWord, ownerWord};
+ghost use Rattle.layout.specs.Words.{shiftWord, ownerWord};
 ghost use Rattle.layout.specs.Pool.{slotOf, siblingBit, poolOf, Free};
 ghost use Rattle.layout.specs.Reading.{Decides, Internal, Blank, Vacant, Plain, NextFilled};
 ghost use Rattle.layout.specs.Fill.{filled, cleared};
@@ -187,7 +187,7 @@ pub fn sibling_word(o: u64) -> u64
 
 // The word of a slot that leads to node n.
 pub fn node_word(n: u64) -> u64
-    requires { ⌜ n < maxNodes ⌝ }
+    requires { ⌜ nodeWord n < 2 ^ 64 ⌝ }
     ensures { λ r. ⌜ r ≡ nodeWord n ⌝ }
 {
     4 * (NODE_OFFSET + n) + 2
@@ -204,8 +204,7 @@ pub fn shift_word(u: u64) -> u64
 
 // The owner word of a node in slot o of node n.
 pub fn owner_word(n: u64, o: u64) -> u64
-    requires { ⌜ n < maxNodes ⌝ }
-    requires { ⌜ o < slots ⌝ }
+    requires { ⌜ ownerWord n o < 2 ^ 64 ⌝ }
     ensures { λ r. ⌜ r ≡ ownerWord n o ⌝ }
 {
     1 + SLOTS * n + o
