@@ -39,12 +39,12 @@ use Rattle.plan.specs.Plan.{Plan, Found, Walked, before, freeAt}
 use Rattle.plan.proofs.AfterStore.{has-le, has-within, has-in, lows, tops, has-path}
 use Rattle.plan.proofs.FreeNumbers.{none-before, size-is}
 use Rattle.plan.proofs.FreshNumbers.{Tiers, tiers-same, needed-is, path-number}
-use Rattle.store.specs.Writes.{span, offset, joins, headAt, linked, entered, Laid, built}
+use Rattle.write.specs.Writes.{span, offset, joins, headAt, linked, entered, Laid, built}
 use Rattle.store.specs.Stored.{AtGap, Stores, Done, Short, entryOf}
 use Rattle.store.proofs.Right.{Long, Right, EdgeAt, set-stays, joins-same, joins-split, joins-keeps, joins-stay}
 use Rattle.store.proofs.Target.{field₁, field₁-shift, field₁-owner, field₁-slot, X, X-anchor, X-node, num-lt, edge-of}
 use Rattle.store.proofs.Final.{shift-ok, owner-ok, head-ok}
-use Rattle.store.proofs.RunLaws.{run-fits, run-slot}
+use Rattle.write.proofs.RunLaws.{run-fits, run-slot}
 use Rattle.store.proofs.EmptyRange.{has-keeps, in-use-after, stores-unmarked, path-chain-entry}
 use Rattle.store.proofs.Results.{low-le, low-used}
 

@@ -23,7 +23,7 @@ use Rattle.layout.specs.WellFormed.{WellFormed, InUse}
 use Rattle.lookup.proofs.StepLaws.{in-nonempty}
 use Rattle.plan.specs.Plan.{Known, Given}
 use Rattle.plan.proofs.AfterStore.{lows, zero-apart}
-use Rattle.store.specs.Writes.{extended}
+use Rattle.write.specs.Writes.{extended}
 use Rattle.store.specs.Stored.{Stores, Done, entryOf}
 use Rattle.store.proofs.Whole.{top-le, low-top, path-lt, long, chain-lt, some-node′, head-is, marks-is, some-is}
 use Rattle.store.proofs.EmptyRange.{in-use-after, stores-unmarked, path-chain-entry}

@@ -33,7 +33,7 @@ use Rattle.layout.proofs.RenderWordLaws.{field-mark}
 use Rattle.plan.specs.Plan.{Plan, freeTo}
 use Rattle.plan.proofs.AfterStore.{Lies, lies, on-path, in-run, off, has-le, has-within, rooms, tops, has-path, stays}
 use Rattle.plan.proofs.FreeNumbers.{below-taken}
-use Rattle.store.specs.Writes.{span, offset, linked, grownWords, entered}
+use Rattle.write.specs.Writes.{span, offset, linked, grownWords, entered}
 use Rattle.store.specs.Stored.{Stores, Done, entryOf}
 use Rattle.store.proofs.Freeing.{Freed, freed-none}
 use Rattle.store.proofs.Target.{field₁, fieldAt₁, X-anchor, X-at}
