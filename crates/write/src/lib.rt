@@ -1,10 +1,9 @@
 // What a store writes, once all that decides it is read: the edges between nodes, the marks, the entry with its siblings,
 // and the nodes that it frees. Each function leaves what a definition of specs/Writes says, whatever the words are.
 //
-// pool: the borrowed words; n: how many nodes it has, or the number of one; low: below it every node is in use; index,
-// order, word: what is stored; u: a tier; v: the tier of the slots that hold the entry; h, top: the tier of the head
-// before and after; path, chain: the numbers of the nodes over the index and over index 0, by tier; a: the entry's node;
-// o, c: its first slot and how many it takes.
+// pool: the borrowed words; n: how many nodes it has, or the number of one; low: below it every node is in use; u: a
+// tier; v: the tier of the slots that hold the entry; h, top: the tier of the head before and after; path, chain: the
+// numbers of the nodes over the index and over index 0, by tier; a: a node; o, c: the first of its slots, and how many.
 use layout::ANCHOR_WORDS;
 use layout::HEAD_WORD;
 use layout::MARK_FIELD;
@@ -23,16 +22,14 @@ use layout::fill;
 use layout::pow2;
 use layout::put;
 use layout::read_slot;
+use plan::Heads;
+use plan::Target;
 use plan::at_least_1;
-use plan::chained_of;
-use plan::starts_at_0;
 ghost use Prim.Native.Nat.{ℕ, _+_, _*_, _-_, _/_, _%_, _<_, _≤_, min};
 ghost use mathlib.Core.Path.{_≡_};
-ghost use mathlib.Core.Bool.{true, false, not};
-ghost use lib.Dec.{eqb};
+ghost use mathlib.Core.Bool.{true};
+ghost use lib.Dec.{ltb};
 ghost use lib.ListN.{getD, length};
-ghost use Rattle.blocks.specs.Choice.{both};
-ghost use Rattle.blocks.specs.Blocks.{block};
 ghost use Rattle.model.specs.Model.{maxOrder};
 ghost use Rattle.tree.specs.Tree.{slots, topTier};
 ghost use Rattle.layout.specs.Words.{place, poolWords, lastField, slotField};
@@ -43,6 +40,14 @@ ghost use Rattle.write.specs.Writes.{Spared, Laid};
 const MARK_1_FIELD: u64 = MARK_FIELD + 1;
 
 const MARK_2_FIELD: u64 = MARK_FIELD + 2;
+
+// The slots that an entry takes: its node, the first of them, how many they are, and their tier.
+pub struct Seat {
+    pub node: u64,
+    pub slot: u64,
+    pub count: u64,
+    pub tier: u64,
+}
 
 // The edge from slot o of node p to node c, of tier u.
 fn join(pool: &mut [u64], p: u64, o: u64, c: u64, u: u64)
@@ -185,28 +190,17 @@ fn free_tree(pool: &mut [u64], top: u64, n: u64, u: u64, low: u64) -> u64
     lesser(r, n)
 }
 
-// Frees what lies inside the target range: below the slots o on of node a, and, if whole, the whole old tree.
-fn clear(
-    pool: &mut [u64],
-    top: u64,
-    a: u64,
-    o: u64,
-    c: u64,
-    v: u64,
-    whole: bool,
-    word: u64,
-    h: u64,
-    low: u64,
-) -> u64
-    requires { do ⌜ poolWords top ≤ (← ⟦pool.len()⟧) ⌝ }
-    requires { ⌜ a < top ⌝ }
-    requires { ⌜ o + c ≤ slots ⌝ }
-    ensures { λ _. ⌜ now (pool .exit) ≡ Writes.cleared (now (pool .entry)) top a o c v whole word h ⌝ }
+// Frees what gives way to an entry: what lies below its slots, and, where the head grows, the whole old tree.
+fn clear(pool: &mut [u64], n: u64, seat: Seat, heads: Heads, low: u64) -> u64
+    requires { do ⌜ poolWords n ≤ (← ⟦pool.len()⟧) ⌝ }
+    requires { ⌜ (seat .node < n) × (seat .slot + seat .count ≤ slots) ⌝ }
+    ensures { λ _. ⌜ now (pool .exit) ≡ Writes.cleared (now (pool .entry)) n (seat .node) (seat .slot) (seat .count)
+        (seat .tier) (ltb (heads .old) (heads .new)) (heads .word) (heads .old) ⌝ }
     ensures { λ r. ⌜ Spared low r (now (pool .entry)) (now (pool .exit)) ⌝ }
 {
-    let r = free_slots(pool, top, a, o, c, v, low);
-    if whole {
-        return free_slot(pool, top, word, h, r);
+    let r = free_slots(pool, n, seat.node, seat.slot, seat.count, seat.tier, low);
+    if heads.old < heads.new {
+        return free_slot(pool, n, heads.word, heads.old, r);
     }
     r
 }
@@ -248,56 +242,61 @@ fn put_bottom(pool: &mut [u64], chain: &[u64], h: u64, word: u64)
     }
 }
 
-// The old head, of tier h, under a higher one.
-fn put_chain(pool: &mut [u64], chain: &[u64], m: u64, h: u64, top: u64, word: u64)
-    requires { ⌜ h < top ⌝ }
-    requires { ⌜ top ≤ topTier ⌝ }
-    requires { do ⌜ top < (← ⟦chain.len()⟧) ⌝ }
-    requires { ⌜ ((u : ℕ) → h ≤ u → 1 ≤ u → u ≤ top → place (getD (now chain) u 0) lastField < length (now pool)) ⌝ }
-    ensures { λ _. ⌜ now (pool .exit) ≡ Writes.chainWords (now (pool .entry)) (now (chain .entry)) m h top word ⌝ }
-{
-    put_bottom(pool, chain, h, word);
-    join_all(pool, chain, 0, at_least_1(h), top);
-    mark_all(pool, chain, m, h + 1, top);
-}
-
-// The nodes above the old head, if the new one is higher: the chain, or the new head's marks alone.
-fn grow(
-    pool: &mut [u64],
-    path: &[u64],
-    chain: &[u64],
-    m: u64,
-    h: u64,
-    top: u64,
-    word: u64,
-    chained: bool,
-)
-    requires { ⌜ top ≤ topTier ⌝ }
-    requires { do ⌜ top < (← ⟦path.len()⟧) ⌝ }
-    requires { do ⌜ top < (← ⟦chain.len()⟧) ⌝ }
-    requires { ⌜ place (getD (now path) top 0) lastField < length (now pool) ⌝ }
-    requires { ⌜ (h < top → chained ≡ true → (u : ℕ) → h ≤ u → 1 ≤ u → u ≤ top →
+// The old head under a higher one.
+fn put_chain(pool: &mut [u64], chain: &[u64], heads: Heads)
+    requires { ⌜ (heads .old < heads .new) × (heads .new ≤ topTier) × (heads .new < length (now chain)) ⌝ }
+    requires { ⌜ ((u : ℕ) → heads .old ≤ u → 1 ≤ u → u ≤ heads .new →
         place (getD (now chain) u 0) lastField < length (now pool)) ⌝ }
-    ensures { λ _. ⌜ now (pool .exit) ≡ Writes.grownWords (now (pool .entry)) (now (path .entry)) (now (chain .entry))
-        m h top word chained ⌝ }
+    ensures { λ _. ⌜ now (pool .exit) ≡ Writes.chainWords (now (pool .entry)) (now (chain .entry))
+        (heads .marks) (heads .old) (heads .new) (heads .word) ⌝ }
 {
-    if h >= top {
-        return;
-    }
-    if chained {
-        put_chain(pool, chain, m, h, top, word);
-        return;
-    }
-    mark_all(pool, path, m, top, top);
+    let h = heads.old;
+    let top = heads.new;
+    put_bottom(pool, chain, h, heads.word);
+    join_all(pool, chain, 0, at_least_1(h), top);
+    mark_all(pool, chain, heads.marks, h + 1, top);
 }
 
-// An entry in node a from slot o on, c slots in all.
-pub fn enter(pool: &mut [u64], a: u64, o: u64, c: u64, word: u64)
-    requires { do ⌜ place a lastField < (← ⟦pool.len()⟧) ⌝ }
-    requires { ⌜ o + c ≤ slots ⌝ }
-    requires { ⌜ 1 ≤ c ⌝ }
-    ensures { λ _. ⌜ now (pool .exit) ≡ Writes.entered (now (pool .entry)) a o c word ⌝ }
+// The nodes above the old head, which stays: the chain down to it, or, where there was none, the new head's marks alone.
+fn grow(pool: &mut [u64], path: &[u64], chain: &[u64], heads: Heads)
+    requires { ⌜ (heads .old < heads .new) × (heads .new ≤ topTier) ⌝ }
+    requires { ⌜ (heads .new < length (now path)) × (heads .new < length (now chain)) ⌝ }
+    requires { ⌜ place (getD (now path) (heads .new) 0) lastField < length (now pool) ⌝ }
+    requires { ⌜ ((heads .word ≡ 0 → ⊥) → (u : ℕ) → heads .old ≤ u → 1 ≤ u → u ≤ heads .new →
+        place (getD (now chain) u 0) lastField < length (now pool)) ⌝ }
+    ensures { λ _. ⌜ now (pool .exit) ≡ Writes.grown (now (pool .entry)) (now (path .entry)) (now (chain .entry))
+        (heads .marks) (heads .old) (heads .new) (heads .word) ⌝ }
 {
+    if heads.word == 0 {
+        mark_all(pool, path, heads.marks, heads.new, heads.new);
+        return;
+    }
+    put_chain(pool, chain, heads);
+}
+
+// The marks of a higher head, under which nothing of the old one stays.
+fn mark_top(pool: &mut [u64], path: &[u64], heads: Heads)
+    requires { ⌜ (heads .new ≤ topTier) × (heads .new < length (now path)) ⌝ }
+    requires { ⌜ place (getD (now path) (heads .new) 0) lastField < length (now pool) ⌝ }
+    ensures { λ _. ⌜ now (pool .exit) ≡ Writes.topMarked (now (pool .entry)) (now (path .entry))
+        (heads .marks) (heads .old) (heads .new) ⌝ }
+{
+    if heads.old >= heads.new {
+        return;
+    }
+    mark_all(pool, path, heads.marks, heads.new, heads.new);
+}
+
+// An entry in its slots.
+pub fn enter(pool: &mut [u64], seat: Seat, word: u64)
+    requires { do ⌜ place (seat .node) lastField < (← ⟦pool.len()⟧) ⌝ }
+    requires { ⌜ (seat .slot + seat .count ≤ slots) × (1 ≤ seat .count) ⌝ }
+    ensures { λ _. ⌜ now (pool .exit) ≡ Writes.entered (now (pool .entry))
+        (seat .node) (seat .slot) (seat .count) word ⌝ }
+{
+    let a = seat.node;
+    let o = seat.slot;
+    let c = seat.count;
     fill(
         pool,
         ANCHOR_WORDS + NODE_WORDS * a + (SLOT_FIELD + (o + 1)),
@@ -307,53 +306,18 @@ pub fn enter(pool: &mut [u64], a: u64, o: u64, c: u64, word: u64)
     put(pool, a, SLOT_FIELD + o, word);
 }
 
-// The same of the three mark words of the entry's node.
-fn fold_all(pool: &mut [u64], a: u64, o: u64, c: u64)
-    requires { do ⌜ place a lastField < (← ⟦pool.len()⟧) ⌝ }
-    requires { ⌜ o < slots ⌝ }
-    requires { ⌜ c < slots ⌝ }
-    ensures { λ _. ⌜ now (pool .exit) ≡ Writes.foldAll (now (pool .entry)) a o c ⌝ }
+// The three mark words of the entry's node: the marks of its slots give way to their OR in the first.
+fn fold_all(pool: &mut [u64], seat: Seat)
+    requires { do ⌜ place (seat .node) lastField < (← ⟦pool.len()⟧) ⌝ }
+    requires { ⌜ (seat .slot < slots) × (seat .count < slots) ⌝ }
+    ensures { λ _. ⌜ now (pool .exit) ≡ Writes.foldAll (now (pool .entry)) (seat .node) (seat .slot) (seat .count) ⌝ }
 {
+    let a = seat.node;
+    let o = seat.slot;
+    let c = seat.count;
     fold_at(pool, a, MARK_FIELD, o, c);
     fold_at(pool, a, MARK_1_FIELD, o, c);
     fold_at(pool, a, MARK_2_FIELD, o, c);
-}
-
-// All writes of a store of a new entry.
-pub fn rebuild(
-    pool: &mut [u64],
-    path: &[u64],
-    chain: &[u64],
-    index: u64,
-    v: u64,
-    a: u64,
-    o: u64,
-    c: u64,
-    n: u64,
-    h: u64,
-    top: u64,
-    head: u64,
-    marks: u64,
-    whole: bool,
-    chained: bool,
-    word: u64,
-    low: u64,
-) -> u64
-    requires { ⌜ length (now pool) ≡ poolWords n ⌝ }
-    requires { ⌜ (a < n) × (o + c ≤ slots) × (1 ≤ c) × (c < slots) × (v < top) × (top ≤ topTier) ⌝ }
-    requires { ⌜ (top < length (now path)) × (top < length (now chain)) ⌝ }
-    requires { ⌜ ((u : ℕ) → v + 1 ≤ u → u ≤ top → getD (now path) u 0 < n) ⌝ }
-    requires { ⌜ (h < top → chained ≡ true → (u : ℕ) → h ≤ u → 1 ≤ u → u ≤ top → getD (now chain) u 0 < n) ⌝ }
-    ensures { λ _. ⌜ now (pool .exit) ≡ Writes.rebuilt (now (pool .entry)) (now (path .entry)) (now (chain .entry))
-        index v a o c n h top head marks whole chained word ⌝ }
-    ensures { λ r. ⌜ Spared low r (now (pool .entry)) (Writes.cleared (now (pool .entry)) n a o c v whole head h) ⌝ }
-{
-    let r = clear(pool, n, a, o, c, v, whole, head, h, low);
-    link(pool, path, index, v, top);
-    grow(pool, path, chain, marks, h, top, head, chained);
-    enter(pool, a, o, c, word);
-    fold_all(pool, a, o, c);
-    r
 }
 
 // How many slots an entry takes.
@@ -372,49 +336,81 @@ pub fn offset_of(index: u64, order: u64) -> u64
     block_of(order / SLOT_BITS, index) % SLOTS / c * c
 }
 
-// Writes a new entry whose target range is empty and lies outside the head's block: a new head over both, the path to
-// the entry and the chain to the old head.
-pub fn extend(
-    pool: &mut [u64],
-    path: &[u64],
-    chain: &[u64],
-    index: u64,
-    order: u64,
-    word: u64,
-    h: u64,
-    top: u64,
-)
-    requires { ⌜ (3 < length (now pool)) × (order ≤ maxOrder) × (order / 6 < top) × (top ≤ topTier) ⌝ }
-    requires { ⌜ (topTier < length (now path)) × (topTier < length (now chain)) ⌝ }
-    requires { ⌜ ((u : ℕ) → order / 6 < u → u ≤ top → place (getD (now path) u 0) lastField < length (now pool)) ⌝ }
-    requires { ⌜ (h < top → both (not (eqb (getD (now pool) 1 0) 0)) (not (eqb (block order index) 0)) ≡ true →
-        (u : ℕ) → h ≤ u → 1 ≤ u → u ≤ top → place (getD (now chain) u 0) lastField < length (now pool)) ⌝ }
-    ensures { λ _. ⌜ now (pool .exit) ≡ Writes.extended (now (pool .entry)) (now (path .entry)) (now (chain .entry))
-        index order word h top ⌝ }
+// The slots of the target in its node.
+pub fn seat_of(target: Target, node: u64) -> Seat
+    requires { ⌜ target .order ≤ maxOrder ⌝ }
+    ensures { λ r. ⌜ r ≡ Writes.seatOf (target .index) (target .order) node ⌝ }
+    ensures { λ r. ⌜ (r .slot + r .count ≤ slots) × (1 ≤ r .count) × (r .count < slots) ⌝ }
 {
-    let v = order / SLOT_BITS;
-    let head = pool[HEAD_WORD];
-    let marks = pool[MARKS_WORD];
-    let zero = starts_at_0(order, index);
-    let chained = chained_of(head, zero);
-    let c = span_of(order);
-    let o = offset_of(index, order);
-    link(pool, path, index, v, top);
-    grow(pool, path, chain, marks, h, top, head, chained);
-    let a = path[(v + 1) as usize];
-    enter(pool, a, o, c, word);
+    let c = span_of(target.order);
+    let o = offset_of(target.index, target.order);
+    Seat {
+        node: node,
+        slot: o,
+        count: c,
+        tier: target.order / SLOT_BITS,
+    }
 }
 
-// Whether the slots of node a from o on, c of them, are empty.
-pub fn all_empty(pool: &[u64], a: u64, o: u64, c: u64) -> bool
-    requires { do ⌜ place a lastField < (← ⟦pool.len()⟧) ⌝ }
-    requires { ⌜ o + c ≤ slots ⌝ }
-    ensures { λ r. ⌜ (r ≡ true → (t : ℕ) → t < c →
-        getD (now (pool .entry)) (place a (slotField + (o + t))) 0 ≡ 0) ⌝ }
+// All writes of a store to which entries give way: those below its slots, or, where the head grows, the whole old tree.
+pub fn rebuild(
+    pool: &mut [u64],
+    path: &[u64],
+    target: Target,
+    heads: Heads,
+    n: u64,
+    low: u64,
+) -> u64
+    requires { ⌜ length (now pool) ≡ poolWords n ⌝ }
+    requires { ⌜ (target .order ≤ maxOrder) × (target .order / 6 < heads .new) × (heads .new ≤ topTier) ×
+        (topTier < length (now path)) ⌝ }
+    requires { ⌜ ((u : ℕ) → target .order / 6 + 1 ≤ u → u ≤ heads .new → getD (now path) u 0 < n) ⌝ }
+    ensures { λ _. ⌜ now (pool .exit) ≡ Writes.rebuilt (now (pool .entry)) (now (path .entry))
+        (target .index) (target .order) (target .word) n (heads .old) (heads .new) (heads .word) (heads .marks) ⌝ }
+    ensures { λ r. ⌜ Spared low r (now (pool .entry)) (Writes.givenWay (now (pool .entry)) (now (path .entry))
+        (target .index) (target .order) n (heads .old) (heads .new) (heads .word)) ⌝ }
+{
+    let v = target.order / SLOT_BITS;
+    let a = path[(v + 1) as usize];
+    let seat = seat_of(target, a);
+    let r = clear(pool, n, seat, heads, low);
+    link(pool, path, target.index, v, heads.new);
+    mark_top(pool, path, heads);
+    enter(pool, seat, target.word);
+    fold_all(pool, seat);
+    r
+}
+
+// Writes a new entry whose target range is empty and lies outside the head's block: a new head over both, the path to
+// the entry and the chain to the old head.
+pub fn extend(pool: &mut [u64], path: &[u64], chain: &[u64], target: Target, heads: Heads)
+    requires { ⌜ (target .order ≤ maxOrder) × (target .order / 6 < heads .new) × (heads .new ≤ topTier) ×
+        (heads .old < heads .new) ⌝ }
+    requires { ⌜ (topTier < length (now path)) × (topTier < length (now chain)) ⌝ }
+    requires { ⌜ ((u : ℕ) → target .order / 6 + 1 ≤ u → u ≤ heads .new →
+        place (getD (now path) u 0) lastField < length (now pool)) ⌝ }
+    requires { ⌜ ((heads .word ≡ 0 → ⊥) → (u : ℕ) → heads .old ≤ u → 1 ≤ u → u ≤ heads .new →
+        place (getD (now chain) u 0) lastField < length (now pool)) ⌝ }
+    ensures { λ _. ⌜ now (pool .exit) ≡ Writes.extended (now (pool .entry)) (now (path .entry)) (now (chain .entry))
+        (target .index) (target .order) (target .word) (heads .old) (heads .new) (heads .word) (heads .marks) ⌝ }
+{
+    let v = target.order / SLOT_BITS;
+    link(pool, path, target.index, v, heads.new);
+    grow(pool, path, chain, heads);
+    let a = path[(v + 1) as usize];
+    enter(pool, seat_of(target, a), target.word);
+}
+
+// Whether the slots are empty.
+pub fn all_empty(pool: &[u64], seat: Seat) -> bool
+    requires { do ⌜ place (seat .node) lastField < (← ⟦pool.len()⟧) ⌝ }
+    requires { ⌜ seat .slot + seat .count ≤ slots ⌝ }
+    ensures { λ r. ⌜ (r ≡ true → (t : ℕ) → t < seat .count →
+        getD (now (pool .entry)) (place (seat .node) (slotField + (seat .slot + t))) 0 ≡ 0) ⌝ }
 {
     let mut t = 0;
-    while t < c {
-        if field(pool, a, SLOT_FIELD + (o + t)) != 0 {
+    while t < seat.count {
+        if field(pool, seat.node, SLOT_FIELD + (seat.slot + t)) != 0 {
             return false;
         }
         t = t + 1;
@@ -436,13 +432,16 @@ pub fn lay(nums: &[u64], path: &mut [u64], first: u64, v: u64, u: u64)
 }
 
 // The edges below the node of tier u + 1, and the entry in the lowest node.
-pub fn build(pool: &mut [u64], path: &[u64], index: u64, order: u64, word: u64, u: u64)
-    requires { ⌜ (order ≤ maxOrder) × (order / 6 < u) × (u < topTier) × (topTier < length (now path)) ⌝ }
-    requires { ⌜ ((t : ℕ) → order / 6 < t → t ≤ u + 1 → place (getD (now path) t 0) lastField < length (now pool)) ⌝ }
-    ensures { λ _. ⌜ now (pool .exit) ≡ Writes.built (now (pool .entry)) (now (path .entry)) index order word u ⌝ }
+pub fn build(pool: &mut [u64], path: &[u64], target: Target, u: u64)
+    requires { ⌜ (target .order ≤ maxOrder) × (target .order / 6 < u) × (u < topTier) × (topTier < length (now path)) ⌝ }
+    requires { ⌜ ((t : ℕ) → target .order / 6 + 1 ≤ t → t ≤ u + 1 →
+        place (getD (now path) t 0) lastField < length (now pool)) ⌝ }
+    ensures { λ _. ⌜ now (pool .exit) ≡ Writes.built (now (pool .entry)) (now (path .entry))
+        (target .index) (target .order) (target .word) u ⌝ }
 {
-    let v = order / SLOT_BITS;
+    let index = target.index;
+    let v = target.order / SLOT_BITS;
     join_all(pool, path, index, v + 1, u + 1);
     let a = path[(v + 1) as usize];
-    enter(pool, a, offset_of(index, order), span_of(order), word);
+    enter(pool, seat_of(target, a), target.word);
 }

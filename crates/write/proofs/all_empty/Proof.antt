@@ -10,10 +10,10 @@ use Rattle.write.proofs.all_empty.Statement.{statement}
 use Rattle.write.proofs.all_empty.Tie as tie
 
 abbrev Inv-loop : tie.InvT-loop
-Inv-loop pool a o c t₀ t = (i : ℕ) → i < t → getD pool (place a (slotField + (o + i))) 0 ≡ 0
+Inv-loop pool seat t₀ t = (i : ℕ) → i < t → getD pool (place (seat .node) (slotField + (seat .slot + i))) 0 ≡ 0
 
 abbrev μ-loop : tie.MeasureT-loop
-μ-loop pool a o c t₀ t = c - t
+μ-loop pool seat t₀ t = seat .count - t
 
 loop-holds : tie.Need-loop-holds Inv-loop μ-loop
 loop-holds c = λ i q. absurd (omega arith)
@@ -38,14 +38,14 @@ loop-less c = omega arith
 
 loop-again : tie.Need-loop-again Inv-loop μ-loop
 loop-again c =
-    let z = sym (c .before .field .ensures) ∙ c .if1 .left in
-    λ i q. byT (eqb i (c .before .before .before .loop .t))
-    (λ e. let d : i ≡ c .before .before .before .loop .t = eqb-true _ _ e in rw d z)
-    (λ e. let d : i ≡ c .before .before .before .loop .t → ⊥ = eqb-false _ _ e in
-    c .before .before .before .loop .inv i (omega arith))
+    let turn = c .before .before .before .before .before .loop in
+    let z = sym (c .before .field .ensures) ∙ c .if2 .left in
+    λ i q. byT (eqb i (turn .t))
+    (λ e. let d : i ≡ turn .t = eqb-true _ _ e in rw d z)
+    (λ e. let d : i ≡ turn .t → ⊥ = eqb-false _ _ e in turn .inv i (omega arith))
 
 returns-2 : tie.Need-returns-2 Inv-loop μ-loop
-returns-2 c = λ _ t q. c .before .loop .inv t (omega arith)
+returns-2 c = λ _ t q. c .before .before .loop .inv t (omega arith)
 
 pub all-empty-spec : {M : Type 1} → statement M
 all-empty-spec =
