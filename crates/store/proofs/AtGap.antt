@@ -40,12 +40,12 @@ use Rattle.plan.specs.Plan.{Plan, Found, Walked, before, freeAt}
 use Rattle.plan.proofs.AfterStore.{lows, tops, has-path}
 use Rattle.plan.proofs.FreeNumbers.{none-before, size-is}
 use Rattle.plan.proofs.FreshNumbers.{Tiers, tiers-same, needed-is, path-number}
-use Rattle.store.specs.Writes.{span, offset, joins, headAt, linked, entered, Laid, built}
+use Rattle.write.specs.Writes.{span, offset, joins, headAt, linked, entered, Laid, built}
 use Rattle.store.specs.Stored.{AtGap, Stores, Done, Short, entryOf}
 use Rattle.store.proofs.Right.{Long, Right, EdgeAt, set-stays, joins-same, joins-split, joins-keeps, joins-stay}
 use Rattle.store.proofs.Target.{field₁, field₁-shift, field₁-owner, field₁-slot, X, X-anchor, X-node, num-lt, edge-of}
 use Rattle.store.proofs.Final.{shift-ok, owner-ok, head-ok}
-use Rattle.store.proofs.RunLaws.{run-fits, run-slot}
+use Rattle.write.proofs.RunLaws.{run-fits, run-slot}
 use Rattle.store.proofs.EmptyRange.{has-keeps, in-use-after, stores-unmarked, path-chain-entry}
 use Rattle.store.proofs.Results.{low-le, low-used}
 use Rattle.tree.proofs.NodeListLaws.{has-le, has-within, has-in}
@@ -386,9 +386,9 @@ module _ {ws : List ℕ} (s : WellFormed ws) (i k w u first : ℕ) (i< : i < 2 ^
         (omega (arith, needed-as, found .count-is, found .next-is))
 
 -- AS THE CODE HAS IT: empty slots of the entry's node
-module _ {ws : List ℕ} (s : WellFormed ws) (i k w u a o c : ℕ) (i< : i < 2 ^ 64) (k≤ : k ≤ 63)
-    (g : AtGap (s .list) (num s) i k u a) (tier-is : k / slotBits ≡ u) (o-is : o ≡ offset i k) (c-is : c ≡ span k)
-    (empty : (t : ℕ) → t < c → getD ws (slotPlace a (o + t)) 0 ≡ 0) where
+module _ {ws : List ℕ} (s : WellFormed ws) (i k w u a : ℕ) (i< : i < 2 ^ 64) (k≤ : k ≤ 63)
+    (g : AtGap (s .list) (num s) i k u a) (tier-is : k / slotBits ≡ u)
+    (empty : (t : ℕ) → t < span k → getD ws (slotPlace a ((offset i k + t))) 0 ≡ 0) where
   abbrev b₀ : ℕ
   b₀ = block (tierOrder (k / slotBits + 1)) i
 
@@ -397,8 +397,7 @@ module _ {ws : List ℕ} (s : WellFormed ws) (i k w u a o c : ℕ) (i< : i < 2 ^
       (subst (λ (v : ℕ). AtNode (s .list) (num s) v (block (tierOrder (suc v)) i) a) (sym tier-is) (g .at-node))
 
   slot-zero : (t : ℕ) → t < span k → slot (s .list) (num s) (k / slotBits) (slots * b₀ + (offset i k + t)) ≡ 0
-  slot-zero t h = sym (slot-at s at₀ (offset i k + t) (omega (arith, run-fits i k))) ∙
-      subst (λ (y : ℕ). getD ws (slotPlace a (y + t)) 0 ≡ 0) o-is (empty t (omega (arith, c-is)))
+  slot-zero t h = sym (slot-at s at₀ (offset i k + t) (omega (arith, run-fits i k))) ∙ empty t h
 
   none-in : All (λ x. block k (x .base) ≡ block k i → ⊥) (s .list)
   none-in = each (s .list) (λ x m q.
@@ -423,7 +422,7 @@ module _ {ws : List ℕ} (s : WellFormed ws) (i k w u a o c : ℕ) (i< : i < 2 ^
   enough₀ : needed (s .list) (storeNew (s .list) i k w) ≤ freeCount (s .places)
   enough₀ = omega (arith, none-needed)
 
-  words₀ : {ws′ : List ℕ} → ws′ ≡ entered ws a o c w → ws′ ≡ render (storeNew (s .list) i k w)
+  words₀ : {ws′ : List ℕ} → ws′ ≡ entered ws a (offset i k) (span k) w → ws′ ≡ render (storeNew (s .list) i k w)
       (newPlaces (s .list) (storeNew (s .list) i k w) (s .places)) (s .n)
   unfolding built joins
   words₀ e =
@@ -431,18 +430,18 @@ module _ {ws : List ℕ} (s : WellFormed ws) (i k w u a o c : ℕ) (i< : i < 2 ^
       let num-is : getD (upTo (λ t. a) 0 (k / slotBits + 2)) (k / slotBits + 1) 0 ≡ a = getD-upTo (λ t. a) 0 (k / slotBits + 2) (k / slotBits + 1)
       (omega arith) in
       let z : u + 1 - (k / slotBits + 1) ≡ 0 = omega arith in
-      let same : entered ws a o c w ≡ built ws (upTo (λ t. a) 0 (k / slotBits + 2)) i k w u = rw (z, num-is, o-is, c-is) refl in
+      let same : entered ws a (offset i k) (span k) w ≡ built ws (upTo (λ t. a) 0 (k / slotBits + 2)) i k w u = rw (z, num-is) refl in
       e ∙ (same ∙ words-after s i k w u a i< k≤ (g .new) none-in high₀ (g .at-node) no-tier enough₀ ps
       (λ t p q. let f : t ≡ k / slotBits + 1 = omega arith in
       let f′ : t ≡ suc u = omega arith in
       ap (λ (y : ℕ). getD (upTo (λ t. a) 0 (k / slotBits + 2)) y 0) f ∙ (num-is ∙
       rw f′ (sym (first-is s i k w u a i< k≤ (g .new) none-in high₀ (g .at-node) no-tier enough₀)))))
 
-  pub slots-done : {ws′ : List ℕ} {e : Entry} → e ≡ entryOf i k w 0 → ws′ ≡ entered ws a o c w →
+  pub slots-done : {ws′ : List ℕ} {e : Entry} → e ≡ entryOf i k w 0 → ws′ ≡ entered ws a (offset i k) (span k) w →
       Stores (s .n) (s .list) (s .places) (storeNew (s .list) i k w) i ws ws′ (Done e)
   slots-done q e = stores-unmarked s i k w i< k≤ (g .new) none-in enough₀ q (words₀ e)
 
-  pub slots-used : {ws′ : List ℕ} {low : ℕ} → T (storable w) → w < 2 ^ 64 → InUse low ws → ws′ ≡ entered ws a o c w →
-      InUse low ws′
+  pub slots-used : {ws′ : List ℕ} {low : ℕ} → T (storable w) → w < 2 ^ 64 → InUse low ws →
+      ws′ ≡ entered ws a (offset i k) (span k) w → InUse low ws′
   slots-used {ws′} {low} st w< h e = in-use-after s i k w i< k≤ (g .new) none-in enough₀ st w< (words₀ e) low
       (omega (arith, size-is s, low-le s h)) (omega (arith, none-before (s .places) low (low-used s h)))

@@ -32,11 +32,11 @@ use Rattle.layout.proofs.RenderLaws.{render-is}
 use Rattle.plan.specs.Plan.{Plan, freeTo}
 use Rattle.plan.proofs.AfterStore.{Lies, lies, on-path, in-run, off, rooms, tops, has-path, stays}
 use Rattle.plan.proofs.FreeNumbers.{below-taken}
-use Rattle.store.specs.Writes.{span, offset, linked, grownWords, entered}
+use Rattle.write.specs.Writes.{span, offset, linked, entered}
 use Rattle.store.specs.Stored.{Stores, Done, entryOf}
 use Rattle.store.proofs.Freeing.{Freed, freed-none}
 use Rattle.store.proofs.Target.{field₁, field₁-as, fieldAt₁, X-anchor, X-at}
-use Rattle.store.proofs.Final.{enter-long, grow-long, link-long, lg₁, anchor-right, node-right}
+use Rattle.store.proofs.Final.{grownWords, enter-long, grow-long, link-long, lg₁, anchor-right, node-right}
 use Rattle.store.proofs.Results.{in-use}
 use Rattle.tree.proofs.NodeListLaws.{has-le, has-within}
 
