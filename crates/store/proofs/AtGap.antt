@@ -388,7 +388,7 @@ module _ {ws : List ℕ} (s : WellFormed ws) (i k w u first : ℕ) (i< : i < 2 ^
 -- AS THE CODE HAS IT: empty slots of the entry's node
 module _ {ws : List ℕ} (s : WellFormed ws) (i k w u a : ℕ) (i< : i < 2 ^ 64) (k≤ : k ≤ 63)
     (g : AtGap (s .list) (num s) i k u a) (tier-is : k / slotBits ≡ u)
-    (empty : (t : ℕ) → t < span k → getD ws (slotPlace a ((offset i k + t))) 0 ≡ 0) where
+    (empty : (t : ℕ) → t < span k → getD ws (slotPlace a (offset i k + t)) 0 ≡ 0) where
   abbrev b₀ : ℕ
   b₀ = block (tierOrder (k / slotBits + 1)) i
 

@@ -6,13 +6,13 @@ use mathlib.Core.Bool.{true, false, not}
 use mathlib.Core.List.{List}
 use mathlib.Core.Option.{Option, none, some}
 use native.Mathlib.Omega.{arith}
-use lib.Dec.{T, leb, ltb, eqb}
+use lib.Dec.{T, eqb}
 use lib.ListN.{length, getD}
-use borrow.Author.Tests.{leb-true, eqb-true, ltb-true}
+use borrow.Author.Tests.{eqb-true}
 use Rattle.blocks.specs.Choice.{both}
 use Rattle.blocks.specs.Lists.{any, All, nonempty}
 use Rattle.blocks.specs.Blocks.{block}
-use Rattle.blocks.proofs.BoolLaws.{byT, both-l, both-r, both-no}
+use Rattle.blocks.proofs.BoolLaws.{both-l, both-no}
 use Rattle.blocks.proofs.ListLaws.{All-map, any-none, any-in, any-keep-both, look}
 use Rattle.blocks.proofs.BitLaws.{bits-same}
 use Rattle.model.specs.declared.Entry.{Entry}
