@@ -1,7 +1,9 @@
-use Prim.Native.Nat.{_/_}
+use Prim.Native.Nat.{ℕ, _+_, _/_, _<_}
 use mathlib.Core.Path.{_≡_}
 use native.Mathlib.Omega.{arith}
+use lib.ListN.{getD}
 use Rattle.blocks.proofs.BoolLaws.{not-false}
+use Rattle.layout.specs.Words.{slotPlace}
 use Rattle.lookup.proofs.WordLaws.{node-fits}
 use Rattle.store.proofs.AtGap.{slots-done, slots-used}
 use borrow.Author.Needs.{needs}
@@ -69,7 +71,11 @@ returns-4 c = let a = c .before .before .before .before .before .before .before 
     let tier-is : a .order / slotBits ≡ a .u = omega (arith, c .before .before .before .before .before .before .before .before .before .before .if2 .left, c .before .before .before .before .before .before .before .before .before .before .before .if1 .left) in
     let o-is = c .before .before .before .before .before .before .before .before .offset-of .ensures .0 in
     let c-is = c .before .before .before .before .before .before .before .before .before .span-of .ensures .0 in
-    let empty = λ t lt. c .before .before .before .before .before .before .vacant .ensures .0 (not-false _ (c .before .before .before .before .before .if3 .left)) (c .before .before .before .before .before .before .before .before .offset-of .result + t) (omega arith) (omega arith) in
+    let o : ℕ = c .before .before .before .before .before .before .before .before .offset-of .result in
+    let n : ℕ = c .before .before .before .before .before .before .before .before .before .span-of .result in
+    let empty : (t : ℕ) → t < n → getD (a .pool .now) (slotPlace (a .a) (o + t)) 0 ≡ 0 =
+    λ t lt. c .before .before .before .before .before .before .vacant .ensures .0
+    (not-false _ (c .before .before .before .before .before .if3 .left)) (o + t) (omega arith) (omega arith) in
     let entered = c .before .before .before .enter .ensures in (
       λ s. slots-done s (a .index) (a .order) (a .word) (a .u) (a .a) _ _ (f .index .fits) (p .1 .0 .0) (p .1 .1 .1 s)
           tier-is o-is c-is empty (c .entry-of .ensures) entered,
