@@ -9,19 +9,7 @@ use native.Mathlib.Omega.{arith}
 use native.Mathlib.Nat.{le-refl, zero-add, zero-div, lt-of-mul-lt-mul-right}
 use lib.Dec.{leb, ltb, eqb}
 use lib.ListN.{length, getD}
-use borrow.Author.Tests.{
-  leb-true,
-  leb-false,
-  eqb-true,
-  eqb-false,
-  ltb-true,
-  ltb-false,
-  le-ltb,
-  le-leb,
-  lt-leb,
-  eq-eqb,
-  ne-eqb,
-}
+use borrow.Author.Tests.{leb-true, leb-false, eqb-true, eqb-false, ltb-true, ltb-false, le-leb, lt-leb, eq-eqb, ne-eqb}
 use Rattle.blocks.specs.Choice.{pick, both}
 use Rattle.blocks.specs.Lists.{any, All, In}
 use Rattle.blocks.specs.Blocks.{block}

@@ -25,7 +25,8 @@ use Rattle.tree.proofs.StoreLaws.{within-only, marked-only, store-apart, store-
 use Rattle.layout.specs.Words.{field, IsField}
 use Rattle.layout.specs.Places.{Places, Placed, numberIn, newPlaces}
 use Rattle.layout.proofs.OwnerLaws.{parent, owner-same}
-use Rattle.layout.proofs.FieldLaws.{field-same, apart-slot}
+use Rattle.layout.proofs.FieldLaws.{field-same}
+use Rattle.layout.proofs.FreshLaws.{apart-slot}
 use Rattle.layout.proofs.PlacesLaws.{number-stays}
 use Rattle.tree.proofs.NodeListLaws.{has-tier}
 

@@ -10,7 +10,7 @@ use native.Mathlib.Nat.{le-refl}
 use lib.Dec.{leb, eqb}
 use lib.ListN.{length, getD, set, length-set}
 use lib.Seq.{getD-set-same, getD-set-other}
-use borrow.Author.Tests.{leb-true, leb-false, eqb-true, eqb-false, lt-ltb, le-leb, lt-leb, ne-eqb}
+use borrow.Author.Tests.{leb-true, leb-false, eqb-true, eqb-false, le-leb, lt-leb}
 use Rattle.blocks.specs.Choice.{pick}
 use Rattle.blocks.specs.Lists.{any, All}
 use Rattle.blocks.specs.Blocks.{block, bit, bitsTo, setBit}
