@@ -384,9 +384,9 @@ module _ {ws : List ℕ} (s : WellFormed ws) (i k w u first : ℕ) (i< : i < 2 ^
         (omega (arith, needed-as, found .count-is, found .next-is))
 
 -- AS THE CODE HAS IT: empty slots of the entry's node
-module _ {ws : List ℕ} (s : WellFormed ws) (i k w u a o c : ℕ) (i< : i < 2 ^ 64) (k≤ : k ≤ 63)
-    (g : AtGap (s .list) (num s) i k u a) (tier-is : k / 6 ≡ u) (o-is : o ≡ offset i k) (c-is : c ≡ span k)
-    (empty : (t : ℕ) → t < c → getD ws (place a (slotField + (o + t))) 0 ≡ 0) where
+module _ {ws : List ℕ} (s : WellFormed ws) (i k w u a : ℕ) (i< : i < 2 ^ 64) (k≤ : k ≤ 63)
+    (g : AtGap (s .list) (num s) i k u a) (tier-is : k / 6 ≡ u)
+    (empty : (t : ℕ) → t < span k → getD ws (place a (slotField + (offset i k + t))) 0 ≡ 0) where
   abbrev b₀ : ℕ
   b₀ = block (tierOrder (k / 6 + 1)) i
 
@@ -395,8 +395,7 @@ module _ {ws : List ℕ} (s : WellFormed ws) (i k w u a o c : ℕ) (i< : i < 2 ^
       (subst (λ (v : ℕ). AtNode (s .list) (num s) v (block (tierOrder (suc v)) i) a) (sym tier-is) (g .at-node))
 
   slot-zero : (t : ℕ) → t < span k → slot (s .list) (num s) (k / 6) (slots * b₀ + (offset i k + t)) ≡ 0
-  slot-zero t h = sym (slot-at s at₀ (offset i k + t) (omega (arith, run-fits i k))) ∙
-      subst (λ (y : ℕ). getD ws (place a (slotField + (y + t))) 0 ≡ 0) o-is (empty t (omega (arith, c-is)))
+  slot-zero t h = sym (slot-at s at₀ (offset i k + t) (omega (arith, run-fits i k))) ∙ empty t h
 
   none-in : All (λ x. block k (x .base) ≡ block k i → ⊥) (s .list)
   none-in = each (s .list) (λ x m q.
@@ -421,7 +420,7 @@ module _ {ws : List ℕ} (s : WellFormed ws) (i k w u a o c : ℕ) (i< : i < 2 ^
   enough₀ : needed (s .list) (storeNew (s .list) i k w) ≤ freeCount (s .places)
   enough₀ = omega (arith, none-needed)
 
-  words₀ : {ws′ : List ℕ} → ws′ ≡ entered ws a o c w → ws′ ≡ render (storeNew (s .list) i k w)
+  words₀ : {ws′ : List ℕ} → ws′ ≡ entered ws a (offset i k) (span k) w → ws′ ≡ render (storeNew (s .list) i k w)
       (newPlaces (s .list) (storeNew (s .list) i k w) (s .places)) (s .n)
   unfolding built joins
   words₀ e =
@@ -429,18 +428,18 @@ module _ {ws : List ℕ} (s : WellFormed ws) (i k w u a o c : ℕ) (i< : i < 2 ^
       let num-is : getD (upTo (λ t. a) 0 (k / 6 + 2)) (k / 6 + 1) 0 ≡ a = getD-upTo (λ t. a) 0 (k / 6 + 2) (k / 6 + 1)
       (omega arith) in
       let z : u + 1 - (k / 6 + 1) ≡ 0 = omega arith in
-      let same : entered ws a o c w ≡ built ws (upTo (λ t. a) 0 (k / 6 + 2)) i k w u = rw (z, num-is, o-is, c-is) refl in
+      let same : entered ws a (offset i k) (span k) w ≡ built ws (upTo (λ t. a) 0 (k / 6 + 2)) i k w u = rw (z, num-is) refl in
       e ∙ (same ∙ words-after s i k w u a i< k≤ (g .new) none-in high₀ (g .at-node) no-tier enough₀ ps
       (λ t p q. let f : t ≡ k / 6 + 1 = omega arith in
       let f′ : t ≡ suc u = omega arith in
       ap (λ (y : ℕ). getD (upTo (λ t. a) 0 (k / 6 + 2)) y 0) f ∙ (num-is ∙
       rw f′ (sym (first-is s i k w u a i< k≤ (g .new) none-in high₀ (g .at-node) no-tier enough₀)))))
 
-  pub slots-done : {ws′ : List ℕ} {e : Entry} → e ≡ entryOf i k w 0 → ws′ ≡ entered ws a o c w →
+  pub slots-done : {ws′ : List ℕ} {e : Entry} → e ≡ entryOf i k w 0 → ws′ ≡ entered ws a (offset i k) (span k) w →
       Stores (s .n) (s .list) (s .places) (storeNew (s .list) i k w) i ws ws′ (Done e)
   slots-done q e = stores-unmarked s i k w i< k≤ (g .new) none-in enough₀ q (words₀ e)
 
-  pub slots-used : {ws′ : List ℕ} {low : ℕ} → T (storable w) → w < 2 ^ 64 → InUse low ws → ws′ ≡ entered ws a o c w →
-      InUse low ws′
+  pub slots-used : {ws′ : List ℕ} {low : ℕ} → T (storable w) → w < 2 ^ 64 → InUse low ws →
+      ws′ ≡ entered ws a (offset i k) (span k) w → InUse low ws′
   slots-used {ws′} {low} st w< h e = in-use-after s i k w i< k≤ (g .new) none-in enough₀ st w< (words₀ e) low
       (omega (arith, size-is s, low-le s h)) (omega (arith, none-before (s .places) low (low-used s h)))

@@ -1,6 +1,6 @@
 -- A store where nothing starts in the target range: no node goes, no mark changes, and the path, the chain and the entry
 -- are all that is written.
-use Prim.Native.Nat.{ℕ, suc, _+_, _*_, _-_, _/_, _^_, _≤_, _<_}
+use Prim.Native.Nat.{ℕ, _+_, _*_, _-_, _/_, _^_, _≤_, _<_}
 use mathlib.Core.Path.{_≡_, refl, sym, ap, subst, _∙_}
 use mathlib.Core.Bool.{true, false, not}
 use mathlib.Core.List.{List}
@@ -33,11 +33,11 @@ use Rattle.layout.proofs.RenderWordLaws.{field-mark}
 use Rattle.plan.specs.Plan.{Plan, freeTo}
 use Rattle.plan.proofs.AfterStore.{Lies, lies, on-path, in-run, off, has-le, has-within, rooms, tops, has-path, stays}
 use Rattle.plan.proofs.FreeNumbers.{below-taken}
-use Rattle.write.specs.Writes.{span, offset, linked, grownWords, entered}
+use Rattle.write.specs.Writes.{span, offset, linked, entered}
 use Rattle.store.specs.Stored.{Stores, Done, entryOf}
 use Rattle.store.proofs.Freeing.{Freed, freed-none}
 use Rattle.store.proofs.Target.{field₁, fieldAt₁, X-anchor, X-at}
-use Rattle.store.proofs.Final.{enter-long, grow-long, link-long, lg₁, anchor-right, node-right}
+use Rattle.store.proofs.Final.{grownWords, enter-long, grow-long, link-long, lg₁, anchor-right, node-right}
 use Rattle.store.proofs.Results.{in-use}
 
 -- THE TREE

@@ -25,14 +25,14 @@ run-erase-requires c κs = search needs
 enum-known-c-4 : tie.Need-enum-known-c-4
 enum-known-c-4 c = search needs
 
-run-mark-requires : tie.Need-run-mark-requires
-run-mark-requires c κs = search needs
+run-remark-requires : tie.Need-run-remark-requires
+run-remark-requires c κs = search needs
 
 enum-known-c-5 : tie.Need-enum-known-c-5
 enum-known-c-5 c = search needs
 
-run-unmark-requires : tie.Need-run-unmark-requires
-run-unmark-requires c κs = search needs
+run-remark-requires-2 : tie.Need-run-remark-requires-2
+run-remark-requires-2 c κs = search needs
 
 enum-known-c-6 : tie.Need-enum-known-c-6
 enum-known-c-6 c = search needs
@@ -76,8 +76,8 @@ same-length-4 c = search needs
 returns-4 : tie.Need-returns-4
 returns-4 c = (
   (λ s. by-command s (c .before .before .before .before .before .c4 .given .1)
-      (c .before .before .run-mark .ensures .0 s)),
-  c .before .before .run-mark .ensures .1 _ (c .before .before .before .before .before .before .before .before .pre
+      (c .before .before .run-remark .ensures .0 s)),
+  c .before .before .run-remark .ensures .1 _ (c .before .before .before .before .before .before .before .before .pre
       .1),
 )
 
@@ -87,8 +87,8 @@ same-length-5 c = search needs
 returns-5 : tie.Need-returns-5
 returns-5 c = (
   (λ s. by-command s (c .before .before .before .before .before .c5 .given .1)
-      (c .before .before .run-unmark .ensures .0 s)),
-  c .before .before .run-unmark .ensures .1 _ (c .before .before .before .before .before .before .before .before .pre
+      (c .before .before .run-remark2 .ensures .0 s)),
+  c .before .before .run-remark2 .ensures .1 _ (c .before .before .before .before .before .before .before .before .pre
       .1),
 )
 
@@ -113,9 +113,9 @@ execute-spec =
     enum-known-c-3
     run-erase-requires
     enum-known-c-4
-    run-mark-requires
+    run-remark-requires
     enum-known-c-5
-    run-unmark-requires
+    run-remark-requires-2
     enum-known-c-6
     run-find-requires
     same-length
