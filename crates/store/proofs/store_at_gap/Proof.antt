@@ -103,7 +103,7 @@ add-vacant : tie.Need-add-vacant
 add-vacant c = let x = seated-ask c in omega (arith, x .seat-of .ensures .1 .0)
 
 vacant-requires : tie.Need-vacant-requires
-vacant-requires c κs = let x = seated-ask c in (node-ok x, (omega arith, x .seat-of .ensures .1 .0))
+vacant-requires c κs = let x = seated-ask c in (node-ok x, (omega arith, omega (arith, x .seat-of .ensures .1 .0)))
 
 store-new-requires-2 : tie.Need-store-new-requires-2
 store-new-requires-2 c κs = let p = start (seated (asked-new c)) .pre in (p .0, (p .1 .0, λ s. p .1 .1 .1 s .new))
