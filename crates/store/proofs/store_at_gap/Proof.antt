@@ -25,7 +25,7 @@ abbrev beside : tie.After-seat-of → tie.Else2
 beside c = c .before
 
 abbrev seated : tie.After-vacant → tie.After-seat-of
-seated c = c .before .before
+seated c = c .before .before .before
 
 abbrev start-below : tie.After-store-below-arg → tie.Start
 start-below c = c .before .before .before .before
@@ -45,8 +45,8 @@ new c = c .before .before
 abbrev start-seat : tie.Else2 → tie.Start
 start-seat c = c .before .before .before .before
 
-abbrev seated-ask : tie.After-vacant-arg → tie.After-seat-of
-seated-ask c = c .before
+abbrev seated-ask : tie.After-struct-known2 → tie.After-seat-of
+seated-ask c = c .before .before
 
 abbrev asked-new : tie.After-store-new-arg2 → tie.After-vacant
 asked-new c = c .before .before
