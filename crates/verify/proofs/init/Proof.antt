@@ -4,7 +4,8 @@ use Prim.Native.Nat.{ℕ}
 use mathlib.Core.List.{List}
 use lib.ListN.{length, set}
 use borrow.Author.Needs.{needs}
-use Rattle.verify.proofs.EmptyLaws.{init-done, init-refused, filled-length}
+use Rattle.layout.proofs.FillLaws.{length-filled}
+use Rattle.verify.proofs.EmptyLaws.{init-done, init-refused}
 use Rattle.verify.proofs.init.Statement.{statement}
 use Rattle.verify.proofs.init.Tie as tie
 
@@ -26,7 +27,7 @@ slice-write-pool c =
     let c4 = c .before .before .before .before in
     let c5 = c4 .before in
     let s = c5 .nodes-in .ensures .sized (c4 .if1 .left) in
-    omega (arith, ap length (c .before .before .fill .ensures) ∙ filled-length _ _, s .size)
+    omega (arith, ap length (c .before .before .fill .ensures) ∙ length-filled _ _ _ _, s .size)
 
 same-length-2 : tie.Need-same-length-2
 same-length-2 c = search needs
