@@ -1,5 +1,5 @@
 -- Every reply's fields fit their widths, so that `encode` cuts nothing (R49).
-use Prim.Native.Nat.{ℕ, zero, suc, _+_, _^_, _≤_, _<_}
+use Prim.Native.Nat.{ℕ, zero, suc, _^_, _≤_, _<_}
 use mathlib.Core.Path.{_≡_, refl}
 use mathlib.Core.Bool.{not}
 use mathlib.Core.List.{List}
@@ -17,7 +17,7 @@ use Rattle.model.proofs.ValidLaws.{sorted-ok}
 use Rattle.tree.specs.Tree.{has, height, tierOrder, topTier}
 use Rattle.lookup.specs.Load.{depth, depthTo}
 use Rattle.lookup.specs.declared.Outcome.{Outcome}
-use Rattle.lookup.specs.Find.{anyMark, find, meets}
+use Rattle.lookup.specs.Find.{anyMark, meets}
 use Rattle.lookup.proofs.FindLaws.{Right, right-found, right-ended, right-paused, find-right}
 use Rattle.tree.proofs.HeightLaws.{height-most}
 use Rattle.batch.specs.declared.Command.{Command}

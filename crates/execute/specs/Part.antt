@@ -1,5 +1,5 @@
 -- The part of the pool that a command may write (R39 to R41).
-use Prim.Native.Nat.{ℕ, _-_, _/_, _*_, _^_}
+use Prim.Native.Nat.{ℕ, _*_, _^_}
 use mathlib.Core.Bool.{Bool, true, false}
 use mathlib.Core.List.{List}
 use mathlib.Core.Option.{Option, none, some}
