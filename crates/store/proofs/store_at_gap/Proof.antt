@@ -14,24 +14,21 @@ use borrow.Author.Needs.{needs}
 use Rattle.store.proofs.store_at_gap.Statement.{statement}
 use Rattle.store.proofs.store_at_gap.Tie as tie
 
--- THE PLACES IN THE CODE
-abbrev start : tie.After-seat-of → tie.Start
-start c = c .before .before .before .before .before
+-- THE PLACES IN THE CODE, each from one after it
+abbrev start : tie.Else2 → tie.Start
+start c = c .before .before .before .before
 
-abbrev above : tie.After-seat-of → tie.Else1
-above c = c .before .before
+abbrev seat : tie.After-vacant → tie.After-seat-of
+seat c = c .before .before .before
 
-abbrev beside : tie.After-seat-of → tie.Else2
-beside c = c .before
+abbrev asked : tie.After-enter → tie.After-vacant
+asked c = c .before .before .before
 
-abbrev seated : tie.After-vacant → tie.After-seat-of
-seated c = c .before .before .before
+abbrev entered-at : tie.After-slice-known5 → tie.After-enter
+entered-at c = c .before .before
 
 abbrev start-below : tie.After-store-below-arg → tie.Start
 start-below c = c .before .before .before .before
-
-abbrev below-low : tie.After-store-below-arg → tie.Then1
-below-low c = c .before
 
 abbrev below : tie.After-slice-known2 → tie.After-store-below
 below c = c .before .before
@@ -42,36 +39,12 @@ start-new c = c .before .before .before .before .before
 abbrev new : tie.After-slice-known3 → tie.After-store-new
 new c = c .before .before
 
-abbrev start-seat : tie.Else2 → tie.Start
-start-seat c = c .before .before .before .before
-
-abbrev seated-ask : tie.After-struct-known2 → tie.After-seat-of
-seated-ask c = c .before .before
-
-abbrev asked-new : tie.After-store-new-arg2 → tie.After-vacant
-asked-new c = c .before .before
-
 abbrev new-2 : tie.After-slice-known4 → tie.After-store-new2
 new-2 c = c .before .before
 
-abbrev asked-enter : tie.After-enter-arg → tie.After-vacant
-asked-enter c = c .before .before
-
-abbrev asked-entry : tie.After-slice-known5 → tie.After-vacant
-asked-entry c = c .before .before .before .before .before
-
-abbrev asked : tie.After-entry-of → tie.After-vacant
-asked c = c .before .before .before .before .before .before
-
-abbrev empty : tie.After-entry-of → tie.Else3
-empty c = c .before .before .before .before .before
-
-abbrev entered-at : tie.After-entry-of → tie.After-enter
-entered-at c = c .before .before .before
-
 -- the entry's node is one of the pool's
-node-ok : (c : tie.After-seat-of) → lastPlace (c .seat-of .result .node) < length (start c .args .pool .now)
-node-ok c = let p = start c .pre in omega (
+node-ok : (c : tie.After-seat-of) → lastPlace (c .seat-of .result .node) < length (start (c .before) .args .pool .now)
+node-ok c = let p = start (c .before) .pre in omega (
   arith,
   ap (λ (e : Seat). e .node) (c .seat-of .ensures .0),
   node-fits (p .0) (p .1 .1 .1 (p .0) .at-node) .0,
@@ -79,7 +52,7 @@ node-ok c = let p = start c .pre in omega (
 
 store-below-requires : tie.Need-store-below-requires
 store-below-requires c κs = let p = start-below c .pre in
-    (p .0, (p .1 .0, ((below-low c .if1 .taken, p .1 .1 .0), p .1 .1 .1)))
+    (p .0, (p .1 .0, ((c .before .if1 .taken, p .1 .1 .0), p .1 .1 .1)))
 
 same-length : tie.Need-same-length
 same-length c = search needs
@@ -97,16 +70,16 @@ returns-2 : tie.Need-returns-2
 returns-2 c = new c .store-new .ensures
 
 seat-of-requires : tie.Need-seat-of-requires
-seat-of-requires c κs = start-seat c .pre .1 .0 .0 .order-le
+seat-of-requires c κs = start c .pre .1 .0 .0 .order-le
 
 add-vacant : tie.Need-add-vacant
-add-vacant c = let x = seated-ask c in omega (arith, x .seat-of .ensures .1 .0)
+add-vacant c = omega (arith, c .before .before .seat-of .ensures .1 .0)
 
 vacant-requires : tie.Need-vacant-requires
-vacant-requires c κs = let x = seated-ask c in (node-ok x, (omega arith, omega (arith, x .seat-of .ensures .1 .0)))
+vacant-requires c κs = let x = c .before .before in (node-ok x, (omega arith, omega (arith, x .seat-of .ensures .1 .0)))
 
 store-new-requires-2 : tie.Need-store-new-requires-2
-store-new-requires-2 c κs = let p = start (seated (asked-new c)) .pre in (p .0, (p .1 .0, λ s. p .1 .1 .1 s .new))
+store-new-requires-2 c κs = let p = start (seat (c .before .before) .before) .pre in (p .0, (p .1 .0, λ s. p .1 .1 .1 s .new))
 
 same-length-3 : tie.Need-same-length-3
 same-length-3 c = search needs
@@ -115,23 +88,24 @@ returns-3 : tie.Need-returns-3
 returns-3 c = new-2 c .store-new2 .ensures
 
 enter-requires : tie.Need-enter-requires
-enter-requires c κs = let x = seated (asked-enter c) in
+enter-requires c κs = let x = seat (c .before .before) in
     (node-ok x, (x .seat-of .ensures .1 .0, x .seat-of .ensures .1 .1))
 
 entry-of-requires : tie.Need-entry-of-requires
-entry-of-requires c κs = start (seated (asked-entry c)) .pre .1 .0 .0 .order-le
+entry-of-requires c κs = start (seat (asked (entered-at c)) .before) .pre .1 .0 .0 .order-le
 
 same-length-4 : tie.Need-same-length-4
 same-length-4 c = search needs
 
 returns-4 : tie.Need-returns-4
-returns-4 c = let y = asked c in let x = seated y in let a = start x .args in let p = start x .pre in
+returns-4 c = let n = entered-at (c .before) in let y = asked n in let x = seat y in let z = start (x .before) in
+    let a = z .args in let p = z .pre in
     let t = a .target in let g = p .1 .0 .0 in let q = x .seat-of .ensures .0 in
-    let tier-is : t .order / slotBits ≡ a .u = omega (arith, above x .if1 .left, beside x .if2 .left) in
+    let tier-is : t .order / slotBits ≡ a .u = omega (arith, x .before .before .if1 .left, x .before .if2 .left) in
     let r : Seat = x .seat-of .result in
     let none = subst (λ (e : Seat). (j : ℕ) → j < e .count → getD (a .pool .now) (slotPlace (e .node) (e .slot + j)) 0 ≡ 0) q
-    (λ j lt. y .vacant .ensures .0 (not-false _ (empty c .if3 .left)) (r .slot + j) (omega arith) (omega arith)) in
-    let words = entered-at c .enter .ensures ∙ ap (λ (e : Seat). entered (a .pool .now) (e .node) (e .slot) (e .count)
+    (λ j lt. y .vacant .ensures .0 (not-false _ (n .before .before .if3 .left)) (r .slot + j) (omega arith) (omega arith)) in
+    let words = n .enter .ensures ∙ ap (λ (e : Seat). entered (a .pool .now) (e .node) (e .slot) (e .count)
     (t .word)) q in (
       λ s. slots-done s (t .index) (t .order) (t .word) (a .u) (a .a) (g .index-fits) (g .order-le) (p .1 .1 .1 s) tier-is
           none (c .entry-of .ensures) words,

@@ -18,27 +18,12 @@ built-is : (ws ps ws₁ ws₂ : List ℕ) (i k w u : ℕ) (s : Seat) → ws₁ �
 unfolding built
 built-is ws ps ws₁ ws₂ i k w u s e q d = d ∙ rw (e, q)
 
--- THE PLACES IN THE CODE
-abbrev start-join : tie.After-join-all-arg → tie.Start
-start-join c = c .before .before .before .before
+-- THE PLACES IN THE CODE, each from one after it
+abbrev start : tie.After-join-all-arg → tie.Start
+start c = c .before .before .before .before
 
-abbrev start-seat : tie.After-enter-arg → tie.Start
-start-seat c = c .before .before .before .before .before .before .before .before .before
-
-abbrev joined-enter : tie.After-seat-of → tie.After-join-all
-joined-enter c = c .before .before .before .before .before
-
-abbrev start-enter : tie.After-seat-of → tie.Start
-start-enter c = c .before .before .before .before .before .before .before .before .before .before
-
-abbrev start : tie.After-slice-known3 → tie.Start
-start c = c .before .before .before .before .before .before .before .before .before .before .before .before .before
-
-abbrev joined : tie.After-slice-known3 → tie.After-join-all
-joined c = c .before .before .before .before .before .before .before .before
-
-abbrev seated : tie.After-slice-known3 → tie.After-seat-of
-seated c = c .before .before .before
+abbrev joined : tie.After-enter-arg → tie.After-join-all
+joined c = c .before .before .before .before
 
 abbrev entered-at : tie.After-slice-known3 → tie.After-enter
 entered-at c = c .before .before
@@ -50,7 +35,7 @@ add-join-all-2 : tie.Need-add-join-all-2
 add-join-all-2 c = search needs
 
 join-all-requires : tie.Need-join-all-requires
-join-all-requires c κs = (omega arith, (omega arith, (omega arith, start-join c .pre .1)))
+join-all-requires c κs = (omega arith, (omega arith, (omega arith, start c .pre .1)))
 
 add-a : tie.Need-add-a
 add-a c = search needs
@@ -62,26 +47,28 @@ shared-slice-read-a : tie.Need-shared-slice-read-a
 shared-slice-read-a c = search needs
 
 seat-of-requires : tie.Need-seat-of-requires
-seat-of-requires c κs = start-seat c .pre .0 .0
+seat-of-requires c κs = start (joined c .before) .pre .0 .0
 
 enter-requires : tie.Need-enter-requires
-enter-requires c κs = let z = start-enter c in let s = c .seat-of .ensures in (
-  omega (
-    arith,
-    ap (λ (x : Seat). x .node) (s .0),
-    joined-enter c .join-all .kept .0,
-    z .pre .1 (z .args .target .order / slotBits + 1) (omega arith) (omega (arith, z .pre .0 .1)),
-  ),
-  (s .1 .0, s .1 .1),
-)
+enter-requires c κs = let j = joined (c .before) in let z = start (j .before) in
+    let s = c .seat-of .ensures in (
+      omega (
+        arith,
+        ap (λ (x : Seat). x .node) (s .0),
+        j .join-all .kept .0,
+        z .pre .1 (z .args .target .order / slotBits + 1) (omega arith) (omega (arith, z .pre .0 .1)),
+      ),
+      (s .1 .0, s .1 .1),
+    )
 
 same-length : tie.Need-same-length
 same-length c = search needs
 
 returns : tie.Need-returns
-returns c = let a = start c .args in
+returns c = let e = entered-at c in let s = e .before in let j = joined (s .before) in
+    let a = start (j .before) .args in
     built-is _ (a .path .now) _ _ (a .target .index) (a .target .order) (a .target .word) (a .u) _
-    (joined c .join-all .ensures) (seated c .seat-of .ensures .0) (entered-at c .enter .ensures)
+    (j .join-all .ensures) (s .seat-of .ensures .0) (e .enter .ensures)
 
 pub build-spec : {M : Type 1} → statement M
 build-spec =

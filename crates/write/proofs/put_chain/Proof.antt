@@ -14,49 +14,27 @@ chain-is : (ws cs ws₁ ws₂ ws₃ : List ℕ) (m h top word b : ℕ) → ws₁
     ws₃ ≡ chainWords ws cs m h top word
 chain-is ws cs ws₁ ws₂ ws₃ m h top word b e₁ q e₂ e₃ = e₃ ∙ rw (e₂, q, e₁)
 
--- THE PLACES IN THE CODE
-abbrev start-bottom : tie.After-put-bottom-arg → tie.Start
-start-bottom c = c .before .before .before
+-- THE PLACES IN THE CODE, each from one after it
+abbrev start : tie.After-put-bottom-arg → tie.Start
+start c = c .before .before .before
 
-abbrev bottom-join : tie.After-at-least-1 → tie.After-put-bottom
-bottom-join c = c .before .before .before .before
+abbrev bottom : tie.After-join-all-arg → tie.After-put-bottom
+bottom c = c .before .before .before
 
-abbrev start-join : tie.After-at-least-1 → tie.Start
-start-join c = c .before .before .before .before .before .before .before .before
-
-abbrev bottom-mark : tie.After-mark-all-arg → tie.After-put-bottom
-bottom-mark c = c .before .before .before .before .before .before .before .before
-
-abbrev joined-mark : tie.After-mark-all-arg → tie.After-join-all
-joined-mark c = c .before .before .before
-
-abbrev start-mark : tie.After-mark-all-arg → tie.Start
-start-mark c = c .before .before .before .before .before .before .before .before .before .before .before .before
-
-abbrev bottom : tie.After-slice-known4 → tie.After-put-bottom
-bottom c = c .before .before .before .before .before .before .before .before .before .before .before
-
-abbrev lowest : tie.After-slice-known4 → tie.After-at-least-1
-lowest c = c .before .before .before .before .before .before .before
-
-abbrev joined : tie.After-slice-known4 → tie.After-join-all
-joined c = c .before .before .before .before .before .before
+abbrev joined : tie.After-mark-all-arg → tie.After-join-all
+joined c = c .before .before .before
 
 abbrev marked-at : tie.After-slice-known4 → tie.After-mark-all
 marked-at c = c .before .before
 
-abbrev start : tie.After-slice-known4 → tie.Start
-start c = c .before .before .before .before .before .before .before .before .before .before .before .before .before
-    .before .before
-
 put-bottom-requires : tie.Need-put-bottom-requires
-put-bottom-requires c κs = (omega arith, λ e. start-bottom c .pre .1 1 (omega arith) (omega arith) (omega arith))
+put-bottom-requires c κs = (omega arith, λ e. start c .pre .1 1 (omega arith) (omega arith) (omega arith))
 
 at-least-1-requires : tie.Need-at-least-1-requires
 at-least-1-requires c κs = search needs
 
 join-all-requires : tie.Need-join-all-requires
-join-all-requires c κs = let m = c .at-least-1 .ensures in (
+join-all-requires c κs = let m = c .at-least-1 .ensures in let o = bottom (c .before) in (
   omega arith,
   (
     omega arith,
@@ -64,8 +42,8 @@ join-all-requires c κs = let m = c .at-least-1 .ensures in (
       omega arith,
       λ u a b. omega (
         arith,
-        bottom-join c .put-bottom .kept .0,
-        start-join c .pre .1 u (omega arith) (omega arith) b,
+        o .put-bottom .kept .0,
+        start (o .before) .pre .1 u (omega arith) (omega arith) b,
       ),
     ),
   ),
@@ -75,27 +53,28 @@ add-mark-all : tie.Need-add-mark-all
 add-mark-all c = search needs
 
 mark-all-requires : tie.Need-mark-all-requires
-mark-all-requires c κs = (
+mark-all-requires c κs = let j = joined c in let o = bottom (j .before .before) in (
   omega arith,
   (
     omega arith,
     λ u a b. omega (
       arith,
-      bottom-mark c .put-bottom .kept .0,
-      joined-mark c .join-all .kept .0,
-      start-mark c .pre .1 u (omega arith) (omega arith) b,
+      o .put-bottom .kept .0,
+      j .join-all .kept .0,
+      start (o .before) .pre .1 u (omega arith) (omega arith) b,
     ),
   ),
 )
 
 same-length : tie.Need-same-length
-same-length c = marked-at c .mark-all .kept .0 ∙ (joined c .join-all .kept .0 ∙ bottom c .put-bottom .kept .0)
+same-length c = let m = marked-at c in let j = joined (m .before) in let o = bottom (j .before .before) in
+    m .mark-all .kept .0 ∙ (j .join-all .kept .0 ∙ o .put-bottom .kept .0)
 
 returns : tie.Need-returns
-returns c = let a = start c .args in let h = a .heads in
-    chain-is (a .pool .now) (a .chain .now) _ _ _ (h .marks) (h .old) (h .new) (h .word) _
-    (bottom c .put-bottom .ensures) (lowest c .at-least-1 .ensures) (joined c .join-all .ensures)
-    (marked-at c .mark-all .ensures)
+returns c = let m = marked-at c in let j = joined (m .before) in let o = bottom (j .before .before) in
+    let a = start (o .before) .args in let h = a .heads in
+    chain-is (a .pool .now) (a .chain .now) _ _ _ (h .marks) (h .old) (h .new) (h .word) _ (o .put-bottom .ensures)
+    (j .before .at-least-1 .ensures) (j .join-all .ensures) (m .mark-all .ensures)
 
 pub put-chain-spec : {M : Type 1} → statement M
 put-chain-spec =
