@@ -70,7 +70,7 @@ pub init-refused : {ws : List ℕ} → ((n : ℕ) → Sized n ws → ⊥) → (1
 init-refused f = (rw (not-sized f), rw (not-sized f))
 
 -- WHICH IS THE POOL OF THE EMPTY LIST
-none-stand : (n : ℕ) → standing (replicate n none) ≡ []
+none-stand : (n : ℕ) → standing {A = Node} (replicate n none) ≡ []
 none-stand zero = refl
 none-stand (suc n) = none-stand n
 
