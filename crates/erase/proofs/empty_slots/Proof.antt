@@ -13,6 +13,10 @@ one : (ws : List ℕ) (p x c : ℕ) → c ≡ 1 → set ws p x ≡ filled ws p x
 unfolding filled
 one ws p x c e = let z : p + 0 ≡ p = omega arith in sym (ap (filled ws p x) e ∙ ap (λ (y : ℕ). set ws y x) z)
 
+-- THE PLACES IN THE CODE, each from one after it
+abbrev then1-from-slice-known2 : tie.After-slice-known2 → tie.Then1
+then1-from-slice-known2 c = c .before .before .before .before
+
 put-slot-requires : tie.Need-put-slot-requires
 put-slot-requires c κs = omega arith
 
@@ -20,7 +24,7 @@ same-length : tie.Need-same-length
 same-length c = search needs
 
 returns : tie.Need-returns
-returns c = c .before .before .put-slot .ensures ∙ one _ _ 0 _ (c .before .before .before .before .if1 .taken)
+returns c = c .before .before .put-slot .ensures ∙ one _ _ 0 _ (then1-from-slice-known2 c .if1 .taken)
 
 fill-slots-requires : tie.Need-fill-slots-requires
 fill-slots-requires c κs = omega arith

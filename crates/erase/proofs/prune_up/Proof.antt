@@ -34,6 +34,43 @@ Inv-loop pool₀ i first tier low n₀ v₀ floor₀ pool n v floor =
 abbrev μ-loop : tie.MeasureT-loop
 μ-loop pool₀ i first tier low n₀ v₀ floor₀ pool n v floor = topTier - v
 
+-- THE PLACES IN THE CODE, each from one after it
+abbrev loop-from-owner-of-arg : tie.After-owner-of-arg Inv-loop μ-loop → tie.At-loop Inv-loop μ-loop
+loop-from-owner-of-arg c = c .before .before .before .before .before
+
+abbrev loop-from-free-head-arg : tie.After-free-head-arg Inv-loop μ-loop → tie.At-loop Inv-loop μ-loop
+loop-from-free-head-arg c = c .before .before .before .before .before .before .before .before
+
+abbrev else1-from-unlink-arg : tie.After-unlink-arg Inv-loop μ-loop → tie.Else1 Inv-loop μ-loop
+else1-from-unlink-arg c = c .before .before .before .before .before
+
+abbrev vacant-from-unlink-arg : tie.After-unlink-arg Inv-loop μ-loop → tie.After-vacant Inv-loop μ-loop
+vacant-from-unlink-arg c = else1-from-unlink-arg c .before
+
+abbrev loop-from-unlink-arg : tie.After-unlink-arg Inv-loop μ-loop → tie.At-loop Inv-loop μ-loop
+loop-from-unlink-arg c = vacant-from-unlink-arg c .before .before
+
+abbrev then2-from-slice-known2 : tie.After-slice-known2 Inv-loop μ-loop → tie.Then2 Inv-loop μ-loop
+then2-from-slice-known2 c = c .before .before .before .before
+
+abbrev owner-of-from-slice-known2 : tie.After-slice-known2 Inv-loop μ-loop → tie.After-owner-of Inv-loop μ-loop
+owner-of-from-slice-known2 c = then2-from-slice-known2 c .before
+
+abbrev lesser-from-slice-known2 : tie.After-slice-known2 Inv-loop μ-loop → tie.After-lesser Inv-loop μ-loop
+lesser-from-slice-known2 c = owner-of-from-slice-known2 c .before .before
+
+abbrev else1-from-slice-known2 : tie.After-slice-known2 Inv-loop μ-loop → tie.Else1 Inv-loop μ-loop
+else1-from-slice-known2 c = lesser-from-slice-known2 c .before
+
+abbrev vacant-from-slice-known2 : tie.After-slice-known2 Inv-loop μ-loop → tie.After-vacant Inv-loop μ-loop
+vacant-from-slice-known2 c = else1-from-slice-known2 c .before
+
+abbrev loop-from-slice-known2 : tie.After-slice-known2 Inv-loop μ-loop → tie.At-loop Inv-loop μ-loop
+loop-from-slice-known2 c = vacant-from-slice-known2 c .before .before
+
+abbrev loop-from-slice-known3 : tie.After-slice-known3 Inv-loop μ-loop → tie.At-loop Inv-loop μ-loop
+loop-from-slice-known3 c = c .before .before .before .before .before .before .before .before .before .before .before
+
 loop-holds : tie.Need-loop-holds Inv-loop μ-loop
 loop-holds c = (bounds (c .before .pre) refl, c .before .pre, omega arith, spares-same _ _, λ ws s k. k)
 
@@ -57,29 +94,28 @@ lesser-requires : tie.Need-lesser-requires Inv-loop μ-loop
 lesser-requires c κs = tt
 
 owner-of-requires : tie.Need-owner-of-requires Inv-loop μ-loop
-owner-of-requires c κs = omega (arith, c .before .before .before .before .before .loop .inv .0 .node-in)
+owner-of-requires c κs = omega (arith, loop-from-owner-of-arg c .loop .inv .0 .node-in)
 
 free-head-requires : tie.Need-free-head-requires Inv-loop μ-loop
-free-head-requires c κs = c .before .before .before .before .before .before .before .before .loop .inv .0 .node-in
+free-head-requires c κs = loop-from-free-head-arg c .loop .inv .0 .node-in
 
 same-length-2 : tie.Need-same-length-2 Inv-loop μ-loop
-same-length-2 c = c .before .before .free-head .kept .0 ∙ c .before .before .before .before .before .before .before
-    .before .before .before .before .loop .inv .0 .same
+same-length-2 c = c .before .before .free-head .kept .0 ∙ loop-from-slice-known2 c .loop .inv .0 .same
 
 returns-2 : tie.Need-returns-2 Inv-loop μ-loop
-returns-2 c = let w = c .before .before .before .before .before .before .before .before .before .before .before .loop
+returns-2 c = let w = loop-from-slice-known2 c .loop
     .inv in
     let d = c .before .before .free-head .ensures in
-    let e = c .before .before .before .before .before .before .before .lesser .ensures in
+    let e = lesser-from-slice-known2 c .lesser .ensures in
     let le = w .2 in (
       omega arith,
       (
         spares-then (omega arith) (w .3) (freed-spares d _ (omega arith)),
         λ ws s k. let k′ = w .4 ws s k in
-            cut-top s k′ (cut-empty s k′ (c .before .before .before .before .before .before .before .before .before
-            .vacant .ensures .0 (not-false _ (c .before .before .before .before .before .before .before .before
+            cut-top s k′ (cut-empty s k′ (vacant-from-slice-known2 c
+            .vacant .ensures .0 (not-false _ (else1-from-slice-known2 c
             .if1 .left))))
-            (sym (c .before .before .before .before .before .owner-of .ensures) ∙ c .before .before .before .before .if2
+            (sym (owner-of-from-slice-known2 c .owner-of .ensures) ∙ then2-from-slice-known2 c .if2
             .taken) (c .before .before .free-head .kept .0) (d .gone) (d .head) (d .rest),
       ),
     )
@@ -91,10 +127,10 @@ sub-unlink : tie.Need-sub-unlink Inv-loop μ-loop
 sub-unlink c = omega arith
 
 unlink-requires : tie.Need-unlink-requires Inv-loop μ-loop
-unlink-requires c κs = let w = c .before .before .before .before .before .before .before .before .loop .inv in
+unlink-requires c κs = let w = loop-from-unlink-arg c .loop .inv in
     let k = w .1 in
-    let g = cut-empty (k .formed) (k .state) (c .before .before .before .before .before .before .vacant .ensures .0
-    (not-false _ (c .before .before .before .before .before .if1 .left))) in (
+    let g = cut-empty (k .formed) (k .state) (vacant-from-unlink-arg c .vacant .ensures .0
+    (not-false _ (else1-from-unlink-arg c .if1 .left))) in (
       w .0 .node-in,
       (
         over-fits (k .formed) (k .state) g (c .before .before .owner-of .result) (c .before .before .owner-of .ensures)
@@ -106,7 +142,7 @@ unlink-requires c κs = let w = c .before .before .before .before .before .befor
 add-v : tie.Need-add-v Inv-loop μ-loop
 add-v c = omega (
   arith,
-  c .before .before .before .before .before .before .before .before .before .before .before
+  loop-from-slice-known3 c
       .loop .inv .0 .tier-lt,
 )
 
@@ -167,8 +203,7 @@ loop-less : tie.Need-loop-less Inv-loop μ-loop
 loop-less c = omega (
   arith,
   next c .0 .tier-lt,
-  c .before .before .before .before .before .before .before .before
-      .before .before .before .loop .inv .0 .tier-lt,
+  loop-from-slice-known3 c .loop .inv .0 .tier-lt,
 )
 
 loop-again : tie.Need-loop-again Inv-loop μ-loop

@@ -10,6 +10,16 @@ use borrow.Author.Needs.{needs}
 use Rattle.execute.proofs.run_remark.Statement.{statement}
 use Rattle.execute.proofs.run_remark.Tie as tie
 
+-- THE PLACES IN THE CODE, each from one after it
+abbrev start-from-answered : tie.After-answered → tie.Start
+start-from-answered c = c .before .before .before .before
+
+abbrev else1-from-covered-reply : tie.After-covered-reply → tie.Else1
+else1-from-covered-reply c = c .before .before .before .before .before
+
+abbrev remarked-tag-from-covered-reply : tie.After-covered-reply → tie.After-remarked-tag
+remarked-tag-from-covered-reply c = else1-from-covered-reply c .before
+
 remarked-tag-requires : tie.Need-remarked-tag-requires
 remarked-tag-requires c κs = search needs
 
@@ -17,7 +27,7 @@ answered-requires : tie.Need-answered-requires
 answered-requires c κs = search needs
 
 returns : tie.Need-returns
-returns c = let a = c .before .before .before .before .args in (
+returns c = let a = start-from-answered c .args in (
   (λ s. leaves s (remarking (a .index) (a .mark) (a .on))
       (remark-above (s .n) (s .list) (a .index) (a .mark) (a .on) (c .before .if1 .taken))
       (c .answered .ensures ∙ ap (λ (t : ℕ). answered t markAbove 0 0) (c .before .before .remarked-tag .ensures))),
@@ -36,8 +46,8 @@ same-length c = search needs
 returns-2 : tie.Need-returns-2
 returns-2 c =
     let made = c .before .before .before .set-mark .ensures in
-    let small = c .before .before .before .before .before .if1 .left in
-    let tagged = c .before .before .before .before .before .before in
+    let small = else1-from-covered-reply c .if1 .left in
+    let tagged = remarked-tag-from-covered-reply c in
     let z = tagged .before .before in
     let a = z .args in (
       (λ s. remarks s (remarking (a .index) (a .mark) (a .on)) _ _ _ (a .on)

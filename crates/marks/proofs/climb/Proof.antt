@@ -32,6 +32,37 @@ Inv-loop pool₀ i m on n₀ v₀ o₀ b₀ pool n v o b =
 abbrev μ-loop : tie.MeasureT-loop
 μ-loop pool₀ i m on n₀ v₀ o₀ b₀ pool n v o b = topTier - v
 
+-- THE PLACES IN THE CODE, each from one after it
+abbrev loop-from-then1 : tie.Then1 Inv-loop μ-loop → tie.At-loop Inv-loop μ-loop
+loop-from-then1 c = c .before .before .before .before
+
+abbrev start-from-then1 : tie.Then1 Inv-loop μ-loop → tie.Start Inv-loop μ-loop
+start-from-then1 c = loop-from-then1 c .before .before
+
+abbrev loop-from-put-mark-word : tie.After-put-mark-word Inv-loop μ-loop → tie.At-loop Inv-loop μ-loop
+loop-from-put-mark-word c = c .before .before .before .before .before .before
+
+abbrev start-from-put-mark-word : tie.After-put-mark-word Inv-loop μ-loop → tie.Start Inv-loop μ-loop
+start-from-put-mark-word c = loop-from-put-mark-word c .before .before
+
+abbrev put-mark-word-from-owner-of-arg : tie.After-owner-of-arg Inv-loop μ-loop → tie.After-put-mark-word Inv-loop μ-loop
+put-mark-word-from-owner-of-arg c = c .before .before .before .before
+
+abbrev put-mark-word-from-mark-anchor-arg : tie.After-mark-anchor-arg Inv-loop μ-loop → tie.After-put-mark-word Inv-loop μ-loop
+put-mark-word-from-mark-anchor-arg c = c .before .before .before .before .before .before .before
+
+abbrev then2-from-slice-known3 : tie.After-slice-known3 Inv-loop μ-loop → tie.Then2 Inv-loop μ-loop
+then2-from-slice-known3 c = c .before .before .before .before
+
+abbrev owner-of-from-slice-known3 : tie.After-slice-known3 Inv-loop μ-loop → tie.After-owner-of Inv-loop μ-loop
+owner-of-from-slice-known3 c = then2-from-slice-known3 c .before
+
+abbrev owner-of-arg-from-slice-known3 : tie.After-slice-known3 Inv-loop μ-loop → tie.After-owner-of-arg Inv-loop μ-loop
+owner-of-arg-from-slice-known3 c = owner-of-from-slice-known3 c .before
+
+abbrev put-mark-word-from-slice-known3 : tie.After-slice-known3 Inv-loop μ-loop → tie.After-put-mark-word Inv-loop μ-loop
+put-mark-word-from-slice-known3 c = owner-of-arg-from-slice-known3 c .before .before .before .before
+
 loop-holds : tie.Need-loop-holds Inv-loop μ-loop
 loop-holds c = let h = c .before .pre .1 in
     let m< = c .before .pre .0 in (
@@ -46,14 +77,14 @@ with-bit-requires : tie.Need-with-bit-requires Inv-loop μ-loop
 with-bit-requires c κs = omega arith
 
 same-length : tie.Need-same-length Inv-loop μ-loop
-same-length c = c .before .before .before .before .loop .inv .0 .same
+same-length c = loop-from-then1 c .loop .inv .0 .same
 
 returns : tie.Need-returns Inv-loop μ-loop
 returns c = λ s h.
-    climb-stop s (c .before .before .before .before .before .before .pre .0)
-    (c .before .before .before .before .loop .inv .1 s h)
-    (sym (c .before .with-bit .ensures ∙ ap (setBit (c .before .before .before .before .loop .o)
-    (c .before .before .before .before .loop .b)) (c .before .before .mark-word .ensures)) ∙
+    climb-stop s (start-from-then1 c .pre .0)
+    (loop-from-then1 c .loop .inv .1 s h)
+    (sym (c .before .with-bit .ensures ∙ ap (setBit (loop-from-then1 c .loop .o)
+    (loop-from-then1 c .loop .b)) (c .before .before .mark-word .ensures)) ∙
     (c .if1 .taken ∙ c .before .before .mark-word .ensures))
 
 put-mark-word-requires : tie.Need-put-mark-word-requires Inv-loop μ-loop
@@ -63,7 +94,7 @@ nonzero-requires : tie.Need-nonzero-requires Inv-loop μ-loop
 nonzero-requires c κs = tt
 
 owner-of-requires : tie.Need-owner-of-requires Inv-loop μ-loop
-owner-of-requires c κs = let k = c .before .before .before .before .put-mark-word .kept .0 in omega arith
+owner-of-requires c κs = let k = put-mark-word-from-owner-of-arg c .put-mark-word .kept .0 in omega arith
 
 sub-n : tie.Need-sub-n Inv-loop μ-loop
 sub-n c = omega arith
@@ -152,28 +183,23 @@ loop-again : tie.Need-loop-again Inv-loop μ-loop
 loop-again c = rw add-one (bounds c, λ s h. next c s h)
 
 mark-anchor-requires : tie.Need-mark-anchor-requires Inv-loop μ-loop
-mark-anchor-requires c κs = let k = c .before .before .before .before .before .before .before .put-mark-word .kept .0 in (
+mark-anchor-requires c κs = let k = put-mark-word-from-mark-anchor-arg c .put-mark-word .kept .0 in (
   omega arith,
-  c .before .before .before .before .before .before .before .before .before .before .before .before
-      .before .before .before .pre .0,
+  start-from-put-mark-word (put-mark-word-from-mark-anchor-arg c) .pre .0,
 )
 
 same-length-2 : tie.Need-same-length-2 Inv-loop μ-loop
 same-length-2 c = c .before .before .mark-anchor .kept .0 ∙
-    (c .before .before .before .before .before .before .before .before .before .before .put-mark-word .kept .0 ∙ c .before
-    .before .before .before .before .before .before .before .before .before .before .before .before .before .before
-    .before .loop .inv .0 .same)
+    (put-mark-word-from-slice-known3 c .put-mark-word .kept .0 ∙ loop-from-put-mark-word (put-mark-word-from-slice-known3 c) .loop .inv .0 .same)
 
 returns-2 : tie.Need-returns-2 Inv-loop μ-loop
 returns-2 c = λ s h.
     c .before .before .mark-anchor .ensures ∙
-    climb-end s (c .before .before .before .before .before .before .before .before .before .before .before .before
-    .before .before .before .before .before .before .pre .0)
-    (c .before .before .before .before .before .before .before .before .before .before .before .before .before
-    .before .before .before .loop .inv .1 s h) (stored (c .before .before .before .before .before .before))
-    (bit-of (c .before .before .before .before .before .before))
-    (c .before .before .before .before .before .owner-of .ensures)
-    (c .before .before .before .before .if2 .taken)
+    climb-end s (start-from-put-mark-word (put-mark-word-from-slice-known3 c) .pre .0)
+    (loop-from-put-mark-word (put-mark-word-from-slice-known3 c) .loop .inv .1 s h) (stored (owner-of-arg-from-slice-known3 c))
+    (bit-of (owner-of-arg-from-slice-known3 c))
+    (owner-of-from-slice-known3 c .owner-of .ensures)
+    (then2-from-slice-known3 c .if2 .taken)
 
 pub climb-spec : {M : Type 1} → statement M
 climb-spec =
