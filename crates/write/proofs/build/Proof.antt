@@ -35,7 +35,7 @@ add-join-all-2 : tie.Need-add-join-all-2
 add-join-all-2 c = search needs
 
 join-all-requires : tie.Need-join-all-requires
-join-all-requires c κs = (omega arith, (omega arith, (omega arith, start c .pre .1)))
+join-all-requires c κs = (omega arith, (omega arith, (omega arith, λ t lo hi. start c .pre .1 t (omega arith) hi)))
 
 add-a : tie.Need-add-a
 add-a c = search needs
