@@ -42,12 +42,12 @@ use Rattle.plan.proofs.FreeNumbers.{none-before, size-is}
 use Rattle.plan.proofs.FreshNumbers.{Tiers, tiers-same, needed-is, path-number}
 use Rattle.write.specs.Writes.{span, offset, joins, headAt, linked, entered, Laid, built}
 use Rattle.store.specs.Stored.{AtGap, Stores, Done, Short, entryOf}
-use Rattle.store.proofs.Right.{Long, Right, EdgeAt, set-stays, joins-same, joins-split, joins-keeps, joins-stay}
+use Rattle.store.proofs.FinalWords.{Long, Right, EdgeAt, set-stays, joins-same, joins-split, joins-keeps, joins-stay}
 use Rattle.store.proofs.Target.{field₁, field₁-shift, field₁-owner, field₁-slot, X, X-anchor, X-node, num-lt, edge-of}
-use Rattle.store.proofs.Final.{shift-ok, owner-ok, head-ok}
+use Rattle.store.proofs.PathWords.{shift-ok, owner-ok, head-ok}
 use Rattle.write.proofs.RunLaws.{run-fits, run-slot}
 use Rattle.store.proofs.EmptyRange.{has-keeps, in-use-after, stores-unmarked, path-chain-entry}
-use Rattle.store.proofs.Results.{low-le, low-used}
+use Rattle.store.proofs.Outcomes.{low-le, low-used}
 use Rattle.tree.proofs.NodeListLaws.{has-le, has-within, has-in}
 
 -- how many of the e widest tiers have a new node, where those from v + 1 to u do

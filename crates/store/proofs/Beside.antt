@@ -24,7 +24,7 @@ use Rattle.lookup.proofs.StepLaws.{in-nonempty}
 use Rattle.plan.proofs.AfterStore.{lows, zero-apart}
 use Rattle.write.specs.Writes.{span, offset, linked, entered, extended}
 use Rattle.store.specs.Stored.{Ready, Stores, Done, entryOf}
-use Rattle.store.proofs.Whole.{path-lt, long, chain-lt, some-node′, head-is, marks-is, some-is}
+use Rattle.store.proofs.GivingWay.{path-lt, long, chain-lt, some-node′, head-is, marks-is, some-is}
 use Rattle.store.proofs.EmptyRange.{in-use-after, stores-unmarked, path-chain-entry}
 
 -- the chain is made if there is an old tree

@@ -36,8 +36,8 @@ use Rattle.write.specs.Writes.{span, offset, linked, entered}
 use Rattle.store.specs.Stored.{Stores, Done, entryOf}
 use Rattle.store.proofs.Freeing.{Freed, freed-none}
 use Rattle.store.proofs.Target.{field₁, field₁-as, fieldAt₁, X-anchor, X-at}
-use Rattle.store.proofs.Final.{grownWords, enter-long, grow-long, link-long, lg₁, anchor-right, node-right}
-use Rattle.store.proofs.Results.{in-use}
+use Rattle.store.proofs.PathWords.{grownWords, enter-long, grow-long, link-long, lg₁, anchor-right, node-right}
+use Rattle.store.proofs.Outcomes.{in-use}
 use Rattle.tree.proofs.NodeListLaws.{has-le, has-within}
 
 -- THE TREE

@@ -1,3 +1,4 @@
+-- `command_at`: the command of a tag whose fields begin at a place.
 use native.Mathlib.Omega.{arith}
 use mathlib.Core.Path.{ap, ap₂}
 use Rattle.batch.specs.Batch.{Load, Erase, Mark, Unmark}

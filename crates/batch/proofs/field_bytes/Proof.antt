@@ -1,3 +1,4 @@
+-- `field_bytes`: the length of a record's fields, by tag.
 use native.Mathlib.Omega.{arith}
 use borrow.Author.Tests.{ne-eqb}
 use Rattle.batch.proofs.field_bytes.Statement.{statement}

@@ -1,3 +1,4 @@
+-- `read_at`: what stands at a place of a batch.
 use Prim.Native.Nat.{ℕ, _+_}
 use mathlib.Core.Path.{_≡_, sym, ap, _∙_}
 use native.Mathlib.Omega.{arith}

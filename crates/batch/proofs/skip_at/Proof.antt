@@ -1,3 +1,4 @@
+-- `skip_at`: the place after the record at a place, by its tag and length alone.
 use native.Mathlib.Omega.{arith}
 use mathlib.Core.Path.{sym, _∙_}
 use Rattle.batch.proofs.BatchLaws.{no-head, no-tag, other-length, is-cut, skip-bad, skip-whole}

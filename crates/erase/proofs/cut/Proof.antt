@@ -1,3 +1,4 @@
+-- `cut`: takes out the entry that covers i, which has no marks.
 use native.Mathlib.Nat.{le-refl}
 use Prim.Native.Nat.{ℕ}
 use mathlib.Core.Path.{_≡_, subst}

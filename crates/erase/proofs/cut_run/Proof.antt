@@ -1,3 +1,4 @@
+-- `cut_run`: empties the slots of the entry that covers i.
 use Prim.Native.Nat.{ℕ, _+_}
 use mathlib.Core.Path.{_≡_, ap, _∙_}
 use mathlib.Core.List.{List}

@@ -1,3 +1,5 @@
+-- `drop_head`: the head n, of tier h, gives way to what its slot 0 holds, if that is all it has: a node, or, at
+-- shift 0, an entry.
 use mathlib.Core.Path.{refl}
 use native.Mathlib.Omega.{arith}
 use borrow.Author.Tests.{not-true, not-false}

@@ -1,3 +1,4 @@
+-- `empty_slots`: empties the slots of node n from o on, c of them.
 use Prim.Native.Nat.{ℕ, _+_}
 use mathlib.Core.Path.{_≡_, ap, sym, _∙_}
 use mathlib.Core.List.{List}

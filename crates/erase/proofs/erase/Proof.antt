@@ -1,3 +1,4 @@
+-- `erase`: takes out the entry that covers i.
 use mathlib.Core.Path.{sym, ap}
 use native.Mathlib.Omega.{arith}
 use lib.ListN.{length-set}

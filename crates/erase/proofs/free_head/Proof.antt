@@ -1,3 +1,4 @@
+-- `free_head`: frees the head n.
 use Rattle.erase.proofs.FreedLaws.{freed}
 use borrow.Author.Needs.{needs}
 use Rattle.erase.proofs.free_head.Statement.{statement}

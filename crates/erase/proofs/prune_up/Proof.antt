@@ -1,3 +1,4 @@
+-- `prune_up`: frees node first, which lost the entry that covered i, and those over it, as far as they are empty.
 use Prim.Native.Nat.{ℕ, suc, _-_, _/_, _<_, _≤_}
 use mathlib.Core.Path.{_≡_, refl, sym, _∙_}
 use mathlib.Core.List.{List}

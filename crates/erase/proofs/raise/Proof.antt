@@ -1,3 +1,4 @@
+-- `raise`: frees the head n, and makes node m below it, whose word is x, the head.
 use Rattle.erase.proofs.FreedLaws.{raised}
 use borrow.Author.Needs.{needs}
 use Rattle.erase.proofs.raise.Statement.{statement}

@@ -1,3 +1,5 @@
+-- `remove`: takes out the entry that covers i and stands at a spot: its marks off first, so that then no mark word
+-- changes.
 use mathlib.Core.Path.{ap, _∙_}
 use mathlib.Core.Bool.{false}
 use mathlib.Core.List.{List}

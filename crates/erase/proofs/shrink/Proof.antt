@@ -1,3 +1,4 @@
+-- `shrink`: shrinks the head, of tier top, to what the list needs.
 use borrow.Author.Needs.{needs}
 use Prim.Native.Nat.{ℕ, _≤_}
 use mathlib.Core.Path.{_≡_, refl, _∙_}

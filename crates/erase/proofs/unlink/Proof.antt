@@ -1,3 +1,4 @@
+-- `unlink`: frees node n, and empties slot o of node m, which leads to it.
 use Rattle.erase.proofs.FreedLaws.{unlinked}
 use borrow.Author.Needs.{needs}
 use Rattle.erase.proofs.unlink.Statement.{statement}

@@ -1,3 +1,4 @@
+-- `execute`: one command: its reply, and the number below which every node is in use.
 use Rattle.execute.proofs.ReplyLaws.{by-command, leaves-words}
 use Rattle.execute.proofs.ExecuteLaws.{load-list, find-list}
 use borrow.Author.Needs.{needs}

@@ -1,3 +1,4 @@
+-- `run_find`: a find, its reply; the words stay.
 use mathlib.Core.Path.{sym, ap, _∙_}
 use Rattle.execute.specs.Execute.{Executed, finding}
 use Rattle.execute.proofs.ReplyLaws.{find-mark, find-first, find-budget, find-runs}

@@ -1,3 +1,4 @@
+-- `run_store`: a store, its tests in order, its reply and the words.
 use mathlib.Core.Path.{sym, subst, _∙_}
 use lib.Dec.{T}
 use Rattle.batch.specs.declared.Command.the-variants.{Store}

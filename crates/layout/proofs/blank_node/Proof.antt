@@ -1,3 +1,4 @@
+-- `blank_node`: whether every word of node n is 0.
 use native.Mathlib.Omega.{arith}
 use Rattle.layout.proofs.PassLaws.{free-decides}
 use Rattle.layout.proofs.blank_node.Statement.{statement}

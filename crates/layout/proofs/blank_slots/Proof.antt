@@ -1,3 +1,4 @@
+-- `blank_slots`: whether the slots of node n from one up to another are empty.
 use native.Mathlib.Omega.{arith}
 use Rattle.layout.proofs.PassLaws.{vacant-decides}
 use Rattle.layout.proofs.blank_slots.Statement.{statement}

@@ -1,3 +1,4 @@
+-- `plain_slots`: whether no slot of node n from one up to another has an internal word.
 use Prim.Native.Nat.{_-_, _≤_}
 use native.Mathlib.Omega.{arith}
 use Rattle.layout.proofs.PassLaws.{Tested, tested-start, tested-next, tested-decides}

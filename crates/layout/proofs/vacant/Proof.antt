@@ -1,3 +1,4 @@
+-- `vacant`: whether the slots of node n from o on, below end, are empty.
 use native.Mathlib.Omega.{arith}
 use Rattle.layout.proofs.PassLaws.{filled-decides}
 use Rattle.layout.proofs.vacant.Statement.{statement}

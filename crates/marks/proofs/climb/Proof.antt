@@ -1,3 +1,5 @@
+-- `climb`: mark m of the entry that stands at a spot, and of each slot that leads to it, by owner words as long as
+-- one changes: a slot above keeps the mark while any slot of the node below has it.
 use Prim.Native.Nat.{ℕ, suc, _-_, _/_, _%_}
 use mathlib.Core.Path.{_≡_, sym, ap, _∙_}
 use mathlib.Core.List.{List}

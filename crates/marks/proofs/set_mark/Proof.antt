@@ -1,3 +1,4 @@
+-- `set_mark`: sets or clears mark m of the entry that covers i.
 use native.Mathlib.Omega.{arith}
 use mathlib.Core.Path.{_∙_}
 use Rattle.lookup.proofs.HeadLaws.{at-apart, at-vacant, at-head, at-spot}

@@ -1,3 +1,4 @@
+-- `node_number`: the number of the node that the word of a slot leads to.
 use mathlib.Core.Path.{sym, ap, _∙_}
 use borrow.Author.Needs.{needs}
 use Rattle.plan.specs.Plan.{childOf}

@@ -1,3 +1,4 @@
+-- `filled_from`: a word whose bit j says whether slot from + j of node n is filled, for 16 slots.
 use Prim.Native.Nat.{ℕ, _-_, _≤_}
 use mathlib.Core.Path.{_∙_, ap}
 use native.Mathlib.Omega.{arith}

@@ -1,3 +1,4 @@
+-- `filled_ok`: whether the slots of node n are as they must be, from one filled slot to the next.
 use native.Mathlib.Omega.{arith}
 use Prim.Native.Nat.{_-_}
 use Rattle.tree.specs.Tree.{slots}

@@ -1,3 +1,4 @@
+-- `gap_ok`: the empty slots from slot j on, where m is the marks.
 use native.Mathlib.Omega.{arith}
 use borrow.Author.Tests.{not-true, not-false}
 use Rattle.layout.specs.Pool.{poolOf}

@@ -1,3 +1,4 @@
+-- `is_plain`: whether no slot of node n has an internal word.
 use native.Mathlib.Omega.{arith}
 use borrow.Author.Tests.{not-true, not-false}
 use Rattle.scan.proofs.TestLaws.{no! }

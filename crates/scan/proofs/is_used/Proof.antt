@@ -1,3 +1,4 @@
+-- `is_used`: whether a slot is in use, which most nodes show in their first slots.
 use native.Mathlib.Omega.{arith}
 use borrow.Author.Tests.{not-true, not-false}
 use Rattle.scan.proofs.TestLaws.{yes! }

@@ -1,3 +1,4 @@
+-- `steps_ok`: whether the slots of node n are as they must be, from step to step.
 use native.Mathlib.Omega.{arith}
 use Prim.Native.Nat.{_-_}
 use Rattle.tree.specs.Tree.{slots}

@@ -1,3 +1,4 @@
+-- `entry_of`: the entry of the target.
 use Prim.Native.Nat.{ℕ, _*_, _/_, _^_}
 use mathlib.Core.Path.{ap}
 use native.Mathlib.Omega.{arith}

@@ -1,3 +1,4 @@
+-- `grows_beside`: whether a new head grows over an old tree that lies outside the target range, or over none.
 use mathlib.Core.Path.{refl}
 use borrow.Author.Tests.{lt-ltb, le-ltb, eq-eqb, ne-eqb}
 use Rattle.store.proofs.grows_beside.Statement.{statement}

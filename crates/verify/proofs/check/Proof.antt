@@ -1,3 +1,4 @@
+-- `check`: 0 if some list of entries prescribes the words, with its nodes at some numbers.
 use native.Mathlib.Omega.{arith}
 use borrow.Author.Tests.{not-true, not-false}
 use borrow.Author.Needs.{needs}

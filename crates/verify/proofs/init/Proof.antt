@@ -1,3 +1,4 @@
+-- `init`: makes every node free and the list empty: word 0 is the number of nodes, every other word 0.
 use native.Mathlib.Omega.{arith}
 use mathlib.Core.Path.{ap, _∙_}
 use Prim.Native.Nat.{ℕ}

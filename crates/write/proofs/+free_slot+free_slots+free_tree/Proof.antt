@@ -1,3 +1,6 @@
+-- `free_slot`: frees what the word of a slot leads to, of tier u.
+-- `free_slots`: frees what the slots of node n from o on, c of them, lead to, of tier u.
+-- `free_tree`: frees node n, of tier u, and all below it.
 use borrow.Author.Needs.{needs}
 use Prim.Native.Nat.{suc, _+_, _*_, _-_, _≤_}
 use mathlib.Core.Path.{_≡_, refl, sym, ap, subst, _∙_}

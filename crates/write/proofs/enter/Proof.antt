@@ -1,3 +1,4 @@
+-- `enter`: an entry in its slots.
 use borrow.Author.Needs.{needs}
 use Rattle.write.proofs.enter.Statement.{statement}
 use Rattle.write.proofs.enter.Tie as tie

@@ -1,3 +1,4 @@
+-- `fold`: mark word w with the bits from o on, c of them, given way to their OR at o.
 use native.Mathlib.Nat.{lt-of-le-of-lt, mod-le, div-mul-le-self, mul-le-mul-right, le-trans}
 use Prim.Native.Nat.{ℕ, _*_, _-_, _/_, _%_, _^_, _≤_}
 use mathlib.Core.Path.{_≡_}

@@ -1,3 +1,4 @@
+-- `fold_all`: the three mark words of the entry's node: the marks of its slots give way to their OR in the first.
 use borrow.Author.Needs.{needs}
 use Rattle.write.proofs.fold_all.Statement.{statement}
 use Rattle.write.proofs.fold_all.Tie as tie

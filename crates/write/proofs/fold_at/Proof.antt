@@ -1,3 +1,4 @@
+-- `fold_at`: the same of the word of mark m of node n.
 use borrow.Author.Needs.{needs}
 use Rattle.write.proofs.fold_at.Statement.{statement}
 use Rattle.write.proofs.fold_at.Tie as tie

@@ -1,3 +1,4 @@
+-- `join`: the edge from slot o of node p to node c, of tier u.
 use borrow.Author.Needs.{needs}
 use Rattle.write.proofs.join.Statement.{statement}
 use Rattle.write.proofs.join.Tie as tie

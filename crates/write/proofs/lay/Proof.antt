@@ -1,3 +1,5 @@
+-- `lay`: the numbers of the nodes over the index by tier: first, of tier u + 1, and below it down to tier v + 1
+-- those of nums.
 use Prim.Native.Nat.{ℕ, _+_, _-_, _<_, _≤_}
 use mathlib.Core.Path.{_≡_, refl, _∙_}
 use native.Mathlib.Omega.{arith}

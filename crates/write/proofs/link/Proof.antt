@@ -1,3 +1,4 @@
+-- `link`: the path from the head, of tier top, to tier v + 1.
 use Prim.Native.Nat.{_<_}
 use mathlib.Core.Path.{_∙_}
 use native.Mathlib.Omega.{arith}

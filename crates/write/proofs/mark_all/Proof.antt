@@ -1,3 +1,4 @@
+-- `mark_all`: the marks of the slots 0 of the tiers from to to.
 use Prim.Native.Nat.{ℕ, suc, _+_, _-_, _/_, _%_, _<_, _≤_}
 use mathlib.Core.Path.{_≡_, refl, sym, _∙_}
 use native.Mathlib.Omega.{arith}

@@ -1,3 +1,4 @@
+-- `offset_of`: the first slot of an entry in its node.
 use Prim.Native.Nat.{ℕ, _+_, _≤_, _*_, _/_, _%_}
 use mathlib.Core.Path.{_≡_, ap₂, subst, sym}
 use native.Mathlib.Omega.{arith}

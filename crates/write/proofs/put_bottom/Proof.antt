@@ -1,3 +1,4 @@
+-- `put_bottom`: an entry that was the head goes to slot 0 of the lowest node of the chain.
 use Prim.Native.Nat.{_<_}
 use mathlib.Core.Path.{refl}
 use native.Mathlib.Omega.{arith}

@@ -1,3 +1,4 @@
+-- `put_marks`: the mark words of node n where only slot 0 has marks: those of m.
 use borrow.Author.Needs.{needs}
 use Rattle.write.proofs.put_marks.Statement.{statement}
 use Rattle.write.proofs.put_marks.Tie as tie

@@ -1,3 +1,4 @@
+-- `seat_of`: the slots of the target in its node.
 use Prim.Native.Nat.{ℕ, _+_, _/_, _≤_, _<_}
 use mathlib.Core.Path.{_≡_, refl}
 use native.Mathlib.Omega.{arith}

@@ -1,3 +1,4 @@
+-- `span_of`: how many slots an entry takes.
 use mathlib.Core.Path.{refl}
 use borrow.Author.Needs.{needs}
 use Rattle.write.proofs.RunLaws.{span-some, span-small}

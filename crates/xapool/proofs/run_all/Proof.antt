@@ -1,3 +1,4 @@
+-- `run_all`: the commands of a batch in order, each on the pool that the last one left.
 use Prim.Native.Nat.{_-_}
 use mathlib.Core.Path.{_≡_, refl, sym, _∙_}
 use native.Mathlib.Omega.{arith}

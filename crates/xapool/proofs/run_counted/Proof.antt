@@ -1,3 +1,4 @@
+-- `run_counted`: a batch of k commands, on a pool that the check passed.
 use native.Mathlib.Omega.{arith}
 use Rattle.verify.proofs.AnswerLaws.{accepted}
 use Rattle.xapool.proofs.CallLaws.{was-read, ahead, run-short, comes-refused, ran, as-ensures}

@@ -1,3 +1,4 @@
+-- `run_one`: one command, with its reply written at `out`.
 use mathlib.Core.Path.{refl}
 use Rattle.xapool.proofs.RunningLaws.{turned}
 use borrow.Author.Needs.{needs}

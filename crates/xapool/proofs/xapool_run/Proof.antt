@@ -1,3 +1,4 @@
+-- `xapool_run`: / Runs a batch of commands on a pool, and writes 24 bytes of reply for each.
 use mathlib.Core.Path.{sym, _∙_}
 use Rattle.xapool.proofs.CallLaws.{run-unchecked, run-bad, comes-refused, comes-as, as-ensures}
 use borrow.Author.Needs.{needs}
