@@ -4,3 +4,7 @@ pub mod BlockLaws
 pub mod BitLaws
 pub mod NextBitLaws
 pub mod UpToLaws
+pub mod PlacingLaws
+pub mod PlaceNumberLaws
+pub mod LeastLaws
+pub mod TwoWordLaws

@@ -2,12 +2,12 @@
 use Prim.Native.Nat.{ℕ}
 use mathlib.Core.Path.{_≡_, refl, subst}
 use mathlib.Core.Bool.{Bool, true, false}
-use mathlib.Core.List.{List, [], _∷_}
+use mathlib.Core.List.{List, [], _∷_, _++_}
 use mathlib.Core.Option.{none, some}
 use mathlib.Core.Logic.{_⊎_, inl, inr}
 use native.Mathlib.Omega.{arith}
 use Rattle.blocks.specs.Choice.{both, either}
-use Rattle.blocks.specs.Lists.{any, keep, without, first, In, All, end, also, here, there}
+use Rattle.blocks.specs.Lists.{any, keep, without, first, In, All, end, also, here, there, Distinct, d-end, d-more}
 use Rattle.blocks.proofs.BoolLaws.{clash, byT, either-swap, either-yes, is-false, either-e}
 
 module _ {A : Type 0} where
@@ -131,3 +131,26 @@ module _ {A : Type 0} where
   pub in-any : (p : A → Bool) {l : List A} {x : A} → In x l → p x ≡ true → any p l ≡ true
   in-any p here t = rw t
   in-any p (there m) t = rw (in-any p m t, either-yes)
+
+  pub in-left : {x : A} {s : List A} (t : List A) → In x s → In x (s ++ t)
+  in-left t here = here
+  in-left t (there m) = there (in-left t m)
+
+  pub in-right : {x : A} (s : List A) {t : List A} → In x t → In x (s ++ t)
+  in-right [] m = m
+  in-right (y ∷ s) m = there (in-right s m)
+
+  pub in-append : {x : A} (s : List A) {t : List A} → In x (s ++ t) → In x s ⊎ In x t
+  in-append [] m = inr m
+  in-append (y ∷ s) here = inl here
+  in-append (y ∷ s) (there m) = elim (in-append s m) [ inl a ↦ inl (there a) | inr b ↦ inr b ]
+
+  -- a weaker test
+  pub any-more : (p q : A → Bool) (l : List A) → ((x : A) → p x ≡ true → q x ≡ true) → any p l ≡ true → any q l ≡ true
+  any-more p q l f t = let (x, m, s) = any-in p l t in in-any q m (f x s)
+
+  pub distinct-without : (q : A → Bool) {ps : List A} → Distinct ps → Distinct (without q ps)
+  distinct-without q d-end = d-end
+  distinct-without q (d-more {p} {ps} n d) =
+      byT (q p) (λ t. rw t (distinct-without q d))
+      (λ t. rw t (d-more (λ m. n (without-in q m)) (distinct-without q d)))

@@ -11,12 +11,12 @@ use borrow.Author.Tests.{ne-eqb}
 use Rattle.blocks.specs.Choice.{both}
 use Rattle.blocks.specs.Blocks.{bit}
 use Rattle.model.specs.declared.Entry.{Entry}
-use Rattle.tree.specs.Tree.{tierOrder, slots}
+use Rattle.tree.specs.Tree.{tierOrder, slots, slotBits}
 use Rattle.layout.specs.declared.Slot.the-variants.{Held}
-use Rattle.layout.specs.Pool.{slotOf}
+use Rattle.layout.specs.Pool.{slotOf, maxRun}
 use Rattle.layout.specs.Decode.{wide}
 use Rattle.decode.proofs.Restrict.{Chain}
-use Rattle.decode.proofs.SaysLaws.{word-of}
+use Rattle.layout.proofs.SaysLaws.{word-of}
 
 pub wide-pow : (v : ℕ) → 2 ^ (tierOrder v) ≡ wide v
 wide-pow zero = refl
@@ -25,16 +25,19 @@ wide-pow (suc v) = let e : tierOrder (suc v) ≡ tierOrder v + 6 = omega arith i
 pub order-pow : (v r : ℕ) → 2 ^ (tierOrder v + r) ≡ wide v * 2 ^ r
 order-pow v r = pow-add 2 (tierOrder v) r ∙ ap (λ (x : ℕ). x * 2 ^ r) (wide-pow v)
 
+-- the slots of a node in parts of 2^r
+pub in-parts : (r : ℕ) → r ≤ maxRun → 2 ^ (slotBits - r) * 2 ^ r ≡ slots
+in-parts r h = let x : slotBits - r + r ≡ slotBits = omega arith in sym (pow-add 2 (slotBits - r) r) ∙ ap
+    (λ (x : ℕ). 2 ^ x) x
+
 -- a slot that is a multiple of 2^r, of whichever node
-pub slot-aligned : (v b j r : ℕ) → r ≤ 5 → j % 2 ^ r ≡ 0 → (slots * b + j) * wide v % 2 ^ (tierOrder v + r) ≡ 0
+pub slot-aligned : (v b j r : ℕ) → r ≤ maxRun → j % 2 ^ r ≡ 0 → (slots * b + j) * wide v % 2 ^ (tierOrder v + r) ≡ 0
 slot-aligned v b j r h e =
-    let sixtyfour : 2 ^ (6 - r) * 2 ^ r ≡ slots = let x : 6 - r + r ≡ 6 = omega arith in
-    sym (pow-add 2 (6 - r) r) ∙ ap (λ (x : ℕ). 2 ^ x) x in
     let d : j / 2 ^ r * 2 ^ r + j % 2 ^ r ≡ j = div-add-mod' j (2 ^ r) in
-    let g : slots * b + j ≡ (2 ^ (6 - r) * b + j / 2 ^ r) * 2 ^ r = omega (arith, ap (λ (x : ℕ). x * b) sixtyfour) in
-    let f : (slots * b + j) * wide v ≡ (2 ^ (6 - r) * b + j / 2 ^ r) * (wide v * 2 ^ r) = ap (λ (x : ℕ). x * wide v)
+    let g : slots * b + j ≡ (2 ^ (slotBits - r) * b + j / 2 ^ r) * 2 ^ r = omega (arith, ap (λ (x : ℕ). x * b) (in-parts r h)) in
+    let f : (slots * b + j) * wide v ≡ (2 ^ (slotBits - r) * b + j / 2 ^ r) * (wide v * 2 ^ r) = ap (λ (x : ℕ). x * wide v)
     g ∙ (omega arith) in
-    rw (order-pow, f) (mul-mod-left (2 ^ (6 - r) * b + j / 2 ^ r) (wide v * 2 ^ r))
+    rw (order-pow, f) (mul-mod-left (2 ^ (slotBits - r) * b + j / 2 ^ r) (wide v * 2 ^ r))
 
 pub chain-lower : (a b c : ℕ) (xs : List Entry) → a ≤ b → Chain b xs c → Chain a xs c
 chain-lower a b c [] h p = omega arith

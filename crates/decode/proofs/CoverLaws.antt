@@ -3,7 +3,7 @@ use Prim.Native.Nat.{ℕ, zero, suc, _+_, _*_, _/_, _%_, _^_, _≤_, _<_}
 use mathlib.Core.Path.{_≡_, refl, sym, ap}
 use mathlib.Core.Logic.{_≢_}
 use mathlib.Core.Bool.{Bool, true, not}
-use mathlib.Core.List.{List, [], _∷_}
+use mathlib.Core.List.{List}
 use native.Mathlib.Omega.{arith}
 use native.Mathlib.Nat.{div-mul-le-self, mul-le-mul-right, div-add-mod', lt-div-mul-add, div-eq-of-lt-le, mod-one}
 use lib.Dec.{eqb, ltb}
@@ -14,7 +14,7 @@ use Rattle.blocks.specs.Choice.{pick}
 use Rattle.blocks.specs.Lists.{any}
 use Rattle.blocks.specs.Blocks.{bit}
 use Rattle.model.specs.declared.Entry.{Entry}
-use Rattle.model.specs.Model.{covers, markOf, marksOf, hasMark}
+use Rattle.model.specs.Model.{covers}
 use Rattle.layout.specs.Decode.{wide, span}
 use Rattle.decode.proofs.Restrict.{EntryGood, bitsOf}
 use Rattle.decode.proofs.KeepLaws.{any-append}
@@ -82,14 +82,3 @@ unscale v a c h = byT (ltb a c) (λ e. ltb-true a c e)
 
 pub unscale≤ : (v a c : ℕ) → a * wide v ≤ c * wide v → a ≤ c
 unscale≤ v a c h = let q : a < c + 1 = unscale v a (c + 1) (omega (arith, wide-pos v)) in omega arith
-
--- the marks of a list of one entry
-mark-worth : (m : ℕ) (e : Entry) → markOf m (e ∷ []) ≡ bit m (e .marks) * 2 ^ m
-mark-worth m e =
-    byT (hasMark m e)
-    (λ t. let q : bit m (e .marks) ≡ 1 = eqb-true (bit m (e .marks)) 1 t in rw (t, q) (omega arith))
-    (λ t. let q : bit m (e .marks) ≢ 1 = eqb-false (bit m (e .marks)) 1 t in
-    let r : bit m (e .marks) ≡ 0 = omega (arith, bit-lt m (e .marks)) in rw (t, r) (omega arith))
-
-pub marks-sum : (e : Entry) → e .marks < 8 → marksOf (e ∷ []) ≡ e .marks
-marks-sum e h = rw (mark-worth 0 e, mark-worth 1 e, mark-worth 2 e) (omega arith)

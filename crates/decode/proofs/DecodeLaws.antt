@@ -14,7 +14,7 @@ use Rattle.model.specs.declared.Entry.{Entry}
 use Rattle.model.specs.Model.{Valid}
 use Rattle.tree.specs.Tree.{Node, height, tierOrder, slots}
 use Rattle.tree.specs.Slots.{Numbering}
-use Rattle.layout.specs.Words.{fieldAt, place, shiftField, poolWords}
+use Rattle.layout.specs.Words.{fieldAt, poolWords, shiftField, shiftPlace}
 use Rattle.layout.specs.Places.{render, Places, Placed, numberIn, wordAt}
 use Rattle.layout.specs.Pool.{Pool, poolOf}
 use Rattle.layout.specs.Decode.{levelOf, blockOf, placeIn, topOf, listOf, placesOf}
@@ -60,8 +60,9 @@ module _ {n : ℕ} {l : List Entry} {os : Places} {ws : List ℕ} (S : Prescribe
 
   place-at : (m : ℕ) → m < n → (o : Option Node) → getD os m none ≡ o → placeIn (poolOf ws) m ≡ o
   place-at m lt none e =
-      let z : getD ws (place m shiftField) 0 ≡ 0 =
-      node-word n l os ws S m 0 lt (omega arith) ∙ ap (λ (o : Option Node). fieldAt l (numberIn os) o 0) e in
+      let z : getD ws (shiftPlace m) 0 ≡ 0 =
+      node-word n l os ws S m shiftField lt (omega arith) ∙ ap
+      (λ (o : Option Node). fieldAt l (numberIn os) o shiftField) e in
       rw z
   place-at m lt (some p) e =
       let (v, u, h, s) = there-is n l os ws S m p e in

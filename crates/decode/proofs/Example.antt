@@ -6,6 +6,7 @@ use Rattle.model.specs.declared.Entry.{Entry}
 use Rattle.model.specs.Model.{store}
 use Rattle.tree.specs.Tree.{tall, has, slotMark}
 use Rattle.tree.specs.Slots.{slot}
+use Rattle.layout.specs.Words.{fieldOf}
 use Rattle.layout.specs.Places.{Places, render}
 use Rattle.layout.specs.Pool.{slotOf, run}
 use Rattle.layout.specs.Decode.{span, below, listOf, placesOf}
@@ -19,9 +20,9 @@ at-places =
     ∷ some (record { tier = 1; number = 0 }) ∷ none ∷ []
 
 list-of-two : listOf (render two at-places 4) ≡ two
-unfolding tall has slot slotMark slotOf run span below
+unfolding tall has slot slotMark fieldOf slotOf run span below
 list-of-two = refl
 
 places-of-two : placesOf (render two at-places 4) ≡ at-places
-unfolding tall has slot slotMark slotOf run span below
+unfolding tall has slot slotMark fieldOf slotOf run span below
 places-of-two = refl

@@ -1,6 +1,5 @@
 pub mod KeepLaws
 pub mod Restrict
-pub mod SaysLaws
 pub mod BelowLaws
 pub mod ChainLaws
 pub mod FitLaws
@@ -8,7 +7,6 @@ pub mod CoverLaws
 pub mod BlockShape
 pub mod SlotsShown
 pub mod ListBack
-pub mod FreeLaws
 pub mod SameTree
 pub mod PrescribedWords
 pub mod PlacesFor

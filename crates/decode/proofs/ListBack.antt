@@ -12,7 +12,7 @@ use Rattle.model.specs.declared.Entry.{Entry}
 use Rattle.model.specs.Model.{marksOf}
 use Rattle.tree.specs.Slots.{Numbering}
 use Rattle.tree.specs.Tree.{height, fits, tierOrder, slots}
-use Rattle.tree.proofs.HeightLaws.{Low, fits-order, fits-base, fits-tall, tall-fits, fits-most}
+use Rattle.tree.proofs.HeightLaws.{Low, fits-order, fits-base, fits-tall, tall-fits}
 use Rattle.layout.specs.declared.Slot.{Slot}
 use Rattle.layout.specs.declared.Slot.the-variants.{Empty, Held, Child}
 use Rattle.layout.specs.Pool.{slotOf, Pool, slotAt}
@@ -31,10 +31,9 @@ use Rattle.decode.proofs.KeepLaws.{
   some-no,
 }
 use Rattle.decode.proofs.BelowLaws.{up}
-use Rattle.decode.proofs.SaysLaws.{said}
-use Rattle.decode.proofs.FitLaws.{chain-low, height-upper, base-low}
+use Rattle.layout.proofs.SaysLaws.{said}
+use Rattle.decode.proofs.FitLaws.{chain-low, base-low}
 use Rattle.decode.proofs.ChainLaws.{wide-pow}
-use Rattle.decode.proofs.CoverLaws.{marks-sum}
 use Rattle.decode.proofs.SlotsShown.{
   word-says,
   entry-eq,
@@ -48,6 +47,7 @@ use Rattle.decode.proofs.SlotsShown.{
   shown,
   below-is,
 }
+use Rattle.model.proofs.MarkLaws.{marks-one}
 
 -- an entry of the list needs the height
 pub tallest-some : (t : ℕ) (l : List Entry) → height l ≡ suc t → Some (λ e. fits t e ≡ false) l
@@ -65,10 +65,6 @@ height-all h (x ∷ xs) a le = (tall-fits h x (a .0) (omega arith), height-all h
 module _ (P : Pool) (l : List Entry) (ν : Numbering) (R : Prescribes P l ν) where
   low : Every Low l
   low = chain-low l (R .valid)
-
-  -- no list needs more than eleven levels
-  pub height-most : height l ≤ 11
-  height-most = height-upper 11 l (all-map {A = Entry} Low (λ e. fits 11 e ≡ true) fits-most l low)
 
   pub data Head : Type 0 where
     no-node : height l ≡ 0 → Head
@@ -186,7 +182,7 @@ module _ (P : Pool) (l : List Entry) (ν : Numbering) (R : Prescribes P l ν) wh
       (λ (s : List Entry). Every (λ e. (e .base ≡ 0) × (e .order ≡ 0)) s) e (at-zero z) in
       rw (k, e) (ap (λ (y : Entry). y ∷ []) (entry-eq (record
       { base = 0; order = 0; word = P .head; marks = P .marks }) x (sym (zz .0 .0)) (sym (zz .0 .1)) hd
-      (R .marks-are ∙ ap marksOf e ∙ marks-sum x (vv .1 .marks-fit))))
+      (R .marks-are ∙ ap marksOf e ∙ marks-one x (vv .1 .marks-fit))))
   list-lone (x ∷ y ∷ xs) e z = two-apart x y xs e z
 
   pub list-back : listIn P ≡ l

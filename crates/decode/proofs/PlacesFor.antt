@@ -7,46 +7,33 @@ use mathlib.Core.List.{List, _∷_}
 use mathlib.Core.Option.{Option, none, some}
 use native.Mathlib.Omega.{arith}
 use native.Mathlib.Nat.{le-refl, zero-add}
-use lib.Dec.{leb, eqb}
+use lib.Dec.{eqb}
 use lib.ListN.{length, getD}
-use borrow.Author.Tests.{leb-true, eqb-true, eqb-false, le-leb, eq-eqb}
+use borrow.Author.Tests.{eqb-true, eqb-false, eq-eqb}
 use Rattle.blocks.specs.Lists.{any, upTo, In, Distinct, d-end, d-more, first}
-use Rattle.blocks.proofs.BoolLaws.{byT, both-l, clash}
+use Rattle.blocks.proofs.BoolLaws.{byT, clash}
 use Rattle.blocks.proofs.ListLaws.{in-cons, each, first-yes, look, first-no}
 use Rattle.blocks.proofs.UpToLaws.{length-upTo, getD-upTo-or}
 use Rattle.model.specs.declared.Entry.{Entry}
 use Rattle.model.specs.Model.{Valid, within}
 use Rattle.tree.specs.Tree.{Node, height, has, nodes, tierOrder, slots}
 use Rattle.tree.specs.Slots.{Numbering, slot}
-use Rattle.tree.proofs.NodeListLaws.{nodes-in, in-nodes, has-within}
-use Rattle.layout.specs.Words.{owner, field, fieldAt, anchorWord, place, poolWords, nodeWords}
+use Rattle.tree.proofs.NodeListLaws.{nodes-in, in-nodes, has-within, has-some, has-le, has-in}
+use Rattle.layout.specs.Words.{owner, field, fieldAt, anchorWord, place, poolWords, IsField}
 use Rattle.layout.specs.Places.{Places, Placed, numberIn, standing}
 use Rattle.layout.proofs.FieldLaws.{field-same}
 use Rattle.layout.proofs.OwnerLaws.{parent}
 use Rattle.layout.proofs.RenderLaws.{render-is}
 use Rattle.layout.specs.Pool.{poolOf}
 use Rattle.layout.specs.WellFormed.{Prescribed}
-use Rattle.decode.proofs.FreeLaws.{by-field, free-words}
+use Rattle.layout.proofs.FreeLaws.{free-words}
+use Rattle.layout.proofs.NodeLaws.{all-words}
 use Rattle.decode.proofs.Restrict.{hasLevel, Prescribes, NodeIs}
-use Rattle.decode.proofs.SameTree.{
-  to-sorted,
-  has-same,
-  none-at-0,
-  slot-same,
-  marks-same,
-  level-owner,
-  head-same,
-}
-use Rattle.decode.proofs.PrescribedWords.{
-  node,
-  none-some,
-  get-in,
-  at-number-of,
-  field-shift,
-  field-mark,
-  field-slot,
-}
+use Rattle.decode.proofs.SameTree.{to-sorted, has-same, slot-same, marks-same, level-owner, head-same}
+use Rattle.decode.proofs.PrescribedWords.{node}
 use Rattle.tree.proofs.SlotLaws.{slot-num}
+use Rattle.layout.proofs.NumberLaws.{in-standing, number-of}
+use Rattle.blocks.proofs.PlacingLaws.{none-some}
 
 -- a list of places made number by number
 module _ (f : ℕ → Option Node) where
@@ -79,14 +66,6 @@ raise ν zero b = 0
 raise ν (suc v) b = ν v b
 
 -- a slot's word asks the numbering for its own node alone
-has-i : (l : List Entry) (u b : ℕ) → u ≤ height l → any (within (tierOrder u) b) l ≡ true → has l u b ≡ true
-unfolding has
-has-i l u b h t = rw (le-leb u (height l) h, t)
-
-has-le : (l : List Entry) (u b : ℕ) → has l u b ≡ true → u ≤ height l
-unfolding has
-has-le l u b t = leb-true u (height l) (both-l (leb u (height l)) _ t)
-
 -- the anchor's words one by one
 four : (Q : ℕ → Type 0) → Q 0 → Q 1 → Q 2 → Q 3 → (i : ℕ) → i < 4 → Q i
 four Q a b c d zero h = a
@@ -138,17 +117,17 @@ module _ (n : ℕ) (l : List Entry) (ν : Numbering) (num : Numbered n l ν) whe
   placed = record {
     size = length-upTo (placeOf l ν) 0 n;
     sound = λ p k. let (m, h, q) = up-in (placeOf l ν) p 0 n k in place-is m p q .0;
-    full = λ p t. get-in placesBy (ν (p .tier) (p .number)) p (at-number (p .tier) (p .number) t);
+    full = λ p t. in-standing p placesBy (ν (p .tier) (p .number)) (at-number (p .tier) (p .number) t);
     once = up-once (placeOf l ν) (λ m m′ p e e′. sym (place-is m p e .1) ∙ place-is m′ p e′ .1) 0 n;
   }
 
   number-is : (u b : ℕ) → has l u b ≡ true → numberIn placesBy u b ≡ ν u b
-  number-is u b t = at-number-of placesBy (placed .once) (ν u b) (node u b) (at-number u b t)
+  number-is u b t = number-of (node u b) placesBy (ν u b) (placed .once) (at-number u b t)
 
   -- the words by the places are those by the numbering
   head-num : slot l (numberIn placesBy) (height l) 0 ≡ slot l ν (height l) 0
   head-num = slot-num l ν (numberIn placesBy) (height l) 0
-      (λ k. number-is (height l) 0 (has-i l (height l) 0 (le-refl _) k))
+      (λ k. number-is (height l) 0 (has-in l (height l) 0 (le-refl _) k))
 
   owner-num : (v b : ℕ) → has l (suc v) b ≡ true → owner l (numberIn placesBy) (suc v) b ≡ owner l ν (suc v) b
   owner-num v b t =
@@ -156,15 +135,15 @@ module _ (n : ℕ) (l : List Entry) (ν : Numbering) (num : Numbered n l ν) whe
       (λ e. let ne : suc v ≡ height l → ⊥ = eqb-false _ _ e in
       rw (e, number-is (suc (suc v)) (b / slots) (parent l (suc v) b t (omega (arith, has-le l (suc v) b t)))))
 
-  field-num : (u b : ℕ) → has l u b ≡ true → (f : ℕ) → f < nodeWords →
+  field-num : (u b : ℕ) → has l u b ≡ true → (f : ℕ) → IsField f →
       field l (numberIn placesBy) u b f ≡ field l ν u b f
-  field-num zero b t f h = absurd (none-at-0 l b t)
+  field-num zero b t f h = absurd (omega (arith, has-some l 0 b t))
   field-num (suc v) b t f h =
       field-same l l ν (numberIn placesBy) v b (owner-num v b t) (λ m d _ q. refl)
       (λ d q. slot-num l ν (numberIn placesBy) v d (λ k. number-is v d
-      (has-i l v d (omega (arith, has-le l (suc v) b t)) k))) f h
+      (has-in l v d (omega (arith, has-le l (suc v) b t)) k))) f h
 
-  pub place-words : (m f : ℕ) → m < n → f < nodeWords → fieldAt l (numberIn placesBy) (getD placesBy m none) f ≡
+  pub place-words : (m f : ℕ) → m < n → IsField f → fieldAt l (numberIn placesBy) (getD placesBy m none) f ≡
       fieldAt l ν (placeOf l ν m) f
   place-words m f lt h = ap (λ (o : Option Node). fieldAt l (numberIn placesBy) o f) (place-at m lt) ∙ go
       (placeOf l ν m) refl
@@ -188,34 +167,32 @@ module _ (ws : List ℕ) (l : List Entry) (ν : Numbering) (R : Prescribes (pool
   num = record { below = below; apart = apart }
     where
       below : (u b : ℕ) → has l u b ≡ true → raise ν u b < getD ws 0 0
-      below zero b t = absurd (none-at-0 l b t)
+      below zero b t = absurd (omega (arith, has-some l 0 b t))
       below (suc v) b t = R .below v b (has-of v b t)
 
       apart : (u b u′ b′ : ℕ) → has l u b ≡ true → has l u′ b′ ≡ true → raise ν u b ≡ raise ν u′ b′ →
           (u ≡ u′) × (b ≡ b′)
-      apart zero b u′ b′ t t′ e = absurd (none-at-0 l b t)
-      apart (suc v) b zero b′ t t′ e = absurd (none-at-0 l b′ t′)
+      apart zero b u′ b′ t t′ e = absurd (omega (arith, has-some l 0 b t))
+      apart (suc v) b zero b′ t t′ e = absurd (omega (arith, has-some l 0 b′ t′))
       apart (suc v) b (suc v′) b′ t t′ e = let (p, q) = R .apart v b v′ b′ (has-of v b t) (has-of v′ b′ t′) e in
           (ap suc p, q)
 
   abbrev pub places : Places
   places = placesBy (getD ws 0 0) l (raise ν) num
 
-  field-is : (v b : ℕ) → has l (suc v) b ≡ true → (f : ℕ) → f < nodeWords →
+  field-is : (v b : ℕ) → has l (suc v) b ≡ true → (f : ℕ) → IsField f →
       getD ws (place (ν v b) f) 0 ≡ field l (raise ν) (suc v) b f
   field-is v b t =
       let m : ℕ = ν v b in
       let I : NodeIs (poolOf ws) l ν m v b = R .nodes v b (has-of v b t) in
       let inside : any (within (tierOrder (suc v)) b) l ≡ true = has-within l (suc v) b t in
-      by-field (λ f. getD ws (place m f) 0 ≡ field l (raise ν) (suc v) b f)
-      (I .shift-is ∙ sym (field-shift l (raise ν) v b))
+      all-words ws m l (raise ν) (height l) v b (I .shift-is)
       (I .owner-is ∙ level-owner valid (raise ν) v b)
-      (λ μ h. I .marks-are μ h ∙ marks-same l ν μ v b ∙ sym (field-mark l (raise ν) v b μ h))
+      (λ μ h. I .marks-are μ h ∙ marks-same l ν μ v b)
       (λ j h. let q : (slots * b + j) / slots ≡ b = omega arith in
-      I .slots-are j h ∙ slot-same valid (raise ν) v (slots * b + j) (rw q inside)
-      ∙ sym (field-slot l (raise ν) v b j))
+      I .slots-are j h ∙ slot-same valid (raise ν) v (slots * b + j) (rw q inside))
 
-  node-words : (m f : ℕ) → m < getD ws 0 0 → f < nodeWords → (o : Option Node) → placeOf l (raise ν) m ≡ o →
+  node-words : (m f : ℕ) → m < getD ws 0 0 → IsField f → (o : Option Node) → placeOf l (raise ν) m ≡ o →
       getD ws (place m f) 0 ≡ fieldAt l (raise ν) o f
   node-words m f lt h none q =
       free-words ws m (R .frees m lt (λ v b t e. none-some
@@ -225,7 +202,7 @@ module _ (ws : List ℕ) (l : List Entry) (ν : Numbering) (R : Prescribes (pool
     where
       go : (u : ℕ) → has l u (p .number) ≡ true → raise ν u (p .number) ≡ m →
           getD ws (place m f) 0 ≡ field l (raise ν) u (p .number) f
-      go zero t e = absurd (none-at-0 l (p .number) t)
+      go zero t e = absurd (omega (arith, has-some l 0 (p .number) t))
       go (suc v) t e = subst (λ (m : ℕ). getD ws (place m f) 0 ≡ field l (raise ν) (suc v) (p .number) f) e
           (field-is v (p .number) t f h)
 

@@ -115,12 +115,6 @@ has-same {l} v u b = rw (any-within (suc u) b l, up (height l))
     up h = iff (ltb u h) (leb (suc u) h) (λ t. le-leb (suc u) h (ltb-true u h t))
         (λ t. lt-ltb u h (leb-true (suc u) h t))
 
-pub none-at-0 : (l : List Entry) (b : ℕ) → has l 0 b ≡ true → ⊥
-unfolding has
-none-at-0 l b t =
-    let (x, m, s) = any-in (within (tierOrder 0) b) l (both-r (leb 0 (height l)) _ t) in
-    let o : x .order < tierOrder 0 = ltb-true _ _ (both-l (ltb (x .order) (tierOrder 0)) _ s) in omega arith
-
 -- SLOTS
 -- where a node covers block b, an entry that covers an index there starts there
 in-block : {l : List Entry} → Valid l → (j b i : ℕ) (y : Entry) → any (within j b) l ≡ true → block j i ≡ b → In y l →

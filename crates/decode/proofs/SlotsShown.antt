@@ -17,7 +17,7 @@ use native.Mathlib.Nat.{
   le-of-eq,
 }
 use lib.Dec.{eqb, ltb, T, lit<}
-use lib.Pow.{pow-add, pow-pos, pow-mono, pow-lt}
+use lib.Pow.{pow-pos, pow-mono, pow-lt}
 use borrow.Author.Tests.{eqb-true, eqb-false, eq-eqb, ne-eqb, ltb-true, ltb-false, lt-ltb, le-leb, lt-leb}
 use Rattle.blocks.proofs.BoolLaws.{byT}
 use Rattle.blocks.specs.Choice.{pick, both}
@@ -26,10 +26,10 @@ use Rattle.blocks.specs.Blocks.{bit}
 use Rattle.model.specs.declared.Entry.{Entry}
 use Rattle.model.specs.Model.{covers, hasMark}
 use Rattle.tree.specs.Slots.{siblingWord, nodeWord, Numbering}
-use Rattle.tree.specs.Tree.{height, tierOrder, slots}
+use Rattle.tree.specs.Tree.{height, tierOrder, slots, slotBits}
 use Rattle.layout.specs.declared.Slot.{Slot}
 use Rattle.layout.specs.declared.Slot.the-variants.{Empty, Held, Sibling, Child}
-use Rattle.layout.specs.Pool.{slotOf, Pool, slotAt, run, runFrom}
+use Rattle.layout.specs.Pool.{slotOf, Pool, slotAt, run, runFrom, maxRun}
 use Rattle.layout.specs.Decode.{wide, entryAt, cell, cellAt, below}
 use Rattle.decode.proofs.Restrict.{
   part,
@@ -44,8 +44,8 @@ use Rattle.decode.proofs.Restrict.{
 }
 use Rattle.decode.proofs.KeepLaws.{Every, Some, no-both, keep-none, some-with, some-no, any-some, some-any}
 use Rattle.decode.proofs.BelowLaws.{wide-pos, nest, up}
-use Rattle.decode.proofs.SaysLaws.{said}
-use Rattle.decode.proofs.ChainLaws.{order-pow, bit-lt}
+use Rattle.layout.proofs.SaysLaws.{said}
+use Rattle.decode.proofs.ChainLaws.{order-pow, bit-lt, in-parts}
 use Rattle.decode.proofs.FitLaws.{chain-oks}
 use Rattle.decode.proofs.CoverLaws.{covers-in, in-covers, bit-suc, unscale, unscale≤}
 use Rattle.decode.proofs.BlockShape.{
@@ -85,26 +85,23 @@ bit-of-bits t (suc i) j (suc k) h =
     (λ e. rw e (omega arith)) in
     rw (bit-suc, q, z) (bit-of-bits t i (suc j) k (omega arith))
 
-pub sixty-four : (r : ℕ) → r ≤ 5 → 2 ^ (6 - r) * 2 ^ r ≡ slots
-sixty-four r h = let x : 6 - r + r ≡ 6 = omega arith in sym (pow-add 2 (6 - r) r) ∙ ap (λ (x : ℕ). 2 ^ x) x
-
-pub slot-mod : (v b j r base K : ℕ) → r ≤ 5 → base ≡ (slots * b + j) * wide v → base ≡ K * (wide v * 2 ^ r) →
+pub slot-mod : (v b j r base K : ℕ) → r ≤ maxRun → base ≡ (slots * b + j) * wide v → base ≡ K * (wide v * 2 ^ r) →
     j % 2 ^ r ≡ 0
 slot-mod v b j r base K small e f =
     let R : ℕ = 2 ^ r in
-    let A : ℕ = 2 ^ (6 - r) in
-    let s : A * R ≡ slots = sixty-four r small in
+    let A : ℕ = 2 ^ (slotBits - r) in
+    let s : A * R ≡ slots = in-parts r small in
     let g : (slots * b + j) * wide v ≡ K * R * wide v = sym e ∙ f ∙ (omega arith) in
     let h : slots * b + j ≡ K * R = le-antisymm (unscale≤ v (slots * b + j) (K * R) (le-of-eq g))
     (unscale≤ v (K * R) (slots * b + j) (le-of-eq (sym g))) in
     let k : j + R * (A * b) ≡ K * R = omega (arith, ap (λ (x : ℕ). x * b) s) in
     sym (add-mul-mod-self-left j R (A * b)) ∙ ap (λ (x : ℕ). x % R) k ∙ mul-mod-left K R
 
-pub slot-end : (j r : ℕ) → r ≤ 5 → j < slots → j % 2 ^ r ≡ 0 → j + 2 ^ r ≤ slots
+pub slot-end : (j r : ℕ) → r ≤ maxRun → j < slots → j % 2 ^ r ≡ 0 → j + 2 ^ r ≤ slots
 slot-end j r small lt e =
     let R : ℕ = 2 ^ r in
-    let A : ℕ = 2 ^ (6 - r) in
-    let s : A * R ≡ slots = sixty-four r small in
+    let A : ℕ = 2 ^ (slotBits - r) in
+    let s : A * R ≡ slots = in-parts r small in
     let d : j / R * R + j % R ≡ j = div-add-mod' j R in
     byT (ltb (j / R) A)
     (λ t. let q : (j / R + 1) * R ≤ A * R = mul-le-mul-right R (omega (arith, ltb-true (j / R) A t)) in omega arith)
@@ -192,7 +189,7 @@ module _ (P : Pool) (l : List Entry) (ν : Numbering) (R : Prescribes P l ν) wh
     pub ok : EntryGood x
     pub r : ℕ
     pub order-is : x .order ≡ tierOrder v + r
-    pub small : r ≤ 5
+    pub small : r ≤ maxRun
     pub base-is : x .base ≡ (slots * b + j) * wide v
     pub end-is : x .base + 2 ^ x .order ≡ (slots * b + (j + 2 ^ r)) * wide v
     pub aligned : j % 2 ^ r ≡ 0
@@ -201,7 +198,7 @@ module _ (P : Pool) (l : List Entry) (ν : Numbering) (R : Prescribes P l ν) wh
 
   fact-of : (v b j r : ℕ) (x : Entry) → hasLevel l v b ≡ true → j < slots → part (wide v) (slots * b + j) l ≡ x ∷ [] →
       x .order ≡ tierOrder v + r →
-      Mem x l → x .base / wide v ≡ slots * b + j → EntryGood x → r ≤ 5 → Fact v b j x
+      Mem x l → x .base / wide v ≡ slots * b + j → EntryGood x → r ≤ maxRun → Fact v b j x
   fact-of v b j r x t lt e o m q ok small =
       let bs : x .base ≡ (slots * b + j) * wide v = (wide-entry v x ok (omega arith)) .0 ∙ ap (λ (z : ℕ). z * wide v)
       q in
@@ -334,7 +331,7 @@ module _ (P : Pool) (l : List Entry) (ν : Numbering) (R : Prescribes P l ν) wh
 
     pub run-is : run P (ν v b) j ≡ F .r
     unfolding run
-    run-is = run-from 5 0 (omega arith) (omega (arith, F .small))
+    run-is = run-from maxRun 0 (omega arith) (omega (arith, F .small))
 
   -- ---- the decode gives the list back
 

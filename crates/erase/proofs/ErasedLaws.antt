@@ -18,17 +18,18 @@ use Rattle.model.specs.Model.{Valid, done, covers, covering, withMark, remark, 
 use Rattle.model.proofs.ValidLaws.{sorted-ok, erase-none}
 use Rattle.tree.specs.Tree.{height, Node}
 use Rattle.tree.proofs.RelabelLaws.{mapO, covering-map, height-map}
-use Rattle.layout.specs.Words.{fieldAt, place, shiftField, marksWord, headWord}
+use Rattle.layout.specs.Words.{fieldAt, place, marksWord, headWord, shiftPlace}
 use Rattle.layout.specs.Places.{render, prune}
 use Rattle.layout.specs.WellFormed.{WellFormed, num, InUse}
 use Rattle.layout.proofs.NumberLaws.{prune-same}
-use Rattle.lookup.proofs.WordLaws.{pool-length, pool-anchor, pool-node, place-of, has-tier}
 use Rattle.lookup.proofs.HeadLaws.{flat-entry}
 use Rattle.marks.proofs.RemarkLaws.{erase-remark}
 use Rattle.erase.specs.Tall.{tallAt, Tall}
 use Rattle.erase.specs.Leaving.{Unmarked}
 use Rattle.erase.proofs.LowerLaws.{tall-none, slot-nil}
-use Rattle.erase.proofs.FreedLaws.{in-use-spares}
+use Rattle.tree.proofs.NodeListLaws.{has-tier}
+use Rattle.layout.proofs.SparesLaws.{in-use-spares}
+use Rattle.layout.proofs.RenderWordLaws.{pool-length, pool-anchor, pool-node, place-of}
 
 -- all three marks off
 zero3 : (w : ℕ) → w < 8 → setBit 2 false (setBit 1 false (setBit 0 false w)) ≡ 0
@@ -126,6 +127,6 @@ pub in-use-head : {ws : List ℕ} {low : ℕ} → InUse low ws → InUse low (se
 in-use-head {ws} u = in-use-spares u (le-refl _) (record {
   count-is = getD-set-other (set ws headWord 0) 2 0 0 0 (omega arith) ∙ getD-set-other ws 1 0 0 0 (omega arith);
   shifts-are = λ m lt.
-      getD-set-other (set ws headWord 0) 2 (place m shiftField) 0 0 (omega arith) ∙
-      getD-set-other ws 1 (place m shiftField) 0 0 (omega arith);
+      getD-set-other (set ws headWord 0) 2 (shiftPlace m) 0 0 (omega arith) ∙
+      getD-set-other ws 1 (shiftPlace m) 0 0 (omega arith);
 })

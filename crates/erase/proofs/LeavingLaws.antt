@@ -9,19 +9,7 @@ use native.Mathlib.Omega.{arith}
 use native.Mathlib.Nat.{le-refl, zero-add, zero-div, lt-of-mul-lt-mul-right}
 use lib.Dec.{leb, ltb, eqb}
 use lib.ListN.{length, getD}
-use borrow.Author.Tests.{
-  leb-true,
-  leb-false,
-  eqb-true,
-  eqb-false,
-  ltb-true,
-  ltb-false,
-  le-ltb,
-  le-leb,
-  lt-leb,
-  eq-eqb,
-  ne-eqb,
-}
+use borrow.Author.Tests.{leb-true, leb-false, eqb-true, eqb-false, ltb-true, ltb-false, le-leb, lt-leb, eq-eqb, ne-eqb}
 use Rattle.blocks.specs.Choice.{pick, both}
 use Rattle.blocks.specs.Lists.{any, All, In}
 use Rattle.blocks.specs.Blocks.{block}
@@ -45,35 +33,39 @@ use Rattle.model.proofs.ValidLaws.{
 use Rattle.tree.specs.Slots.{slot, Numbering}
 use Rattle.tree.specs.Tree.{slotMark, has, height, fits, Node, tierOrder, slots, topTier}
 use Rattle.tree.proofs.StoreLaws.{within-only}
-use Rattle.tree.proofs.HeightLaws.{height-fits, fits-base, fits-order}
-use Rattle.tree.proofs.SlotLaws.{tier-up, node-empty, empty-node}
+use Rattle.tree.proofs.HeightLaws.{height-fits, fits-base, fits-order, height-most}
+use Rattle.tree.proofs.SlotLaws.{tier-up, node-empty, empty-node, within-up}
 use Rattle.tree.proofs.EraseLaws.{clear-slot-apart, clear-slot-inside, clear-slot-path, height-clear}
+use Rattle.layout.proofs.FieldLaws.{by-field, under-shift, under-owner, under-mark, under-slot}
+use Rattle.layout.proofs.NodeLaws.{get-owner, get-slot}
 use Rattle.layout.specs.Words.{
   fieldAt,
-  ownerField,
-  slotField,
-  lastField,
+  fieldUnder,
+  fieldSlot,
+  nodeEnd,
   place,
-  nodeWords,
   poolWords,
   maxNodes,
   marksWord,
   headWord,
   countWord,
   spareWord,
+  ownerPlace,
+  lastPlace,
+  slotPlace,
+  IsField,
 }
-use Rattle.layout.proofs.OwnerLaws.{within-up, parent}
+use Rattle.layout.proofs.OwnerLaws.{parent}
 use Rattle.layout.specs.WellFormed.{WellFormed, num}
 use Rattle.layout.proofs.NumberLaws.{nd}
-use Rattle.lookup.proofs.HeadLaws.{height-most}
 use Rattle.lookup.specs.Views.{AtNode, Holds, Stands}
-use Rattle.lookup.proofs.WordLaws.{node-at, pool-length, place-of, has-tier, pool-anchor, pool-node}
+use Rattle.lookup.proofs.WordLaws.{node-at}
 use Rattle.lookup.proofs.StandLaws.{covers-slot, after-is, wid-fits}
-use Rattle.marks.proofs.HybridLaws.{has-low}
 use Rattle.marks.proofs.MarkLaws.{entry-in, entry-covers, one-apart, mark-old}
-use Rattle.erase.specs.Tall.{fieldH, tallAt, Tall}
+use Rattle.erase.specs.Tall.{tallAt, Tall}
 use Rattle.erase.specs.Leaving.{cutAt, Cut, Unmarked}
-use Rattle.tree.proofs.NodeListLaws.{has-within}
+use Rattle.tree.proofs.NodeListLaws.{has-within, has-tier, has-low}
+use Rattle.layout.proofs.RenderWordLaws.{pool-length, place-of, pool-anchor, pool-node}
 
 module _ (l : List Entry) (val : Valid l) (i : ℕ) (e : Entry) (q : covering l i ≡ some e) (lone : e .marks ≡ 0) where
   abbrev l′ : List Entry
@@ -124,17 +116,19 @@ module _ (l : List Entry) (val : Valid l) (i : ℕ) (e : Entry) (q : covering l 
   unfolding slot
   slot-kept ν u c t = rw (t, within-was u c t)
 
-  fields-same : (h : ℕ) (ν : Numbering) (u b f : ℕ) → (5 ≤ f → slot (erase l i) ν (u - 1) (slots * b + (f - 5)) ≡ slot
-      l ν (u - 1) (slots * b + (f - 5))) → fieldH h (erase l i) ν u b f ≡ fieldH h l ν u b f
-  fields-same h ν u b f s =
-      byT (ltb f 5)
-      (λ t. rw (
-        t,
-        bits-same (λ j. slotMark (erase l i) (f - 2) (u - 1) (slots * b + j))
-            (λ j. slotMark l (f - 2) (u - 1) (slots * b + j)) slots
-            (λ j _. marks-stay (f - 2) (u - 1) (slots * b + j)),
-      ))
-      (λ t. rw (t, s (ltb-false _ _ t)))
+  fields-same : (h : ℕ) (ν : Numbering) (u b f : ℕ) → IsField f → ((o : ℕ) → o < slots → f ≡ fieldSlot o →
+      slot (erase l i) ν (u - 1) (slots * b + o) ≡ slot l ν (u - 1) (slots * b + o)) →
+      fieldUnder (erase l i) ν h u b f ≡ fieldUnder l ν h u b f
+  fields-same h ν u b =
+      by-field (λ f. ((o : ℕ) → o < slots → f ≡ fieldSlot o →
+      slot (erase l i) ν (u - 1) (slots * b + o) ≡ slot l ν (u - 1) (slots * b + o)) →
+      fieldUnder (erase l i) ν h u b f ≡ fieldUnder l ν h u b f)
+      (λ _. under-shift (erase l i) ν u b h ∙ sym (under-shift l ν u b h))
+      (λ _. under-owner (erase l i) ν u b h ∙ sym (under-owner l ν u b h))
+      (λ x g _. under-mark (erase l i) ν u b h x g ∙ (bits-same (λ j. slotMark (erase l i) x (u - 1) (slots * b + j))
+      (λ j. slotMark l x (u - 1) (slots * b + j)) slots (λ j _. marks-stay x (u - 1) (slots * b + j)) ∙ sym
+      (under-mark l ν u b h x g)))
+      (λ o g s. under-slot (erase l i) ν u b h o ∙ (s o g refl ∙ sym (under-slot l ν u b h o)))
 
   -- a node off the entry's path lies apart from its run
   node-apart : (u b : ℕ) → any (within (tierOrder u) b) l ≡ true →
@@ -158,32 +152,33 @@ module _ (l : List Entry) (val : Valid l) (i : ℕ) (e : Entry) (q : covering l 
       ap (λ (x : ℕ). block (tierOrder x) y) (sym s) ∙ (tier-up (u - 1) y ∙ (ap (λ (x : ℕ). x / slots) w ∙ z)))
 
   pub off-path : (h : ℕ) (ν : Numbering) (u b f : ℕ) → 0 < u → any (within (tierOrder u) b) l ≡ true →
-      (e .order < tierOrder u → b ≡ block (tierOrder u) i → ⊥) → f < nodeWords →
-      fieldH h (erase l i) ν u b f ≡ fieldH h l ν u b f
+      (e .order < tierOrder u → b ≡ block (tierOrder u) i → ⊥) → IsField f →
+      fieldUnder (erase l i) ν h u b f ≡ fieldUnder l ν h u b f
   off-path h ν u b f pos t ne lt =
-      fields-same h ν u b f (λ g. slot-stays ν (u - 1) (slots * b + (f - 5))
-      (slot-apart u b (slots * b + (f - 5)) pos (node-apart u b t ne) (omega arith)))
+      fields-same h ν u b f lt (λ o g _. slot-stays ν (u - 1) (slots * b + o)
+      (slot-apart u b (slots * b + o) pos (node-apart u b t ne) (omega arith)))
 
   pub off-tall : (h : ℕ) (ν : Numbering) (u b f : ℕ) → 0 < u → u ≤ h → any (within (tierOrder u) b) l ≡ true →
-      (e .order < tierOrder u → b ≡ block (tierOrder u) i → ⊥) → tallAt h (erase l i) ν (some (nd u b)) f ≡ fieldH h
-      (erase l i) ν u b f
+      (e .order < tierOrder u → b ≡ block (tierOrder u) i → ⊥) → tallAt h (erase l i) ν (some (nd u b)) f ≡ fieldUnder
+      (erase l i) ν h u b f
   off-tall h ν u b f pos le t ne = rw (le-leb u h le, within-stays u b (node-apart u b t ne), t)
 
   -- a node on the path, above the entry's: only the path's slot may change
-  pub on-path : (h : ℕ) (ν : Numbering) (u f : ℕ) → 0 < u → e .order ≤ tierOrder (u - 1) → f < nodeWords →
-      (f ≡ 5 + block (tierOrder (u - 1)) i % slots → any (within (tierOrder (u - 1)) (block (tierOrder (u - 1)) i))
+  pub on-path : (h : ℕ) (ν : Numbering) (u f : ℕ) → 0 < u → e .order ≤ tierOrder (u - 1) → IsField f →
+      (f ≡ fieldSlot (block (tierOrder (u - 1)) i % slots) → any (within (tierOrder (u - 1)) (block (tierOrder (u - 1)) i))
       (erase l i) ≡ true) →
-      fieldH h (erase l i) ν u (block (tierOrder u) i) f ≡ fieldH h l ν u (block (tierOrder u) i) f
+      fieldUnder (erase l i) ν h u (block (tierOrder u) i) f ≡ fieldUnder l ν h u (block (tierOrder u) i) f
   on-path h ν u f pos le lt path =
-      fields-same h ν u (block (tierOrder u) i) f (λ g.
+      fields-same h ν u (block (tierOrder u) i) f lt (λ o g f≡.
       let s : suc (u - 1) ≡ u = omega arith in
       let y : block (tierOrder u) i ≡ block (tierOrder (u - 1)) i / slots = ap (λ (x : ℕ). block (tierOrder x) i)
       (sym s) ∙ tier-up (u - 1) i in
-      byT (eqb (slots * block (tierOrder u) i + (f - 5)) (block (tierOrder (u - 1)) i))
-      (λ t. let d : slots * block (tierOrder u) i + (f - 5) ≡ block (tierOrder (u - 1)) i = eqb-true _ _ t in
-      rw d (slot-kept ν (u - 1) (block (tierOrder (u - 1)) i) (path (omega arith))))
-      (λ t. slot-stays ν (u - 1) (slots * block (tierOrder u) i + (f - 5))
-      (apart-up i (e .order) (tierOrder (u - 1)) (slots * block (tierOrder u) i + (f - 5)) le (eqb-false _ _ t))))
+      byT (eqb (slots * block (tierOrder u) i + o) (block (tierOrder (u - 1)) i))
+      (λ t. let d : slots * block (tierOrder u) i + o ≡ block (tierOrder (u - 1)) i = eqb-true _ _ t in
+      let o≡ : o ≡ block (tierOrder (u - 1)) i % slots = omega arith in
+      rw d (slot-kept ν (u - 1) (block (tierOrder (u - 1)) i) (path (f≡ ∙ ap fieldSlot o≡))))
+      (λ t. slot-stays ν (u - 1) (slots * block (tierOrder u) i + o)
+      (apart-up i (e .order) (tierOrder (u - 1)) (slots * block (tierOrder u) i + o) le (eqb-false _ _ t))))
 
   -- what stays at one tier stays above
   pub path-up : (v d : ℕ) → any (within (tierOrder v) (block (tierOrder v) i)) (erase l i) ≡ true →
@@ -218,39 +213,30 @@ module _ {ws₀ : List ℕ} (s : WellFormed ws₀) {i v n : ℕ} {ws : List ℕ}
   abbrev N : Numbering
   N = num s
 
-  pub cut-fits : (place n lastField < length ws) × (n < maxNodes) × (v < topTier) × (length ws ≡ length ws₀)
+  pub cut-fits : (lastPlace n < length ws) × (n < maxNodes) × (v < topTier) × (length ws ≡ length ws₀)
   cut-fits =
       let h : n < s .n = node-at s (c .at-node) .0 in
-      let t : suc v ≤ topTier = has-low (s .list) (suc v) (block (tierOrder (suc v)) i) (s .valid) (c .at-node .there)
+      let t : suc v ≤ topTier = has-low (s .list) (suc v) (block (tierOrder (suc v)) i) (c .at-node .there)
       in
       (omega (arith, c .size), omega (arith, s .most), omega arith, c .size ∙ sym (pool-length s))
 
-  cut-field : (f : ℕ) → f < nodeWords → getD ws (place n f) 0 ≡ fieldH (height (s .list)) (erase (s .list) i) (num s)
-      (suc v) (block (tierOrder (suc v)) i) f
+  cut-field : (f : ℕ) → IsField f → getD ws (place n f) 0 ≡ fieldUnder (erase (s .list) i) (num s)
+      (height (s .list)) (suc v) (block (tierOrder (suc v)) i) f
   cut-field f lt = let (a, b) = node-at s (c .at-node) in
       c .node n f a lt ∙ rw (b, lt-leb (suc v) v (le-refl (suc v)), le-leb (suc v) (suc v) (le-refl (suc v))) refl
 
-  cut-slot : (o : ℕ) → o < slots → getD ws (place n (slotField + o)) 0 ≡ slot (erase (s .list) i) (num s) v
+  cut-slot : (o : ℕ) → o < slots → getD ws (slotPlace n o) 0 ≡ slot (erase (s .list) i) (num s) v
       (slots * block (tierOrder (suc v)) i + o)
-  cut-slot o lt =
-      let e : suc v - 1 ≡ v = omega arith in
-      let d : 5 + o - 5 ≡ o = omega arith in
-      cut-field (5 + o) (omega arith) ∙ rw (
-        ne-eqb (5 + o) 0 (omega arith),
-        ne-eqb (5 + o) 1 (omega arith),
-        le-ltb (5 + o) 5 (omega arith),
-        e,
-        d,
-      ) refl
+  cut-slot = get-slot ws n (erase (s .list) i) (num s) (height (s .list)) v (block (tierOrder (suc v)) i) cut-field
 
-  pub cut-owner : getD ws (place n ownerField) 0 ≡ pick (eqb (suc v) (height (s .list))) 0
+  pub cut-owner : getD ws (ownerPlace n) 0 ≡ pick (eqb (suc v) (height (s .list))) 0
       (1 + slots * num s (suc (suc v)) (block (tierOrder (suc v)) i / slots) + block (tierOrder (suc v)) i % slots)
-  cut-owner = cut-field 1 (omega arith)
+  cut-owner = get-owner ws n (erase (s .list) i) (num s) (height (s .list)) v (block (tierOrder (suc v)) i) cut-field
 
   ok′ : All EntryOk (erase (s .list) i)
   ok′ = sorted-ok (erase-valid i (s .valid))
 
-  pub cut-empty : ((j : ℕ) → 0 ≤ j → j < slots → getD ws (place n (slotField + j)) 0 ≡ 0) →
+  pub cut-empty : ((j : ℕ) → 0 ≤ j → j < slots → getD ws (slotPlace n j) 0 ≡ 0) →
       any (within (tierOrder (suc v)) (block (tierOrder (suc v)) i)) (erase (s .list) i) ≡ false
   cut-empty z =
       node-empty (erase (s .list) i) (num s) v (block (tierOrder (suc v)) i) ok′
@@ -258,7 +244,7 @@ module _ {ws₀ : List ℕ} (s : WellFormed ws₀) {i v n : ℕ} {ws : List ℕ}
       subst (λ (x : ℕ). slot (erase (s .list) i) (num s) v x ≡ 0) e
       (sym (cut-slot (d % slots) (omega arith)) ∙ z (d % slots) (omega arith) (omega arith)))
 
-  pub cut-filled : (((j : ℕ) → 0 ≤ j → j < slots → getD ws (place n (slotField + j)) 0 ≡ 0) → ⊥) →
+  pub cut-filled : (((j : ℕ) → 0 ≤ j → j < slots → getD ws (slotPlace n j) 0 ≡ 0) → ⊥) →
       any (within (tierOrder (suc v)) (block (tierOrder (suc v)) i)) (erase (s .list) i) ≡ true
   cut-filled f =
       byT (any (within (tierOrder (suc v)) (block (tierOrder (suc v)) i)) (erase (s .list) i)) (λ t. t)
@@ -279,13 +265,13 @@ module _ {ws₀ : List ℕ} (s : WellFormed ws₀) {i v n : ℕ} {ws : List ℕ}
       getD ws′ headWord 0 ≡ slot (erase (s .list) i) (num s) (height (s .list)) 0 →
       getD ws′ marksWord 0 ≡ getD ws marksWord 0 →
       getD ws′ spareWord 0 ≡ getD ws spareWord 0 →
-      ((m f : ℕ) → m < s .n → f < nodeWords → getD ws′ (place m f) 0 ≡ tallAt (height (s .list)) (erase (s .list) i)
+      ((m f : ℕ) → m < s .n → IsField f → getD ws′ (place m f) 0 ≡ tallAt (height (s .list)) (erase (s .list) i)
       (num s) (getD (s .places) m none) f) → Tall (s .n) (height (s .list)) (erase (s .list) i) (s .places) ws′
   unfolding has
   make len e₀ e₁ e₂ e₃ node′ = record {
     valid = erase-valid i (s .valid);
     small = s .most;
-    high = height-most (All-map (λ x o. (o .order-le, o .in-range)) (sorted-ok (s .valid)));
+    high = height-most (s .list);
     fit = height-clear (covers i) (s .list);
     count = s .placed .size;
     once = s .placed .once;
@@ -328,7 +314,7 @@ module _ {ws₀ : List ℕ} (s : WellFormed ws₀) {i v n : ℕ} {ws : List ℕ}
           c .anchor 1 (omega arith) ∙ sym (slot-kept (s .list) (s .valid) i (c .entry) (c .covering-is) (c .unmarked)
           (num s) (height (s .list)) 0 t)
 
-      go : (m f : ℕ) → f < nodeWords → (o : Option Node) → getD (s .places) m none ≡ o →
+      go : (m f : ℕ) → IsField f → (o : Option Node) → getD (s .places) m none ≡ o →
           cutAt (s .list) (erase (s .list) i) (num s) v o f ≡ tallAt (height (s .list)) (erase (s .list) i) (num s) o
           f
       go m f lt none r = refl
@@ -368,8 +354,8 @@ module _ {ws₀ : List ℕ} (s : WellFormed ws₀) {i v n : ℕ} {ws : List ℕ}
 
   module _ (gone : any (within (tierOrder (suc v)) (block (tierOrder (suc v)) i)) (erase (s .list) i) ≡ false) where
     -- a node of the tier that is not the path's
-    beside : (m f : ℕ) → f < nodeWords → (m ≡ n → ⊥) → (p : Node) → getD (s .places) m none ≡ some p →
-        p .tier ≡ suc v → fieldH (height (s .list)) (erase (s .list) i) (num s) (p .tier) (p .number) f ≡ tallAt
+    beside : (m f : ℕ) → IsField f → (m ≡ n → ⊥) → (p : Node) → getD (s .places) m none ≡ some p →
+        p .tier ≡ suc v → fieldUnder (erase (s .list) i) (num s) (height (s .list)) (p .tier) (p .number) f ≡ tallAt
         (height (s .list)) (erase (s .list) i) (num s) (some p) f
     beside m f lt ne p r u =
         let (y, t) = place-of s m p r in
@@ -384,13 +370,13 @@ module _ {ws₀ : List ℕ} (s : WellFormed ws₀) {i v n : ℕ} {ws : List ℕ}
     none-left m f e = rw (e, node-at s (c .at-node) .1, gone, both-no)
 
     -- (2) the head itself is empty
-    pub cut-top : {ws′ : List ℕ} → getD ws (place n ownerField) 0 ≡ 0 → length ws′ ≡ length ws →
-        ((j : ℕ) → poolWords n ≤ j → j < place n nodeWords → getD ws′ j 0 ≡ 0) → getD ws′ headWord 0 ≡ 0 →
-        ((j : ℕ) → (poolWords n ≤ j → j < place n nodeWords → ⊥) → j ≢ 1 → getD ws′ j 0 ≡ getD ws j 0) →
+    pub cut-top : {ws′ : List ℕ} → getD ws (ownerPlace n) 0 ≡ 0 → length ws′ ≡ length ws →
+        ((j : ℕ) → poolWords n ≤ j → j < nodeEnd n → getD ws′ j 0 ≡ 0) → getD ws′ headWord 0 ≡ 0 →
+        ((j : ℕ) → (poolWords n ≤ j → j < nodeEnd n → ⊥) → j ≢ headWord → getD ws′ j 0 ≡ getD ws j 0) →
         Tall (s .n) (height (s .list)) (erase (s .list) i) (s .places) ws′
     cut-top {ws′} own len zeros head rest =
-        make len (rest 0 (λ p q. omega arith) (omega arith)) (head ∙ sym top-slot)
-        (rest 2 (λ p q. omega arith) (omega arith)) (rest 3 (λ p q. omega arith) (omega arith))
+        make len (rest countWord (λ p q. omega arith) (omega arith)) (head ∙ sym top-slot)
+        (rest marksWord (λ p q. omega arith) (omega arith)) (rest spareWord (λ p q. omega arith) (omega arith))
         (λ m f p lt. byT (eqb m n) (λ t. let e : m ≡ n = eqb-true _ _ t in
         zeros (place m f) (omega arith) (omega arith) ∙ sym (none-left m f e))
         (λ t. let ne : m ≡ n → ⊥ = eqb-false _ _ t in rest (place m f) (λ a b. ne (omega arith)) (omega arith) ∙
@@ -411,7 +397,7 @@ module _ {ws₀ : List ℕ} (s : WellFormed ws₀) {i v n : ℕ} {ws : List ℕ}
             (subst (λ (u : ℕ). any (within (tierOrder u) (block (tierOrder u) i)) (erase (s .list) i) ≡ false) top
             gone))
 
-        go : (m f : ℕ) → f < nodeWords → (m ≡ n → ⊥) → (o : Option Node) → getD (s .places) m none ≡ o →
+        go : (m f : ℕ) → IsField f → (m ≡ n → ⊥) → (o : Option Node) → getD (s .places) m none ≡ o →
             cutAt (s .list) (erase (s .list) i) (num s) v o f ≡ tallAt (height (s .list)) (erase (s .list) i) (num s)
             o f
         go m f lt ne none r = refl
@@ -423,7 +409,7 @@ module _ {ws₀ : List ℕ} (s : WellFormed ws₀) {i v n : ℕ} {ws : List ℕ}
             rw (g, le-leb (p .tier) (suc v) (omega arith)) (beside m f lt ne p r u))
 
     -- (3) the node is freed, and its slot in the node over it is 0
-    module _ (p : ℕ) (r : p ≡ getD ws (place n ownerField) 0) (ne₀ : p ≡ 0 → ⊥) where
+    module _ (p : ℕ) (r : p ≡ getD ws (ownerPlace n) 0) (ne₀ : p ≡ 0 → ⊥) where
       not-top : suc v ≡ height (s .list) → ⊥
       not-top z = ne₀ (r ∙ (cut-owner ∙ rw (eq-eqb (suc v) (height (s .list)) z) refl))
 
@@ -446,7 +432,7 @@ module _ {ws₀ : List ℕ} (s : WellFormed ws₀) {i v n : ℕ} {ws : List ℕ}
       pub over-slot : (p - 1) % slots ≡ block (tierOrder (suc v)) i % slots
       over-slot = let o = owner-is in omega arith
 
-      pub over-fits : (place ((p - 1) / slots) lastField < length ws) × ((p - 1) / slots ≡ n → ⊥)
+      pub over-fits : (lastPlace ((p - 1) / slots) < length ws) × ((p - 1) / slots ≡ n → ⊥)
       over-fits = (
         omega (arith, node-at s over .0, c .size),
         λ z. let d : some (nd (suc (suc v)) (block (tierOrder (suc (suc v))) i)) ≡ some
@@ -459,10 +445,10 @@ module _ {ws₀ : List ℕ} (s : WellFormed ws₀) {i v n : ℕ} {ws : List ℕ}
       )
 
       pub cut-next : {ws′ : List ℕ} → length ws′ ≡ length ws →
-          ((j : ℕ) → poolWords n ≤ j → j < place n nodeWords → getD ws′ j 0 ≡ 0) →
-          getD ws′ (place ((p - 1) / slots) (slotField + (p - 1) % slots)) 0 ≡ 0 →
-          ((j : ℕ) → (poolWords n ≤ j → j < place n nodeWords → ⊥) →
-          j ≢ place ((p - 1) / slots) (slotField + (p - 1) % slots) → getD ws′ j 0 ≡ getD ws j 0) →
+          ((j : ℕ) → poolWords n ≤ j → j < nodeEnd n → getD ws′ j 0 ≡ 0) →
+          getD ws′ (slotPlace ((p - 1) / slots) ((p - 1) % slots)) 0 ≡ 0 →
+          ((j : ℕ) → (poolWords n ≤ j → j < nodeEnd n → ⊥) →
+          j ≢ slotPlace ((p - 1) / slots) ((p - 1) % slots) → getD ws′ j 0 ≡ getD ws j 0) →
           Cut s i (suc v) ((p - 1) / slots) ws′
       cut-next {ws′} len zeros slot₀ rest = record {
         entry = c .entry;
@@ -475,15 +461,15 @@ module _ {ws₀ : List ℕ} (s : WellFormed ws₀) {i v n : ℕ} {ws : List ℕ}
         node = λ m f q lt. byT (eqb m n) (λ t. let e : m ≡ n = eqb-true _ _ t in
             zeros (place m f) (omega arith) (omega arith) ∙ sym (freed m f e))
             (λ t. let ne : m ≡ n → ⊥ = eqb-false _ _ t in
-            byT (both (eqb m ((p - 1) / slots)) (eqb f (5 + (p - 1) % slots)))
+            byT (both (eqb m ((p - 1) / slots)) (eqb f (fieldSlot ((p - 1) % slots))))
             (λ k. let m≡ : m ≡ (p - 1) / slots = eqb-true _ _
-            (both-l (eqb m ((p - 1) / slots)) (eqb f (5 + (p - 1) % slots)) k) in
-            let f≡ : f ≡ 5 + (p - 1) % slots = eqb-true _ _
-            (both-r (eqb m ((p - 1) / slots)) (eqb f (5 + (p - 1) % slots)) k) in
+            (both-l (eqb m ((p - 1) / slots)) (eqb f (fieldSlot ((p - 1) % slots))) k) in
+            let f≡ : f ≡ fieldSlot ((p - 1) % slots) = eqb-true _ _
+            (both-r (eqb m ((p - 1) / slots)) (eqb f (fieldSlot ((p - 1) % slots))) k) in
             rw (m≡, f≡) (slot₀ ∙ sym cleared))
-            (λ k. let out : m ≡ (p - 1) / slots → f ≡ 5 + (p - 1) % slots →
-            ⊥ = λ x y. clash {b = both (eqb m ((p - 1) / slots)) (eqb f (5 + (p - 1) % slots))}
-            (rw (eq-eqb m ((p - 1) / slots) x, eq-eqb f (5 + (p - 1) % slots) y)) k in
+            (λ k. let out : m ≡ (p - 1) / slots → f ≡ fieldSlot ((p - 1) % slots) →
+            ⊥ = λ x y. clash {b = both (eqb m ((p - 1) / slots)) (eqb f (fieldSlot ((p - 1) % slots)))}
+            (rw (eq-eqb m ((p - 1) / slots) x, eq-eqb f (fieldSlot ((p - 1) % slots)) y)) k in
             rest (place m f) (λ a b. ne (omega arith)) (λ z. out (omega arith) (omega arith)) ∙
             (c .node m f q lt ∙ go m f lt ne out (getD (s .places) m none) refl)));
       }
@@ -493,26 +479,23 @@ module _ {ws₀ : List ℕ} (s : WellFormed ws₀) {i v n : ℕ} {ws : List ℕ}
           freed m f e = rw (e, node-at s (c .at-node) .1, le-leb (suc v) (suc v) (le-refl (suc v)), gone, both-no)
 
           cleared : cutAt (s .list) (erase (s .list) i) (num s) (suc v) (getD (s .places) ((p - 1) / slots) none)
-              (5 + (p - 1) % slots) ≡ 0
+              (fieldSlot ((p - 1) % slots)) ≡ 0
           cleared =
               let y : block (tierOrder (suc (suc v))) i ≡ block (tierOrder (suc v)) i / slots = tier-up (suc v) i in
               let o : (p - 1) % slots ≡ block (tierOrder (suc v)) i % slots = over-slot in
-              let d : slots * block (tierOrder (suc (suc v))) i + (5 + (p - 1) % slots - 5) ≡ block
-              (tierOrder (suc v)) i = omega arith in
+              let d : slots * block (tierOrder (suc (suc v))) i + (p - 1) % slots ≡ block (tierOrder (suc v)) i =
+              omega arith in
               let w : suc (suc v) - 1 ≡ suc v = omega arith in
               rw (
                 node-at s over .1,
                 lt-leb (suc (suc v)) (suc v) (le-refl (suc (suc v))),
                 le-leb (suc (suc v)) (suc (suc v)) (le-refl (suc (suc v))),
-                ne-eqb (5 + (p - 1) % slots) 0 (omega arith),
-                ne-eqb (5 + (p - 1) % slots) 1 (omega arith),
-                le-ltb (5 + (p - 1) % slots) 5 (omega arith),
-                w,
-                d,
               )
-              (slot-path (s .list) (s .valid) i (c .entry) (c .covering-is) (c .unmarked) (num s) (suc v) gone)
+              (under-slot (erase (s .list) i) (num s) (suc (suc v)) (block (tierOrder (suc (suc v))) i)
+              (height (s .list)) ((p - 1) % slots) ∙ rw (w, d)
+              (slot-path (s .list) (s .valid) i (c .entry) (c .covering-is) (c .unmarked) (num s) (suc v) gone))
 
-          go : (m f : ℕ) → f < nodeWords → (m ≡ n → ⊥) → (m ≡ (p - 1) / slots → f ≡ 5 + (p - 1) % slots → ⊥) →
+          go : (m f : ℕ) → IsField f → (m ≡ n → ⊥) → (m ≡ (p - 1) / slots → f ≡ fieldSlot ((p - 1) % slots) → ⊥) →
               (o : Option Node) → getD (s .places) m none ≡ o → cutAt (s .list) (erase (s .list) i) (num s) v o f ≡
               cutAt (s .list) (erase (s .list) i) (num s) (suc v) o f
           go m f lt ne out none r = refl
@@ -535,7 +518,7 @@ module _ {ws₀ : List ℕ} (s : WellFormed ws₀) {i v n : ℕ} {ws : List ℕ}
               let w : x .tier - 1 ≡ suc v = omega arith in
               rw b′ (sym (on-path (s .list) (s .valid) i (c .entry) (c .covering-is) (c .unmarked)
               (height (s .list)) (num s) (x .tier) f pos (omega (arith, c .low)) lt
-              (λ z. absurd (out m≡ (z ∙ ap (λ (a : ℕ). 5 + a)
+              (λ z. absurd (out m≡ (z ∙ ap fieldSlot
               (ap (λ (a : ℕ). block (tierOrder a) i % slots) w ∙ sym over-slot)))))))
               (λ b. sym (off-path (s .list) (s .valid) i (c .entry) (c .covering-is) (c .unmarked)
               (height (s .list)) (num s) (x .tier) (x .number) f pos (was-there (x .tier) (x .number) t)
@@ -567,10 +550,10 @@ module _ {ws₀ : List ℕ} (s : WellFormed ws₀) {i v n o : ℕ} (h : Holds (s
   at-i : AtNode (s .list) (num s) v (block (tierOrder (suc v)) i) n
   at-i = subst (λ (b : ℕ). AtNode (s .list) (num s) v b n) same-block (h .at-node)
 
-  pub run-fits : (place n lastField < length ws₀) × (n < maxNodes) × (o < slots) × (v < topTier)
+  pub run-fits : (lastPlace n < length ws₀) × (n < maxNodes) × (o < slots) × (v < topTier)
   run-fits =
       let a : n < s .n = node-at s (h .at-node) .0 in
-      let t : suc v ≤ topTier = has-low (s .list) (suc v) (block (tierOrder (suc v)) (h .entry .base)) (s .valid)
+      let t : suc v ≤ topTier = has-low (s .list) (suc v) (block (tierOrder (suc v)) (h .entry .base))
       (h .at-node .there) in
       (omega (arith, pool-length s), omega (arith, s .most), omega (arith, h .slot-is), omega arith)
 
@@ -616,9 +599,9 @@ module _ {ws₀ : List ℕ} (s : WellFormed ws₀) {i v n o : ℕ} (h : Holds (s
         f a (rw w at b)
 
     pub cut-start : {ws : List ℕ} → length ws ≡ length ws₀ →
-        ((j : ℕ) → place n (slotField + o) ≤ j → j < place n (slotField + o) + 2 ^ r → getD ws j 0 ≡ 0) →
-        ((j : ℕ) → j < place n (slotField + o) → getD ws j 0 ≡ getD ws₀ j 0) →
-        ((j : ℕ) → place n (slotField + o) + 2 ^ r ≤ j → getD ws j 0 ≡ getD ws₀ j 0) → Cut s i v n ws
+        ((j : ℕ) → slotPlace n o ≤ j → j < slotPlace n o + 2 ^ r → getD ws j 0 ≡ 0) →
+        ((j : ℕ) → j < slotPlace n o → getD ws j 0 ≡ getD ws₀ j 0) →
+        ((j : ℕ) → slotPlace n o + 2 ^ r ≤ j → getD ws j 0 ≡ getD ws₀ j 0) → Cut s i v n ws
     cut-start {ws} len z b a = record {
       entry = h .entry;
       covering-is = h .covering-is;
@@ -627,10 +610,10 @@ module _ {ws₀ : List ℕ} (s : WellFormed ws₀) {i v n o : ℕ} (h : Holds (s
       at-node = at-i;
       size = len ∙ pool-length s;
       anchor = λ k lt. b k (omega arith) ∙ pool-anchor s k lt;
-      node = λ m f p lt. byT (ltb (place m f) (place n (slotField + o)))
+      node = λ m f p lt. byT (ltb (place m f) (slotPlace n o))
           (λ t. b (place m f) (ltb-true _ _ t) ∙ (pool-node s m f p lt ∙ go m f lt
           (λ x y w. omega (arith, ltb-true, t)) (getD (s .places) m none) refl))
-          (λ t. byT (ltb (place m f) (place n (slotField + o) + 2 ^ r))
+          (λ t. byT (ltb (place m f) (slotPlace n o + 2 ^ r))
           (λ t′. inner m f lt (ltb-false _ _ t) (ltb-true _ _ t′))
           (λ t′. a (place m f) (ltb-false _ _ t′) ∙ (pool-node s m f p lt ∙ go m f lt
           (λ x y w. omega (arith, ltb-false, t′)) (getD (s .places) m none) refl)));
@@ -639,31 +622,36 @@ module _ {ws₀ : List ℕ} (s : WellFormed ws₀) {i v n o : ℕ} (h : Holds (s
         B≡ : block (tierOrder (suc v)) i ≡ block (tierOrder v) (h .entry .base) / slots
         B≡ = sym same-block ∙ tier-up v (h .entry .base)
 
-        inner : (m f : ℕ) → f < nodeWords → place n (slotField + o) ≤ place m f →
-            place m f < place n (slotField + o) + 2 ^ r → getD ws (place m f) 0 ≡ cutAt (s .list) (erase (s .list) i)
+        slot-0 : (t : ℕ) → t < 2 ^ r → fieldUnder (erase (s .list) i) (num s) (height (s .list)) (suc v)
+            (block (tierOrder (suc v)) i) (fieldSlot (o + t)) ≡ 0
+        slot-0 t t< =
+            let w : o + 2 ^ r ≤ slots = run-wide in
+            let v≡ : suc v - 1 ≡ v = omega arith in
+            under-slot (erase (s .list) i) (num s) (suc v) (block (tierOrder (suc v)) i) (height (s .list)) (o + t) ∙
+            rw v≡ (slot-goes (s .list) (s .valid) i (h .entry) (h .covering-is) bare₀ (num s) v
+            (slots * block (tierOrder (suc v)) i + (o + t))
+            (in-run (slots * block (tierOrder (suc v)) i + (o + t)) (omega (arith, B≡, h .slot-is))
+            (omega (arith, B≡, h .slot-is))))
+
+        inner : (m f : ℕ) → IsField f → slotPlace n o ≤ place m f →
+            place m f < slotPlace n o + 2 ^ r → getD ws (place m f) 0 ≡ cutAt (s .list) (erase (s .list) i)
             (num s) v (getD (s .places) m none) f
         inner m f lt x y =
             let w : o + 2 ^ r ≤ slots = run-wide in
             let m≡ : m ≡ n = omega arith in
-            let f≥ : 5 + o ≤ f = omega arith in
-            let f< : f < 5 + o + 2 ^ r = omega arith in
-            let v≡ : suc v - 1 ≡ v = omega arith in
+            let t : ℕ = place m f - slotPlace n o in
+            let f≡ : fieldSlot (o + t) ≡ f = omega arith in
+            let t< : t < 2 ^ r = omega arith in
             z (place m f) x y ∙ sym (rw (
               m≡,
               node-at s at-i .1,
               lt-leb (suc v) v (le-refl (suc v)),
               le-leb (suc v) (suc v) (le-refl (suc v)),
-              ne-eqb f 0 (omega arith),
-              ne-eqb f 1 (omega arith),
-              le-ltb f 5 (omega arith),
-              v≡,
             )
-            (slot-goes (s .list) (s .valid) i (h .entry) (h .covering-is) bare₀ (num s) v
-            (slots * block (tierOrder (suc v)) i + (f - 5))
-            (in-run (slots * block (tierOrder (suc v)) i + (f - 5)) (omega (arith, B≡, h .slot-is))
-            (omega (arith, B≡, h .slot-is)))))
+            (subst (λ (k : ℕ). fieldUnder (erase (s .list) i) (num s) (height (s .list)) (suc v)
+            (block (tierOrder (suc v)) i) k ≡ 0) f≡ (slot-0 t t<)))
 
-        go : (m f : ℕ) → f < nodeWords → (m ≡ n → 5 + o ≤ f → f < 5 + o + 2 ^ r → ⊥) → (x : Option Node) →
+        go : (m f : ℕ) → IsField f → (m ≡ n → fieldSlot o ≤ f → f < fieldSlot o + 2 ^ r → ⊥) → (x : Option Node) →
             getD (s .places) m none ≡ x → fieldAt (s .list) (num s) x f ≡ cutAt (s .list) (erase (s .list) i) (num s)
             v x f
         go m f lt out none e = refl
@@ -688,10 +676,10 @@ module _ {ws₀ : List ℕ} (s : WellFormed ws₀) {i v n o : ℕ} (h : Holds (s
             let m≡ : m ≡ n = y ∙ (ap₂ (num s) u d′ ∙ sym (at-i .number)) in
             let w : p .tier - 1 ≡ v = omega arith in
             fields-same (s .list) (s .valid) i (h .entry) (h .covering-is) bare₀ (height (s .list)) (num s)
-            (p .tier) (p .number) f (λ f≥. rw w
+            (p .tier) (p .number) f lt (λ o′ g₁ f≡. rw w
             (slot-stays (s .list) (s .valid) i (h .entry) (h .covering-is) bare₀ (num s) v
-            (slots * p .number + (f - 5)) (out-run (slots * p .number + (f - 5))
-            (λ x z. out m≡ (omega (arith, B≡, d′, h .slot-is)) (omega (arith, B≡, d′, h .slot-is)))))))
+            (slots * p .number + o′) (out-run (slots * p .number + o′)
+            (λ x z. out m≡ (omega (arith, f≡, B≡, d′, h .slot-is)) (omega (arith, f≡, B≡, d′, h .slot-is)))))))
             (λ d. off-path (s .list) (s .valid) i (h .entry) (h .covering-is) bare₀ (height (s .list)) (num s)
             (p .tier) (p .number) f pos a (λ _ z. eqb-false _ _ d z) lt))))
             (λ k. rw (g, k)))

@@ -7,9 +7,9 @@ use mathlib.Core.Option.{Option, none, some}
 use mathlib.Core.Logic.{_⊎_, inl, inr, _≢_}
 use native.Mathlib.Omega.{arith}
 use native.Mathlib.Nat.{le-refl, zero-mul, zero-div}
-use lib.Dec.{leb, ltb, eqb}
+use lib.Dec.{leb, eqb}
 use lib.ListN.{length, getD}
-use borrow.Author.Tests.{leb-true, leb-false, eqb-true, eqb-false, lt-ltb, le-ltb, le-leb, lt-leb, eq-eqb, ne-eqb}
+use borrow.Author.Tests.{leb-true, leb-false, eqb-true, eqb-false, lt-ltb, le-leb, lt-leb, eq-eqb, ne-eqb}
 use Rattle.blocks.specs.Choice.{pick, both}
 use Rattle.blocks.specs.Lists.{any, All, In, here}
 use Rattle.blocks.specs.Blocks.{block}
@@ -20,19 +20,25 @@ use Rattle.model.specs.Model.{covers, covering, within}
 use Rattle.model.proofs.ValidLaws.{sorted-ok, covers-lo}
 use Rattle.tree.specs.Slots.{slot, Numbering}
 use Rattle.tree.specs.Tree.{has, height, fits, Node, tierOrder, slots}
-use Rattle.tree.proofs.SlotLaws.{node-empty, slot-num}
+use Rattle.tree.proofs.SlotLaws.{node-empty, slot-num, within-up}
 use Rattle.tree.proofs.StoreLaws.{within-only}
 use Rattle.tree.proofs.HeightLaws.{Low, height-fits, fits-base, fits-order}
 use Rattle.tree.proofs.EraseLaws.{shrink, shrunk}
+use Rattle.layout.proofs.FieldLaws.{by-field, fields-same, at-shift, at-owner, at-mark, at-slot}
+use Rattle.layout.proofs.NodeLaws.{get-slot}
 use Rattle.layout.specs.Words.{
   field,
+  fieldUnder,
   fieldAt,
   anchorWord,
+  shiftWord,
+  owner,
+  ownerUnder,
   ownerField,
-  slotField,
-  lastField,
+  markWord,
+  slotWord,
+  nodeEnd,
   place,
-  nodeWords,
   poolWords,
   maxNodes,
   marksWord,
@@ -40,8 +46,11 @@ use Rattle.layout.specs.Words.{
   countWord,
   spareWord,
   anchorWords,
+  ownerPlace,
+  lastPlace,
+  slotPlace,
+  IsField,
 }
-use Rattle.layout.proofs.OwnerLaws.{within-up}
 use Rattle.layout.specs.Places.{Places, numberIn, numberOf, render, prune, keepIf}
 use Rattle.layout.proofs.RenderLaws.{render-is}
 use Rattle.layout.proofs.PlacesLaws.{number-prune}
@@ -51,7 +60,7 @@ use Rattle.layout.specs.declared.Slot.the-variants.{Empty, Held, Sibling, Child
 use Rattle.layout.proofs.NumberLaws.{nd, prune-get, number-at, number-of}
 use Rattle.layout.proofs.SlotWordLaws.{View, view}
 use Rattle.lookup.proofs.WayLaws.{view-child, view-empty, view-held, view-sibling}
-use Rattle.erase.specs.Tall.{fieldH, stays, tallAt, Tall}
+use Rattle.erase.specs.Tall.{stays, tallAt, Tall}
 
 -- a slot's word under another numbering
 module _ {n h : ℕ} {l : List Entry} {os : Places} {ws : List ℕ} (w : Tall n h l os ws) where
@@ -70,17 +79,13 @@ module _ {n h : ℕ} {l : List Entry} {os : Places} {ws : List ℕ} (w : Tall n 
   pub tall-spot : (m : ℕ) (p : Node) → getD os m none ≡ some p → m ≡ ν (p .tier) (p .number)
   tall-spot m p e = sym (number-of p os m (w .once) e)
 
-  pub tall-field : (u b f : ℕ) → u ≤ h → any (within (tierOrder u) b) l ≡ true → f < nodeWords →
-      getD ws (place (ν u b) f) 0 ≡ fieldH h l ν u b f
+  pub tall-field : (u b f : ℕ) → u ≤ h → any (within (tierOrder u) b) l ≡ true → IsField f →
+      getD ws (place (ν u b) f) 0 ≡ fieldUnder l ν h u b f
   tall-field u b f le t lt = let (a, e) = tall-at u b le t in w .node (ν u b) f a lt ∙ rw (e, le-leb u h le, t) refl
 
   pub tall-slot : (u b o : ℕ) → suc u ≤ h → any (within (tierOrder (suc u)) b) l ≡ true → o < slots →
-      getD ws (place (ν (suc u) b) (slotField + o)) 0 ≡ slot l ν u (slots * b + o)
-  tall-slot u b o le t lt =
-      let e : suc u - 1 ≡ u = omega arith in
-      let d : 5 + o - 5 ≡ o = omega arith in
-      tall-field (suc u) b (5 + o) le t (omega arith) ∙ rw
-      (ne-eqb (5 + o) 0 (omega arith), ne-eqb (5 + o) 1 (omega arith), le-ltb (5 + o) 5 (omega arith), e, d) refl
+      getD ws (slotPlace (ν (suc u) b) o) 0 ≡ slot l ν u (slots * b + o)
+  tall-slot u b o le t lt = get-slot ws (ν (suc u) b) l ν h u b (λ f q. tall-field (suc u) b f le t q) o lt
 
   -- entries lie under the head
   pub under : (x : Entry) → In x l → fits h x ≡ true
@@ -105,19 +110,20 @@ module _ {n h : ℕ} {l : List Entry} {os : Places} {ws : List ℕ} (w : Tall n 
       anchor (suc (suc (suc zero))) lt = w .last
       anchor (suc (suc (suc (suc k)))) lt = absurd (omega arith)
 
-      node : (m f : ℕ) → m < n → f < nodeWords → getD ws (place m f) 0 ≡ fieldAt l (numberIn (prune l os))
+      node : (m f : ℕ) → m < n → IsField f → getD ws (place m f) 0 ≡ fieldAt l (numberIn (prune l os))
           (getD (prune l os) m none) f
       node m f p q = w .node m f p q ∙ (go (getD os m none) ∙ ap
           (λ (o : Option Node). fieldAt l (numberIn (prune l os)) o f) (sym (prune-get l os m)))
         where
           fields : (u b : ℕ) → u ≤ h → any (within (tierOrder u) b) l ≡ true →
-              fieldH h l (numberIn os) u b f ≡ field l (numberIn (prune l os)) u b f
+              fieldUnder l (numberIn os) h u b f ≡ field l (numberIn (prune l os)) u b f
           fields u b le t =
-              byT (eqb f 0) (λ f₀. rw f₀)
-              (λ f₀. byT (eqb f 1) (λ f₁. rw (f₀, f₁) (owners u b le t))
-              (λ f₁. byT (ltb f 5) (λ f₂. rw (f₀, f₁, f₂))
-              (λ f₂. rw (f₀, f₁, f₂) (sym (slot-num l (numberIn os) (numberIn (prune l os)) (u - 1)
-              (slots * b + (f - 5)) (same (u - 1) (slots * b + (f - 5)) (omega arith)))))))
+              fields-same (shiftWord u) (shiftWord u) (owner l (numberIn (prune l os)) u b)
+              (ownerUnder h (numberIn os) u b) (markWord l (numberIn (prune l os)) u b) (markWord l (numberIn os) u b)
+              (slotWord l (numberIn (prune l os)) u b) (slotWord l (numberIn os) u b) refl (owners u b le t)
+              (λ _ _. refl)
+              (λ o g. sym (slot-num l (numberIn os) (numberIn (prune l os)) (u - 1) (slots * b + o)
+              (same (u - 1) (slots * b + o) (omega arith)))) f q
             where
               owners : (u b : ℕ) → u ≤ h → any (within (tierOrder u) b) l ≡ true →
                   pick (eqb u h) 0 (1 + slots * numberIn os (suc u) (b / slots) + b % slots) ≡ pick (eqb u (height l))
@@ -215,10 +221,10 @@ module _ {n h : ℕ} {l : List Entry} {os : Places} {ws : List ℕ} (w : Tall n 
   pub drop : {ws′ : List ℕ} → height l ≤ h → length ws′ ≡ length ws → getD ws′ countWord 0 ≡ getD ws countWord 0 →
       getD ws′ headWord 0 ≡ slot l (numberIn os) h 0 → getD ws′ marksWord 0 ≡ getD ws marksWord 0 →
       getD ws′ spareWord 0 ≡ getD ws spareWord 0 →
-      ((f : ℕ) → f < nodeWords → getD ws′ (place (numberIn os (suc h) 0) f) 0 ≡ 0) →
-      (any (within (tierOrder h) 0) l ≡ true → getD ws′ (place (numberIn os h 0) ownerField) 0 ≡ 0) →
-      ((m f : ℕ) → m < n → f < nodeWords → (m ≡ numberIn os (suc h) 0 → ⊥) →
-      (any (within (tierOrder h) 0) l ≡ true → m ≡ numberIn os h 0 → f ≡ 1 → ⊥) →
+      ((f : ℕ) → IsField f → getD ws′ (place (numberIn os (suc h) 0) f) 0 ≡ 0) →
+      (any (within (tierOrder h) 0) l ≡ true → getD ws′ (ownerPlace (numberIn os h 0)) 0 ≡ 0) →
+      ((m f : ℕ) → m < n → IsField f → (m ≡ numberIn os (suc h) 0 → ⊥) →
+      (any (within (tierOrder h) 0) l ≡ true → m ≡ numberIn os h 0 → f ≡ ownerField → ⊥) →
       getD ws′ (place m f) 0 ≡ getD ws (place m f) 0) →
       Tall n h l os ws′
   drop {ws′} fit′ len e₀ e₁ e₂ e₃ zeros own rest = record {
@@ -240,41 +246,41 @@ module _ {n h : ℕ} {l : List Entry} {os : Places} {ws : List ℕ} (w : Tall n 
     marks = e₂ ∙ w .marks;
     last = e₃ ∙ w .last;
     node = λ m f p q. byT (eqb m (numberIn os (suc h) 0)) (λ t. at-head m f q (eqb-true _ _ t))
-        (λ t. byT (both (any (within (tierOrder h) 0) l) (both (eqb m (numberIn os h 0)) (eqb f 1)))
+        (λ t. byT (both (any (within (tierOrder h) 0) l) (both (eqb m (numberIn os h 0)) (eqb f ownerField)))
         (λ s. at-own m f s) (λ s. rest m f p q (eqb-false _ _ t)
-        (λ a b c. clash {b = both (any (within (tierOrder h) 0) l) (both (eqb m (numberIn os h 0)) (eqb f 1))}
-        (rw (a, eq-eqb m (numberIn os h 0) b, eq-eqb f 1 c)) s) ∙
-        (w .node m f p q ∙ same m f (eqb-false _ _ t) s (getD os m none) refl)));
+        (λ a b c. clash {b = both (any (within (tierOrder h) 0) l) (both (eqb m (numberIn os h 0)) (eqb f ownerField))}
+        (rw (a, eq-eqb m (numberIn os h 0) b, eq-eqb f ownerField c)) s) ∙
+        (w .node m f p q ∙ same m f q (eqb-false _ _ t) s (getD os m none) refl)));
   }
     where
       head-is : getD os (numberIn os (suc h) 0) none ≡ some (nd (suc h) 0)
       head-is = tall-at w (suc h) 0 (le-refl (suc h)) there .1
 
-      at-head : (m f : ℕ) → f < nodeWords → m ≡ numberIn os (suc h) 0 →
+      at-head : (m f : ℕ) → IsField f → m ≡ numberIn os (suc h) 0 →
           getD ws′ (place m f) 0 ≡ tallAt h l (numberIn os) (getD os m none) f
       at-head m f q e = rw (e, head-is, lt-leb (suc h) h (le-refl (suc h))) (zeros f q)
 
-      at-own : (m f : ℕ) → both (any (within (tierOrder h) 0) l) (both (eqb m (numberIn os h 0)) (eqb f 1)) ≡ true →
+      at-own : (m f : ℕ) → both (any (within (tierOrder h) 0) l) (both (eqb m (numberIn os h 0)) (eqb f ownerField)) ≡ true →
           getD ws′ (place m f) 0 ≡ tallAt h l (numberIn os) (getD os m none) f
       at-own m f s =
           let a : any (within (tierOrder h) 0) l ≡ true = both-l (any (within (tierOrder h) 0) l)
-          (both (eqb m (numberIn os h 0)) (eqb f 1)) s in
-          let b : both (eqb m (numberIn os h 0)) (eqb f 1) ≡ true = both-r (any (within (tierOrder h) 0) l)
-          (both (eqb m (numberIn os h 0)) (eqb f 1)) s in
-          let m≡ : m ≡ numberIn os h 0 = eqb-true _ _ (both-l (eqb m (numberIn os h 0)) (eqb f 1) b) in
-          let f≡ : f ≡ 1 = eqb-true _ _ (both-r (eqb m (numberIn os h 0)) (eqb f 1) b) in
+          (both (eqb m (numberIn os h 0)) (eqb f ownerField)) s in
+          let b : both (eqb m (numberIn os h 0)) (eqb f ownerField) ≡ true = both-r (any (within (tierOrder h) 0) l)
+          (both (eqb m (numberIn os h 0)) (eqb f ownerField)) s in
+          let m≡ : m ≡ numberIn os h 0 = eqb-true _ _ (both-l (eqb m (numberIn os h 0)) (eqb f ownerField) b) in
+          let f≡ : f ≡ ownerField = eqb-true _ _ (both-r (eqb m (numberIn os h 0)) (eqb f ownerField) b) in
           let p : getD os (numberIn os h 0) none ≡ some (nd h 0) = tall-at w h 0 (omega arith) a .1 in
-          rw (m≡, f≡, p, a, le-leb h h (le-refl h), eq-eqb h h refl) (own a)
+          rw (m≡, f≡, p, a, le-leb h h (le-refl h)) (own a ∙ sym (at-owner _ _ _ _ ∙ rw (eq-eqb h h refl)))
 
       in-zero : (u b : ℕ) → height l ≤ u → any (within (tierOrder u) b) l ≡ true → b ≡ 0
       in-zero u b le t = let (x, i, r) = any-in (within (tierOrder u) b) l t in
           sym (within-only (tierOrder u) b x r) ∙ fits-base u x (look (height-fits (low w) le) i)
 
-      same : (m f : ℕ) → (m ≡ numberIn os (suc h) 0 → ⊥) →
-          both (any (within (tierOrder h) 0) l) (both (eqb m (numberIn os h 0)) (eqb f 1)) ≡ false →
+      same : (m f : ℕ) → IsField f → (m ≡ numberIn os (suc h) 0 → ⊥) →
+          both (any (within (tierOrder h) 0) l) (both (eqb m (numberIn os h 0)) (eqb f ownerField)) ≡ false →
           (o : Option Node) → getD os m none ≡ o → tallAt (suc h) l (numberIn os) o f ≡ tallAt h l (numberIn os) o f
-      same m f ne s none r = refl
-      same m f ne s (some p) r =
+      same m f q ne s none r = refl
+      same m f q ne s (some p) r =
           byT (any (within (tierOrder (p .tier)) (p .number)) l)
           (λ t. byT (leb (p .tier) h)
           (λ le. rw (t, le, le-leb (p .tier) (suc h) (let g : p .tier ≤ h = leb-true _ _ le in omega arith))
@@ -288,21 +294,33 @@ module _ {n h : ℕ} {l : List Entry} {os : Places} {ws : List ℕ} (w : Tall n 
           (λ gt′. rw (gt, gt′))))
           (λ t. rw (t, both-no, both-no))
         where
-          fields : any (within (tierOrder (p .tier)) (p .number)) l ≡ true → p .tier ≤ h →
-              fieldH (suc h) l (numberIn os) (p .tier) (p .number) f ≡ fieldH h l (numberIn os) (p .tier) (p .number)
-              f
-          fields t le =
-              byT (eqb f 1)
-              (λ f₁. byT (eqb (p .tier) h)
+          owners : any (within (tierOrder (p .tier)) (p .number)) l ≡ true → p .tier ≤ h →
+              both (any (within (tierOrder h) 0) l) (both (eqb m (numberIn os h 0)) true) ≡ false →
+              ownerUnder (suc h) (numberIn os) (p .tier) (p .number) ≡ ownerUnder h (numberIn os) (p .tier) (p .number)
+          owners t le s =
+              byT (eqb (p .tier) h)
               (λ u. let u≡ : p .tier ≡ h = eqb-true _ _ u in
               let b : p .number ≡ 0 = in-zero (p .tier) (p .number) (omega arith) t in
               let t′ : any (within (tierOrder h) 0) l ≡ true = subst
               (λ (x : ℕ). any (within (tierOrder x) 0) l ≡ true) u≡
               (subst (λ (x : ℕ). any (within (tierOrder (p .tier)) x) l ≡ true) b t) in
-              absurd (clash {b = both (any (within (tierOrder h) 0) l) (both (eqb m (numberIn os h 0)) (eqb f 1))}
-              (rw (t′, f₁, eq-eqb m (numberIn os h 0) (tall-spot w m p r ∙ ap₂ (numberIn os) u≡ b))) s))
-              (λ u. rw (f₁, u, ne-eqb (p .tier) (suc h) (omega arith))))
-              (λ f₁. rw f₁)
+              absurd (clash {b = both (any (within (tierOrder h) 0) l) (both (eqb m (numberIn os h 0)) true)}
+              (rw (t′, eq-eqb m (numberIn os h 0) (tall-spot w m p r ∙ ap₂ (numberIn os) u≡ b))) s))
+              (λ u. rw (u, ne-eqb (p .tier) (suc h) (omega arith)))
+
+          fields : any (within (tierOrder (p .tier)) (p .number)) l ≡ true → p .tier ≤ h →
+              fieldUnder l (numberIn os) (suc h) (p .tier) (p .number) f ≡ fieldUnder l (numberIn os) h (p .tier)
+              (p .number) f
+          fields t le =
+              by-field (λ f. both (any (within (tierOrder h) 0) l) (both (eqb m (numberIn os h 0)) (eqb f ownerField)) ≡
+              false → fieldUnder l (numberIn os) (suc h) (p .tier) (p .number) f ≡ fieldUnder l (numberIn os) h
+              (p .tier) (p .number) f)
+              (λ _. at-shift _ _ _ _ ∙ sym (at-shift _ _ _ _))
+              (λ s. at-owner _ _ _ _ ∙ (owners t le s ∙ sym (at-owner _ _ _ _)))
+              (λ x g _. at-mark _ _ (markWord l (numberIn os) (p .tier) (p .number)) _ x g ∙ sym
+              (at-mark _ _ (markWord l (numberIn os) (p .tier) (p .number)) _ x g))
+              (λ o g _. at-slot _ _ _ (slotWord l (numberIn os) (p .tier) (p .number)) o ∙ sym
+              (at-slot _ _ _ (slotWord l (numberIn os) (p .tier) (p .number)) o)) f q s
 
 -- WHAT THE CODE SEES of the head node n of tier h
 module _ {k h : ℕ} {l : List Entry} {os : Places} {ws : List ℕ} (w₀ : Tall k h l os ws) (pos : 1 ≤ h)
@@ -319,11 +337,11 @@ module _ {k h : ℕ} {l : List Entry} {os : Places} {ws : List ℕ} (w₀ : Tall
   num₁ : n ≡ numberIn os (suc (h - 1)) 0
   num₁ = num₀ ∙ ap (λ (x : ℕ). numberIn os x 0) up
 
-  pub under-fits : (place n lastField < length ws) × (n < maxNodes)
+  pub under-fits : (lastPlace n < length ws) × (n < maxNodes)
   under-fits = let a : numberIn os h 0 < k = tall-at w₀ h 0 (le-refl h) there₀ .0 in
       (omega (arith, w₀ .size), omega (arith, w₀ .small))
 
-  under-slot : (o : ℕ) → o < slots → getD ws (place n (slotField + o)) 0 ≡ slot l (numberIn os) (h - 1) o
+  under-slot : (o : ℕ) → o < slots → getD ws (slotPlace n o) 0 ≡ slot l (numberIn os) (h - 1) o
   under-slot o lt = rw num₁ (tall-slot wide (h - 1) 0 o (le-refl (suc (h - 1))) there₁ lt ∙ ap
       (slot l (numberIn os) (h - 1)) (omega arith))
 
@@ -332,12 +350,12 @@ module _ {k h : ℕ} {l : List Entry} {os : Places} {ws : List ℕ} (w₀ : Tall
   stay f = byT (leb (height l) (h - 1)) (λ t. absurd (f (leb-true _ _ t)))
       (λ t. let g : h - 1 < height l = leb-false _ _ t in tall-words w₀ (omega (arith, w₀ .fit)))
 
-  pub stay-vacant : (((j : ℕ) → 1 ≤ j → j < slots → getD ws (place n (slotField + j)) 0 ≡ 0) → ⊥) →
+  pub stay-vacant : (((j : ℕ) → 1 ≤ j → j < slots → getD ws (slotPlace n j) 0 ≡ 0) → ⊥) →
       ws ≡ render l (prune l os) k
   stay-vacant f = stay (λ le. f (λ j p q. under-slot j q ∙ shrunk l (w₀ .valid) (low w₀) (numberIn os) (h - 1) le j
       p))
 
-  module _ {x : ℕ} {s : Slot} (r : x ≡ getD ws (place n (slotField + 0)) 0) (q : s ≡ slotOf x) where
+  module _ {x : ℕ} {s : Slot} (r : x ≡ getD ws (slotPlace n 0) 0) (q : s ≡ slotOf x) where
     word-is : x ≡ slot l (numberIn os) (h - 1) 0
     word-is = r ∙ under-slot 0 (omega arith)
 
@@ -345,7 +363,7 @@ module _ {k h : ℕ} {l : List Entry} {os : Places} {ws : List ℕ} (w₀ : Tall
     seen-0 = rw (q ∙ ap slotOf word-is) (view l (numberIn os) (h - 1) 0 (sorted-ok (w₀ .valid)))
 
     pub under-child : (m : ℕ) → s ≡ Child m → (any (within (tierOrder (h - 1)) 0) l ≡ true) ×
-        (m ≡ numberIn os (h - 1) 0) × (place m lastField < length ws) × (m ≡ n → ⊥)
+        (m ≡ numberIn os (h - 1) 0) × (lastPlace m < length ws) × (m ≡ n → ⊥)
     under-child m e =
         let (t, y) = view-child m seen-0 e in
         let a : numberIn os (h - 1) 0 < k = tall-at w₀ (h - 1) 0 (omega arith) t .0 in
@@ -382,7 +400,7 @@ module _ {k h : ℕ} {l : List Entry} {os : Places} {ws : List ℕ} (w₀ : Tall
         let y0 : y .base ≡ 0 = omega arith in
         b (ap (block (tierOrder (h - 1))) y0 ∙ zero-div (2 ^ (tierOrder (h - 1))))
 
-    module _ (vac : (j : ℕ) → 1 ≤ j → j < slots → getD ws (place n (slotField + j)) 0 ≡ 0) where
+    module _ (vac : (j : ℕ) → 1 ≤ j → j < slots → getD ws (slotPlace n j) 0 ≡ 0) where
       pub not-empty : s ≡ Empty → ⊥
       not-empty e =
           let (t, c) = view-empty seen-0 e in
@@ -399,27 +417,27 @@ module _ {k h : ℕ} {l : List Entry} {os : Places} {ws : List ℕ} (w₀ : Tall
       lows c = drop-fit wide there₁ (λ d p lt. sym (under-slot d lt) ∙ vac d p lt) c
 
       pub drop-child : (m : ℕ) → s ≡ Child m → {ws′ : List ℕ} → length ws′ ≡ length ws →
-          ((j : ℕ) → poolWords n ≤ j → j < place n nodeWords → getD ws′ j 0 ≡ 0) →
-          (m ≢ n → getD ws′ (place m ownerField) 0 ≡ 0) → getD ws′ headWord 0 ≡ x →
-          ((j : ℕ) → (poolWords n ≤ j → j < place n nodeWords → ⊥) → j ≢ place m ownerField → j ≢ 1 →
+          ((j : ℕ) → poolWords n ≤ j → j < nodeEnd n → getD ws′ j 0 ≡ 0) →
+          (m ≢ n → getD ws′ (ownerPlace m) 0 ≡ 0) → getD ws′ headWord 0 ≡ x →
+          ((j : ℕ) → (poolWords n ≤ j → j < nodeEnd n → ⊥) → j ≢ ownerPlace m → j ≢ headWord →
           getD ws′ j 0 ≡ getD ws j 0) → Tall k (h - 1) l os ws′
       drop-child m e {ws′} len gone own head rest =
           let (t, y, _, ne) = under-child m e in
-          drop wide there₁ (lows (inl t)) len (rest 0 (λ p q. omega arith) (omega arith) (omega arith))
-          (head ∙ word-is) (rest 2 (λ p q. omega arith) (omega arith) (omega arith))
-          (rest 3 (λ p q. omega arith) (omega arith) (omega arith))
+          drop wide there₁ (lows (inl t)) len (rest countWord (λ p q. omega arith) (omega arith) (omega arith))
+          (head ∙ word-is) (rest marksWord (λ p q. omega arith) (omega arith) (omega arith))
+          (rest spareWord (λ p q. omega arith) (omega arith) (omega arith))
           (λ f lt. subst (λ (z : ℕ). getD ws′ (place z f) 0 ≡ 0) num₁ (gone (place n f) (omega arith) (omega arith)))
-          (λ _. subst (λ (z : ℕ). getD ws′ (place z ownerField) 0 ≡ 0) y (own ne))
+          (λ _. subst (λ (z : ℕ). getD ws′ (ownerPlace z) 0 ≡ 0) y (own ne))
           (λ i f p lt a b. rest (place i f) (λ c d. a (omega (arith, num₁))) (λ c. b t (omega arith) (omega arith))
           (omega arith))
 
       pub drop-held : s ≡ Held → h ≡ 1 → {ws′ : List ℕ} → length ws′ ≡ length ws →
-          ((j : ℕ) → poolWords n ≤ j → j < place n nodeWords → getD ws′ j 0 ≡ 0) → getD ws′ headWord 0 ≡ x →
-          ((j : ℕ) → (poolWords n ≤ j → j < place n nodeWords → ⊥) → j ≢ 1 → getD ws′ j 0 ≡ getD ws j 0) →
+          ((j : ℕ) → poolWords n ≤ j → j < nodeEnd n → getD ws′ j 0 ≡ 0) → getD ws′ headWord 0 ≡ x →
+          ((j : ℕ) → (poolWords n ≤ j → j < nodeEnd n → ⊥) → j ≢ headWord → getD ws′ j 0 ≡ getD ws j 0) →
           Tall k (h - 1) l os ws′
       drop-held e one {ws′} len gone head rest =
-          drop wide there₁ (lows (inr (omega arith))) len (rest 0 (λ p q. omega arith) (omega arith)) (head ∙ word-is)
-          (rest 2 (λ p q. omega arith) (omega arith)) (rest 3 (λ p q. omega arith) (omega arith))
+          drop wide there₁ (lows (inr (omega arith))) len (rest countWord (λ p q. omega arith) (omega arith)) (head ∙ word-is)
+          (rest marksWord (λ p q. omega arith) (omega arith)) (rest spareWord (λ p q. omega arith) (omega arith))
           (λ f lt. subst (λ (z : ℕ). getD ws′ (place z f) 0 ≡ 0) num₁ (gone (place n f) (omega arith) (omega arith)))
           (λ t. absurd (clash t (view-held seen-0 e .1)))
           (λ i f p lt a b. rest (place i f) (λ c d. a (omega (arith, num₁))) (omega arith))

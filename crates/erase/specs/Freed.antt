@@ -1,18 +1,18 @@
 -- What freeing a node leaves: its words 0, and the other words as they were.
-use Prim.Native.Nat.{ℕ, _+_, _≤_, _<_}
+use Prim.Native.Nat.{ℕ, _≤_, _<_}
 use mathlib.Core.Path.{_≡_}
 use mathlib.Core.Logic.{_≢_}
 use mathlib.Core.List.{List}
 use lib.ListN.{getD}
-use Rattle.layout.specs.Words.{place, poolWords, nodeWords, countWord, headWord, shiftField, ownerField, slotField}
+use Rattle.layout.specs.Words.{poolWords, nodeEnd, headWord, ownerPlace, slotPlace}
 
 -- the words from ws to ws′: those of node n became 0
 abbrev pub Gone : List ℕ → ℕ → Type 0
-Gone ws′ n = (j : ℕ) → poolWords n ≤ j → j < poolWords n + nodeWords → getD ws′ j 0 ≡ 0
+Gone ws′ n = (j : ℕ) → poolWords n ≤ j → j < nodeEnd n → getD ws′ j 0 ≡ 0
 
 -- place j is none of node n's
 abbrev pub Outside : ℕ → ℕ → Type 0
-Outside n j = poolWords n ≤ j → j < poolWords n + nodeWords → ⊥
+Outside n j = poolWords n ≤ j → j < nodeEnd n → ⊥
 
 -- and the head's word became x
 pub record Freed (ws ws′ : List ℕ) (n x : ℕ) : Type 0 where
@@ -23,17 +23,12 @@ pub record Freed (ws ws′ : List ℕ) (n x : ℕ) : Type 0 where
 -- and the owner word of node m became 0
 pub record Raised (ws ws′ : List ℕ) (n m x : ℕ) : Type 0 where
   pub gone : Gone ws′ n
-  pub own : m ≢ n → getD ws′ (place m ownerField) 0 ≡ 0
+  pub own : m ≢ n → getD ws′ (ownerPlace m) 0 ≡ 0
   pub head : getD ws′ headWord 0 ≡ x
-  pub rest : (j : ℕ) → Outside n j → j ≢ place m ownerField → j ≢ headWord → getD ws′ j 0 ≡ getD ws j 0
+  pub rest : (j : ℕ) → Outside n j → j ≢ ownerPlace m → j ≢ headWord → getD ws′ j 0 ≡ getD ws j 0
 
 -- slot o of node m became 0
 pub record Unlinked (ws ws′ : List ℕ) (n m o : ℕ) : Type 0 where
   pub gone : Gone ws′ n
-  pub cleared : m ≢ n → getD ws′ (place m (slotField + o)) 0 ≡ 0
-  pub rest : (j : ℕ) → Outside n j → j ≢ place m (slotField + o) → getD ws′ j 0 ≡ getD ws j 0
-
--- the count and the first words of the nodes below low are as they were: none of these nodes was freed
-pub record Spares (low : ℕ) (ws ws′ : List ℕ) : Type 0 where
-  pub count-is : getD ws′ countWord 0 ≡ getD ws countWord 0
-  pub shifts-are : (m : ℕ) → m < low → getD ws′ (place m shiftField) 0 ≡ getD ws (place m shiftField) 0
+  pub cleared : m ≢ n → getD ws′ (slotPlace m o) 0 ≡ 0
+  pub rest : (j : ℕ) → Outside n j → j ≢ slotPlace m o → getD ws′ j 0 ≡ getD ws j 0

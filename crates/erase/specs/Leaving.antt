@@ -11,10 +11,10 @@ use Rattle.model.specs.declared.Entry.{Entry}
 use Rattle.model.specs.Model.{covering, erase}
 use Rattle.tree.specs.Tree.{height, Node, tierOrder}
 use Rattle.tree.specs.Slots.{Numbering}
-use Rattle.layout.specs.Words.{anchorWord, nodeWords, place, poolWords, anchorWords}
+use Rattle.layout.specs.Words.{anchorWord, place, poolWords, anchorWords, fieldUnder, IsField}
 use Rattle.layout.specs.WellFormed.{WellFormed, num}
 use Rattle.lookup.specs.Views.{AtNode, Holds}
-use Rattle.erase.specs.Tall.{fieldH, tallAt}
+use Rattle.erase.specs.Tall.{tallAt}
 
 -- nodes of the tiers up to v have the words of l′, or are free; those of the next have the words of l′; the others
 -- those of l
@@ -23,8 +23,8 @@ module _ (l l′ : List Entry) (ν : Numbering) (v : ℕ) where
   cutAt none f = 0
   cutAt (some p) f =
       pick (leb (p .tier) v) (tallAt (height l) l′ ν (some p) f)
-      (pick (leb (p .tier) (suc v)) (fieldH (height l) l′ ν (p .tier) (p .number) f)
-      (fieldH (height l) l ν (p .tier) (p .number) f))
+      (pick (leb (p .tier) (suc v)) (fieldUnder l′ ν (height l) (p .tier) (p .number) f)
+      (fieldUnder l ν (height l) (p .tier) (p .number) f))
 
 -- the entry over i has no marks
 abbrev pub Unmarked : List Entry → ℕ → Type 0
@@ -38,7 +38,7 @@ pub record Cut {ws₀ : List ℕ} (s : WellFormed ws₀) (i v n : ℕ) (ws : Lis
   pub at-node : AtNode (s .list) (num s) v (block (tierOrder (suc v)) i) n
   pub size : length ws ≡ poolWords (s .n)
   pub anchor : (k : ℕ) → k < anchorWords → getD ws k 0 ≡ anchorWord (s .list) (num s) (s .n) k
-  pub node : (m f : ℕ) → m < s .n → f < nodeWords → getD ws (place m f) 0 ≡ cutAt (s .list) (erase (s .list) i)
+  pub node : (m f : ℕ) → m < s .n → IsField f → getD ws (place m f) 0 ≡ cutAt (s .list) (erase (s .list) i)
       (num s) v (getD (s .places) m none) f
 
 -- some entry is on its way out so

@@ -1,50 +1,27 @@
 -- The words of a list under a head that may be higher than the list needs: between erasing and shrinking the head.
-use Prim.Native.Nat.{ℕ, suc, _+_, _*_, _-_, _/_, _%_, _≤_, _<_}
+use Prim.Native.Nat.{ℕ, _-_, _≤_, _<_}
 use mathlib.Core.Path.{_≡_}
 use mathlib.Core.Bool.{Bool, true, false}
 use mathlib.Core.List.{List}
 use mathlib.Core.Option.{Option, none, some}
-use lib.Dec.{leb, ltb, eqb}
+use lib.Dec.{leb}
 use lib.ListN.{length, getD}
 use Rattle.blocks.specs.Choice.{pick, both}
 use Rattle.blocks.specs.Lists.{any, In, Distinct}
-use Rattle.blocks.specs.Blocks.{bitsTo}
 use Rattle.model.specs.declared.Entry.{Entry}
 use Rattle.model.specs.Model.{Valid, within, marksOf}
 use Rattle.tree.specs.Slots.{slot, Numbering}
-use Rattle.tree.specs.Tree.{slotMark, height, Node, tierOrder, slots, topTier}
+use Rattle.tree.specs.Tree.{height, Node, tierOrder, topTier}
 use Rattle.layout.specs.Places.{Places, numberIn, standing, render, prune}
-use Rattle.layout.specs.Words.{
-  place,
-  nodeWords,
-  shiftWord,
-  poolWords,
-  maxNodes,
-  ownerWord,
-  marksWord,
-  headWord,
-  countWord,
-  spareWord,
-}
+use Rattle.layout.specs.Words.{place, poolWords, maxNodes, marksWord, headWord, countWord, spareWord, fieldUnder, IsField}
 
 module _ (h : ℕ) (l : List Entry) (ν : Numbering) where
-  abbrev pub ownerH : ℕ → ℕ → ℕ
-  ownerH u b = pick (eqb u h) 0 (ownerWord (ν (suc u) (b / slots)) (b % slots))
-
-  -- field f of node (u, b) where the head's tier is h
-  abbrev pub fieldH : ℕ → ℕ → ℕ → ℕ
-  fieldH u b f =
-      pick (eqb f 0) (shiftWord u)
-      (pick (eqb f 1) (ownerH u b)
-      (pick (ltb f 5) (bitsTo (λ j. slotMark l (f - 2) (u - 1) (slots * b + j)) slots)
-      (slot l ν (u - 1) (slots * b + (f - 5)))))
-
   abbrev pub stays : Node → Bool
   stays p = both (leb (p .tier) h) (any (within (tierOrder (p .tier)) (p .number)) l)
 
   abbrev pub tallAt : Option Node → ℕ → ℕ
   tallAt none f = 0
-  tallAt (some p) f = pick (stays p) (fieldH (p .tier) (p .number) f) 0
+  tallAt (some p) f = pick (stays p) (fieldUnder l ν h (p .tier) (p .number) f) 0
 
 pub record Tall (n h : ℕ) (l : List Entry) (os : Places) (ws : List ℕ) : Type 0 where
   pub valid : Valid l
@@ -59,7 +36,7 @@ pub record Tall (n h : ℕ) (l : List Entry) (os : Places) (ws : List ℕ) : Typ
   pub head : getD ws headWord 0 ≡ slot l (numberIn os) h 0
   pub marks : getD ws marksWord 0 ≡ marksOf l
   pub last : getD ws spareWord 0 ≡ 0
-  pub node : (m f : ℕ) → m < n → f < nodeWords → getD ws (place m f) 0 ≡ tallAt h l (numberIn os) (getD os m none) f
+  pub node : (m f : ℕ) → m < n → IsField f → getD ws (place m f) 0 ≡ tallAt h l (numberIn os) (getD os m none) f
 
 -- some list stands so
 pub record Tower (h : ℕ) (ws : List ℕ) : Type 0 where

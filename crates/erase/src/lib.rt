@@ -2,41 +2,42 @@
 //
 // pool: the borrowed words; i: the index; n, m: numbers of nodes; v: the tier of a node's slots; o: the offset of a
 // slot; h: the tier of the head; low: every node below it is in use.
-use layout::ANCHOR_WORDS;
 use layout::HEAD_WORD;
 use layout::MARKS_WORD;
-use layout::NODE_WORDS;
-use layout::OWNER_FIELD;
-use layout::SLOT_FIELD;
 use layout::SLOTS;
 use layout::Slot;
-use layout::field;
-use layout::fill;
+use layout::clear_node;
+use layout::fill_slots;
+use layout::lesser;
+use layout::owner_of;
 use layout::pow2;
-use layout::put;
+use layout::put_owner;
+use layout::put_slot;
 use layout::read_slot;
+use layout::slot_word;
+use layout::vacant;
 use lookup::Located;
 use lookup::Spot;
 use lookup::locate;
 use lookup::order_of;
 use marks::climb;
 use model::Covered;
-ghost use Prim.Native.Nat.{ℕ, suc, _+_, _<_, _≤_, min};
+ghost use Prim.Native.Nat.{ℕ, suc, _+_, _<_, _≤_};
 ghost use mathlib.Core.Path.{_≡_};
 ghost use mathlib.Core.Bool.{Bool, true, false};
 ghost use mathlib.Core.List.{List};
-ghost use lib.ListN.{getD};
 ghost use Rattle.blocks.specs.Lists.{any};
 ghost use Rattle.model.specs.Model;
 ghost use Rattle.model.specs.Model.{within, covering, covered};
 ghost use Rattle.model.specs.declared.Entry.{Entry};
 ghost use Rattle.tree.specs.Tree.{slots, tierOrder, height};
-ghost use Rattle.layout.specs.Words.{place, poolWords, nodeWords, lastField, slotField};
+ghost use Rattle.layout.specs.Words.{lastPlace, slotPlace};
 ghost use Rattle.layout.specs.Places.{Places, numberIn, prune, render};
 ghost use Rattle.layout.specs.Fill.{filled};
 ghost use Rattle.layout.specs.WellFormed.{WellFormed, InUse, num};
 ghost use Rattle.lookup.specs.Views.{Holds};
-ghost use Rattle.erase.specs.Freed.{Freed, Raised, Unlinked, Spares};
+ghost use Rattle.layout.specs.Spares.{Spares};
+ghost use Rattle.erase.specs.Freed.{Freed, Raised, Unlinked};
 ghost use Rattle.erase.specs.Tall.{Tall, Tower, Headed, Dropped};
 ghost use Rattle.erase.specs.Leaving.{Unmarked, Cut, Cutting, Leaves, Erasing};
 
@@ -46,72 +47,36 @@ pub struct Erased {
     pub low: u64,
 }
 
-// The lesser of two numbers.
-fn least(a: u64, b: u64) -> u64
-    ensures { λ r. ⌜ r ≡ min a b ⌝ }
-{
-    if a < b {
-        return a;
-    }
-    b
-}
-
-// Whether the slots of node n from slot o on are empty.
-fn vacant(pool: &[u64], n: u64, o: u64) -> bool
-    requires { do ⌜ place n lastField < (← ⟦pool.len()⟧) ⌝ }
-    ensures { λ r. ⌜ (r ≡ true → (j : ℕ) → o ≤ j → j < slots →
-        getD (now (pool .entry)) (place n (slotField + j)) 0 ≡ 0) ⌝ }
-    ensures { λ r. ⌜ (r ≡ false → ((j : ℕ) → o ≤ j → j < slots →
-        getD (now (pool .entry)) (place n (slotField + j)) 0 ≡ 0) → ⊥) ⌝ }
-{
-    let mut j = o;
-    while j < SLOTS {
-        if field(pool, n, SLOT_FIELD + j) != 0 {
-            return false;
-        }
-        j = j + 1;
-    }
-    true
-}
-
 // FREEING A NODE
-
-// All words of node n become 0.
-fn free_node(pool: &mut [u64], n: u64)
-    requires { do ⌜ place n lastField < (← ⟦pool.len()⟧) ⌝ }
-    ensures { λ _. ⌜ now (pool .exit) ≡ filled (now (pool .entry)) (poolWords n) 0 nodeWords ⌝ }
-{
-    fill(pool, ANCHOR_WORDS + NODE_WORDS * n, 0, NODE_WORDS);
-}
 
 // Frees the head n; the head's word becomes x.
 fn free_head(pool: &mut [u64], n: u64, x: u64)
-    requires { do ⌜ place n lastField < (← ⟦pool.len()⟧) ⌝ }
+    requires { do ⌜ lastPlace n < (← ⟦pool.len()⟧) ⌝ }
     ensures { λ _. ⌜ Freed (now (pool .entry)) (now (pool .exit)) n x ⌝ }
 {
-    free_node(pool, n);
+    clear_node(pool, n);
     pool[HEAD_WORD] = x;
 }
 
 // Frees the head n, and makes node m below it, whose word is x, the head.
 fn raise(pool: &mut [u64], n: u64, m: u64, x: u64)
-    requires { do ⌜ place n lastField < (← ⟦pool.len()⟧) ⌝ }
-    requires { do ⌜ place m lastField < (← ⟦pool.len()⟧) ⌝ }
+    requires { do ⌜ lastPlace n < (← ⟦pool.len()⟧) ⌝ }
+    requires { do ⌜ lastPlace m < (← ⟦pool.len()⟧) ⌝ }
     ensures { λ _. ⌜ Raised (now (pool .entry)) (now (pool .exit)) n m x ⌝ }
 {
-    put(pool, m, OWNER_FIELD, 0);
+    put_owner(pool, m, 0);
     free_head(pool, n, x);
 }
 
 // Frees node n, and empties slot o of node m, which leads to it.
 fn unlink(pool: &mut [u64], n: u64, m: u64, o: u64)
-    requires { do ⌜ place n lastField < (← ⟦pool.len()⟧) ⌝ }
-    requires { do ⌜ place m lastField < (← ⟦pool.len()⟧) ⌝ }
+    requires { do ⌜ lastPlace n < (← ⟦pool.len()⟧) ⌝ }
+    requires { do ⌜ lastPlace m < (← ⟦pool.len()⟧) ⌝ }
     requires { ⌜ o < slots ⌝ }
     ensures { λ _. ⌜ Unlinked (now (pool .entry)) (now (pool .exit)) n m o ⌝ }
 {
-    put(pool, m, SLOT_FIELD + o, 0);
-    free_node(pool, n);
+    put_slot(pool, m, o, 0);
+    clear_node(pool, n);
 }
 
 // SHRINKING THE HEAD
@@ -124,10 +89,10 @@ fn drop_head(pool: &mut [u64], n: u64, h: u64) -> bool
         any (within (tierOrder h) 0) l ≡ true → n ≡ numberIn os h 0 → Dropped r k h l os (now (pool .exit))) ⌝ }
     ensures { λ r. ⌜ ((low : ℕ) → (r ≡ true → low ≤ n) → Spares low (now (pool .entry)) (now (pool .exit))) ⌝ }
 {
-    if !vacant(pool, n, 1) {
+    if !vacant(pool, n, 1, SLOTS) {
         return false;
     }
-    let x = field(pool, n, SLOT_FIELD + 0);
+    let x = slot_word(pool, n, 0);
     let k = read_slot(x);
     match k {
         Slot::Child(m) => {
@@ -163,7 +128,7 @@ fn shrink(pool: &mut [u64], top: u64, low: u64) -> u64
                 if !drop_head(pool, n, h) {
                     return floor;
                 }
-                floor = least(floor, n);
+                floor = lesser(floor, n);
                 h = h - 1;
             }
             Slot::Held => {
@@ -184,15 +149,15 @@ fn shrink(pool: &mut [u64], top: u64, low: u64) -> u64
 
 // Empties the slots of node n from o on, c of them; one of them, the most frequent case, by one write.
 fn empty_slots(pool: &mut [u64], n: u64, o: u64, c: u64)
-    requires { do ⌜ place n lastField < (← ⟦pool.len()⟧) ⌝ }
+    requires { do ⌜ lastPlace n < (← ⟦pool.len()⟧) ⌝ }
     requires { ⌜ o + c ≤ slots ⌝ }
-    ensures { λ _. ⌜ now (pool .exit) ≡ filled (now (pool .entry)) (place n (slotField + o)) 0 c ⌝ }
+    ensures { λ _. ⌜ now (pool .exit) ≡ filled (now (pool .entry)) (slotPlace n o) 0 c ⌝ }
 {
     if c == 1 {
-        put(pool, n, SLOT_FIELD + o, 0);
+        put_slot(pool, n, o, 0);
         return;
     }
-    fill(pool, ANCHOR_WORDS + NODE_WORDS * n + (SLOT_FIELD + o), 0, c);
+    fill_slots(pool, n, o, 0, c);
 }
 
 // Empties the slots of the entry that covers i.
@@ -223,11 +188,11 @@ fn prune_up(pool: &mut [u64], i: u64, first: u64, tier: u64, low: u64) -> u64
     let mut v = tier;
     let mut floor = low;
     loop {
-        if !vacant(pool, n, 0) {
+        if !vacant(pool, n, 0, SLOTS) {
             return floor;
         }
-        floor = least(floor, n);
-        let p = field(pool, n, OWNER_FIELD);
+        floor = lesser(floor, n);
+        let p = owner_of(pool, n);
         if p == 0 {
             free_head(pool, n, 0);
             return floor;

@@ -1,7 +1,7 @@
 -- A change of the list within a range leaves the words of every node whose block lies apart from the range, unless
 -- it is
 -- the head before or after.
-use Prim.Native.Nat.{ℕ, suc, _*_, _/_, _^_, _≤_, _<_}
+use Prim.Native.Nat.{ℕ, suc, _*_, _/_, _^_, _≤_}
 use mathlib.Core.Path.{_≡_, refl, sym, ap, subst, _∙_}
 use mathlib.Core.Bool.{Bool, true, false}
 use mathlib.Core.Logic.{_≢_}
@@ -22,12 +22,13 @@ use Rattle.tree.specs.Tree.{slots, tierOrder, height, has, slotMark}
 use Rattle.tree.specs.Slots.{Numbering, slot}
 use Rattle.tree.proofs.RelabelLaws.{mapO, covering-map}
 use Rattle.tree.proofs.StoreLaws.{within-only, marked-only, store-apart, store-covering-not}
-use Rattle.layout.specs.Words.{nodeWords, field}
+use Rattle.layout.specs.Words.{field, IsField}
 use Rattle.layout.specs.Places.{Places, Placed, numberIn, newPlaces}
 use Rattle.layout.proofs.OwnerLaws.{parent, owner-same}
-use Rattle.layout.proofs.FieldLaws.{field-same, apart-slot}
+use Rattle.layout.proofs.FieldLaws.{field-same}
+use Rattle.layout.proofs.FreshLaws.{apart-slot}
 use Rattle.layout.proofs.PlacesLaws.{number-stays}
-use Rattle.lookup.proofs.WordLaws.{has-tier}
+use Rattle.tree.proofs.NodeListLaws.{has-tier}
 
 -- two lists agree apart from the range of order k that holds i
 pub record Agree (i k : ℕ) (l l′ : List Entry) : Type 0 where
@@ -131,7 +132,7 @@ module _ (i k : ℕ) {l l′ : List Entry} (ag : Agree i k l l′) where
         number-stays n l os pl l′ (record { tier = v; number = d })
         (rw (le-leb v (height l) (omega (arith, low))) s) (rw (le-leb v (height l′) (omega (arith, low′))) s′)
 
-    pub field-agree : (f : ℕ) → f < nodeWords →
+    pub field-agree : (f : ℕ) → IsField f →
         field l′ (numberIn (newPlaces l l′ os)) (suc v) b f ≡ field l (numberIn os) (suc v) b f
     field-agree =
         field-same l l′ (numberIn os) (numberIn (newPlaces l l′ os)) v b

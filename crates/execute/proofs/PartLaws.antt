@@ -1,5 +1,5 @@
 -- What lies outside the part of a command stays (R39 to R41).
-use Prim.Native.Nat.{ℕ, zero, suc, _*_, _-_, _/_, _%_, _^_, _≤_, _<_}
+use Prim.Native.Nat.{ℕ, zero, suc, _*_, _^_, _≤_, _<_}
 use mathlib.Core.Path.{_≡_, refl, sym, subst, _∙_}
 use mathlib.Core.Bool.{Bool, true, false}
 use mathlib.Core.Logic.{_≢_}
@@ -16,14 +16,14 @@ use Rattle.blocks.proofs.BlockLaws.{block-up, block-at}
 use Rattle.model.specs.declared.Entry.{Entry}
 use Rattle.model.proofs.RangeLaws.{Apart}
 use Rattle.tree.specs.Tree.{tierOrder, height, has, Node}
-use Rattle.layout.specs.Words.{anchorWords, nodeWords, fieldAt, field}
+use Rattle.layout.specs.Words.{anchorWords, nodeOf, fieldIn, fieldAt, field, IsField}
 use Rattle.layout.specs.Places.{Places, numberIn, newPlaces, allocate, keepIf, wordAt}
 use Rattle.layout.proofs.NumberLaws.{prune-get, allocate-stays, keep-some, in-standing}
-use Rattle.lookup.proofs.WordLaws.{has-tier}
 use Rattle.execute.specs.State.{State}
 use Rattle.execute.specs.Part.{Range, meetsRange, isHead, nodePart, inPart}
 use Rattle.execute.proofs.ExecuteLaws.{Kept}
 use Rattle.execute.proofs.LocalLaws.{Agree, field-agree}
+use Rattle.tree.proofs.NodeListLaws.{has-tier}
 
 -- A BLOCK THAT DOES NOT MEET THE RANGE lies apart from it
 pub apart-range : (r : Range) (p : Node) → meetsRange r p ≡ false →
@@ -67,7 +67,7 @@ module _ (n : ℕ) (s : State) (kp : Kept n s) (r : Range) (l′ : List Entry)
       let c : getD a m none ≡ some p = allocate-stays (s .places) _ m p e in
       (cc, t)
 
-  same-node : (p : Node) (f : ℕ) → f < nodeWords → has (s .list) (p .tier) (p .number) ≡ true →
+  same-node : (p : Node) (f : ℕ) → IsField f → has (s .list) (p .tier) (p .number) ≡ true →
       has l′ (p .tier) (p .number) ≡ true → p .tier ≢ height (s .list) → p .tier ≢ height l′ → meetsRange r p ≡ false →
       field l′ (numberIn (newPlaces (s .list) l′ (s .places))) (p .tier) (p .number) f
       ≡ field (s .list) (numberIn (s .places)) (p .tier) (p .number) f
@@ -87,7 +87,7 @@ module _ (n : ℕ) (s : State) (kp : Kept n s) (r : Range) (l′ : List Entry)
           (subst (λ (u : ℕ). has l′ u (p .number) ≡ true) e t′) (λ x. h (e ∙ x)) (λ x. h′ (e ∙ x))
           (subst (λ (u : ℕ). Apart (r .index) (r .order) (tierOrder u) (p .number)) e (apart-range r p z)) f lt)
 
-  node-same : (m f : ℕ) → f < nodeWords → (o o′ : Option Node) → getD (s .places) m none ≡ o →
+  node-same : (m f : ℕ) → IsField f → (o o′ : Option Node) → getD (s .places) m none ≡ o →
       getD (newPlaces (s .list) l′ (s .places)) m none ≡ o′ → nodePart (s .list) l′ r o o′ ≡ false →
       fieldAt l′ (numberIn (newPlaces (s .list) l′ (s .places))) o′ f ≡ fieldAt (s .list) (numberIn (s .places)) o f
   node-same m f lt none none e e′ z = refl
@@ -110,5 +110,5 @@ module _ (n : ℕ) (s : State) (kp : Kept n s) (r : Range) (l′ : List Entry)
       wordAt l′ (newPlaces (s .list) l′ (s .places)) n w ≡ wordAt (s .list) (s .places) n w
   word-same w z =
       byT (ltb w anchorWords) (λ t. absurd (clash refl (rw t at z)))
-      (λ t. rw t (node-same ((w - anchorWords) / nodeWords) ((w - anchorWords) % nodeWords) (omega arith) _ _ refl refl
+      (λ t. rw t (node-same (nodeOf w) (fieldIn w) (omega arith) _ _ refl refl
       (rw t at z)))

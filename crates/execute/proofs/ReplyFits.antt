@@ -1,5 +1,5 @@
 -- Every reply's fields fit their widths, so that `encode` cuts nothing (R49).
-use Prim.Native.Nat.{ℕ, zero, suc, _+_, _^_, _≤_, _<_}
+use Prim.Native.Nat.{ℕ, zero, suc, _^_, _≤_, _<_}
 use mathlib.Core.Path.{_≡_, refl}
 use mathlib.Core.Bool.{not}
 use mathlib.Core.List.{List}
@@ -10,16 +10,16 @@ use borrow.Author.Tests.{ltb-false}
 use Rattle.blocks.specs.Lists.{In}
 use Rattle.blocks.specs.Blocks.{block}
 use Rattle.blocks.proofs.BoolLaws.{byT}
-use Rattle.blocks.proofs.ListLaws.{All-map, first-yes, each, look}
+use Rattle.blocks.proofs.ListLaws.{first-yes, each, look}
 use Rattle.model.specs.declared.Entry.{Entry}
 use Rattle.model.specs.Model.{EntryOk, Valid, storable, maxOrder, markCount, covers, covering, store}
 use Rattle.model.proofs.ValidLaws.{sorted-ok}
 use Rattle.tree.specs.Tree.{has, height, tierOrder, topTier}
 use Rattle.lookup.specs.Load.{depth, depthTo}
 use Rattle.lookup.specs.declared.Outcome.{Outcome}
-use Rattle.lookup.specs.Find.{anyMark, find, meets}
+use Rattle.lookup.specs.Find.{anyMark, meets}
 use Rattle.lookup.proofs.FindLaws.{Right, right-found, right-ended, right-paused, find-right}
-use Rattle.lookup.proofs.HeadLaws.{height-most}
+use Rattle.tree.proofs.HeightLaws.{height-most}
 use Rattle.batch.specs.declared.Command.{Command}
 use Rattle.batch.specs.declared.Command.the-variants.{Store, Load, Erase, Mark, Unmark, Find}
 use Rattle.batch.specs.Reply.{answered, answeredBy}
@@ -82,7 +82,7 @@ module _ (n : ℕ) (l : List Entry) (v : Valid l) where
   load-fits : (i : ℕ) → FitsReply (execute n l (Load i) .reply)
   unfolding execute
   load-fits i =
-      let h : height l ≤ topTier = height-most (All-map (λ x ok. (ok .order-le, ok .in-range)) (sorted-ok v)) in
+      let h : height l ≤ topTier = height-most l in
       let d : depthTo l i (height l) ≤ height l = depth-le l i (height l) in
       covered-fits v 130 (omega arith) i (depth l i) (omega arith)
 

@@ -9,6 +9,7 @@ use native.Mathlib.Omega.{arith}
 use lib.ListN.{length}
 use lib.Dec.{leb}
 use borrow.Author.Tests.{leb-true, leb-false, lt-ltb, le-ltb, le-leb, lt-leb, eq-eqb, ne-eqb}
+use Rattle.blocks.specs.Choice.{pick}
 use Rattle.blocks.proofs.BoolLaws.{byT}
 use Rattle.model.specs.declared.Entry.{Entry}
 use Rattle.model.specs.Model.{covering, covered, storable, maxOrder, store, erase, remark, markCount}
@@ -23,7 +24,7 @@ use Rattle.lookup.specs.Find.{anyMark, find}
 use Rattle.store.specs.declared.Stored.{Stored}
 use Rattle.store.specs.Stored.{Holding, Stores}
 use Rattle.batch.specs.declared.Command.{Command}
-use Rattle.batch.specs.declared.Command.the-variants.{Store, Load, Erase, Mark, Unmark, Find}
+use Rattle.batch.specs.declared.Command.the-variants.{Store, Load, Erase, Find}
 use Rattle.batch.specs.declared.Reply.{Reply}
 use Rattle.execute.specs.Execute.{
   Executed,
@@ -40,7 +41,7 @@ use Rattle.execute.specs.Execute.{
   noBudget,
 }
 use Rattle.execute.proofs.ExecuteLaws.{erase-new, short-11, enough-0}
-use Rattle.execute.specs.Contracts.{coveredReply, loadedReply, storedReply, replyTo, wordsTo, Executes}
+use Rattle.execute.specs.Contracts.{coveredReply, loadedReply, storedReply, remarking, replyTo, wordsTo, Executes}
 
 -- REPLIES
 pub loaded-is : (t d : ℕ) (o : Option Entry) → loadedReply t (loaded d o) ≡ replyOf t d o
@@ -75,21 +76,17 @@ module _ (n : ℕ) (l : List Entry) where
     find-runs h g e = rw (le-ltb anyMark f h, le-ltb z a g, ne-eqb k 0 e)
 
   module _ (i m : ℕ) where
-    pub mark-above : markCount ≤ m → execute n l (Mark i m) ≡ refuse l 132 markAbove
+    pub remark-above : (on : Bool) → markCount ≤ m →
+        execute n l (remarking i m on) ≡ refuse l (pick on 132 133) markAbove
     unfolding execute
-    mark-above h = rw (le-leb markCount m h)
+    remark-above true h = rw (le-leb markCount m h)
+    remark-above false h = rw (le-leb markCount m h)
 
-    pub unmark-above : markCount ≤ m → execute n l (Unmark i m) ≡ refuse l 133 markAbove
+    pub remark-runs : (on : Bool) → m < markCount →
+        execute n l (remarking i m on) ≡ marking (pick on 132 133) l i m on
     unfolding execute
-    unmark-above h = rw (le-leb markCount m h)
-
-    pub mark-runs : m < markCount → execute n l (Mark i m) ≡ marking 132 l i m true
-    unfolding execute
-    mark-runs h = rw (lt-leb markCount m h)
-
-    pub unmark-runs : m < markCount → execute n l (Unmark i m) ≡ marking 133 l i m false
-    unfolding execute
-    unmark-runs h = rw (lt-leb markCount m h)
+    remark-runs true h = rw (lt-leb markCount m h)
+    remark-runs false h = rw (lt-leb markCount m h)
 
 -- WORDS
 -- the words after a command by the list that it leaves
@@ -117,7 +114,7 @@ remarks s c t i m b e r w = record {
   reply-is = r ∙ covered-is t (covering (remark (s .list) i m b) i) ∙ sym (ap (λ (x : Executed). x .reply) e);
   words-are =
       w
-      ∙ ap (λ (os : Places). render (remark (s .list) i m b) os (s .n)) (sym (places-remark i m b (s .placed)))
+      ∙ ap (λ (os : Places). render (remark (s .list) i m b) os (s .n)) (sym (places-remark (s .list) i m b (s .placed)))
       ∙ sym (words-after s c (ap (λ (x : Executed). x .list) e));
 }
 

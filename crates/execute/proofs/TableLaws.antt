@@ -65,10 +65,8 @@ use Rattle.execute.proofs.ReplyLaws.{
   find-first,
   find-budget,
   find-runs,
-  mark-above,
-  unmark-above,
-  mark-runs,
-  unmark-runs,
+  remark-above,
+  remark-runs,
   store-order,
   store-word,
 }
@@ -132,12 +130,12 @@ module _ (n : ℕ) (l : List Entry) (v : Valid l) where
   row-sole (load-0 {i} q) = loads n l i q
   row-sole (erase-10 {i} q) = erases-none n l i q
   row-sole (erase-0 {i} q) = erases-some n l i q
-  row-sole (mark-7 {i} {m} h) = sym (mark-above n l i m h)
-  row-sole (mark-10 {i} {m} h q) = sym (mark-runs n l i m h ∙ marked-none l 132 i m true q)
-  row-sole (mark-0 {i} {m} h q) = sym (mark-runs n l i m h ∙ marked-some l 132 i m true q)
-  row-sole (unmark-7 {i} {m} h) = sym (unmark-above n l i m h)
-  row-sole (unmark-10 {i} {m} h q) = sym (unmark-runs n l i m h ∙ marked-none l 133 i m false q)
-  row-sole (unmark-0 {i} {m} h q) = sym (unmark-runs n l i m h ∙ marked-some l 133 i m false q)
+  row-sole (mark-7 {i} {m} h) = sym (remark-above n l i m true h)
+  row-sole (mark-10 {i} {m} h q) = sym (remark-runs n l i m true h ∙ marked-none l 132 i m true q)
+  row-sole (mark-0 {i} {m} h q) = sym (remark-runs n l i m true h ∙ marked-some l 132 i m true q)
+  row-sole (unmark-7 {i} {m} h) = sym (remark-above n l i m false h)
+  row-sole (unmark-10 {i} {m} h q) = sym (remark-runs n l i m false h ∙ marked-none l 133 i m false q)
+  row-sole (unmark-0 {i} {m} h q) = sym (remark-runs n l i m false h ∙ marked-some l 133 i m false q)
   row-sole (find-7 {a} {z} {f} {k} h) = sym (find-mark n l a z f k h)
   row-sole (find-8 {a} {z} {f} {k} h g) = sym (find-first n l a z f k h g)
   row-sole (find-9 {a} {z} {f} {k} h g b) = sym (find-budget n l a z f k h g b)

@@ -1,6 +1,7 @@
 -- What the functions of this crate promise.
 use Prim.Native.Nat.{ℕ}
 use mathlib.Core.Path.{_≡_}
+use mathlib.Core.Bool.{Bool, true, false}
 use mathlib.Core.List.{List}
 use Rattle.model.specs.declared.Covered.{Covered}
 use Rattle.model.specs.declared.Covered.the-variants.{Nothing, By}
@@ -9,6 +10,7 @@ use Rattle.layout.specs.WellFormed.{WellFormed}
 use Rattle.lookup.specs.declared.Loaded.{Loaded}
 use Rattle.lookup.specs.declared.Loaded.the-variants.{Absent, Present}
 use Rattle.batch.specs.declared.Command.{Command}
+use Rattle.batch.specs.declared.Command.the-variants.{Mark, Unmark}
 use Rattle.batch.specs.declared.Reply.{Reply}
 use Rattle.batch.specs.Reply.{answered, answeredBy}
 use Rattle.store.specs.declared.Stored.{Stored}
@@ -30,6 +32,11 @@ loadedReply t (Present e d) = answeredBy t e d
 abbrev pub storedReply : ℕ → Stored → Reply
 storedReply t (Done e) = answeredBy t e 0
 storedReply t Short = answered t tooFewNodes 0 0
+
+-- the command that sets a mark, or clears it
+abbrev pub remarking : (i m : ℕ) → Bool → Command
+remarking i m true = Mark i m
+remarking i m false = Unmark i m
 
 -- a well-formed pool as a state
 abbrev pub stateOf : {ws : List ℕ} → WellFormed ws → State

@@ -1,5 +1,5 @@
 -- The part of the pool that a command may write (R39 to R41).
-use Prim.Native.Nat.{ℕ, _-_, _/_, _*_, _^_}
+use Prim.Native.Nat.{ℕ, _*_, _^_}
 use mathlib.Core.Bool.{Bool, true, false}
 use mathlib.Core.List.{List}
 use mathlib.Core.Option.{Option, none, some}
@@ -10,7 +10,7 @@ use Rattle.blocks.specs.Blocks.{block}
 use Rattle.model.specs.declared.Entry.{Entry}
 use Rattle.model.specs.Model.{covering}
 use Rattle.tree.specs.Tree.{tierOrder, height, Node}
-use Rattle.layout.specs.Words.{anchorWords, nodeWords}
+use Rattle.layout.specs.Words.{anchorWords, nodeOf}
 use Rattle.batch.specs.declared.Command.{Command}
 use Rattle.batch.specs.declared.Command.the-variants.{Store, Load, Erase, Mark, Unmark, Find}
 use Rattle.execute.specs.Execute.{execute}
@@ -58,8 +58,8 @@ nodePart l l′ r (some p) (some q) = either (isHead l p) (either (isHead l′ q
 abbrev pub inPart : State → State → Range → ℕ → Bool
 inPart s t r w =
     pick (ltb w anchorWords) true
-    (nodePart (s .list) (t .list) r (getD (s .places) ((w - anchorWords) / nodeWords) none)
-    (getD (t .places) ((w - anchorWords) / nodeWords) none))
+    (nodePart (s .list) (t .list) r (getD (s .places) (nodeOf w) none)
+    (getD (t .places) (nodeOf w) none))
 
 -- R40
 abbrev pub changing : Command → Bool

@@ -1,5 +1,5 @@
 -- The widths of a reply's fields (R49): a reply that fits is not cut where it is written as bytes.
-use Prim.Native.Nat.{ℕ, _^_, _<_}
+use Prim.Native.Nat.{_^_, _<_}
 use Rattle.batch.specs.declared.Reply.{Reply}
 
 pub record FitsReply (r : Reply) : Type 0 where

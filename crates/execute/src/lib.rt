@@ -10,11 +10,12 @@ use model::Entry;
 use store::Stored;
 ghost use mathlib.Core.Path.{_≡_};
 ghost use Prim.Native.Nat.{ℕ};
+ghost use Rattle.blocks.specs.Choice.{pick};
 ghost use Rattle.model.specs.Model.{storable};
 ghost use Rattle.layout.specs.WellFormed.{WellFormed, InUse};
 ghost use Rattle.batch.specs.Reply.{answered, answeredBy};
 ghost use Rattle.execute.specs.Execute.{finding};
-ghost use Rattle.execute.specs.Contracts.{coveredReply, loadedReply, storedReply, replyTo, Executes};
+ghost use Rattle.execute.specs.Contracts.{coveredReply, loadedReply, storedReply, remarking, replyTo, Executes};
 
 // The answers that stand in a reply, and the reply's tags.
 const ORDER_ABOVE: u64 = 5;
@@ -160,28 +161,25 @@ fn run_find(pool: &[u64], first: u64, last: u64, filter: u64, budget: u64) -> Re
     found_reply(lookup::find(pool, first, last, filter, budget))
 }
 
-fn run_mark(pool: &mut [u64], index: u64, mark: u64) -> Reply
-    requires { ⌜ WellFormed (now pool) ⌝ }
-    ensures { λ r. ⌜ ((s : WellFormed (now (pool .entry))) → Executes s (Command.Mark index mark) r (now (pool .exit))) ⌝ }
-    ensures { λ _. ⌜ ((low : ℕ) → InUse low (now (pool .entry)) → InUse low (now (pool .exit))) ⌝ }
+// The reply's tag of a mark, or of an unmark.
+fn remarked_tag(on: bool) -> u64
+    ensures { λ r. ⌜ r ≡ pick on 132 133 ⌝ }
 {
-    if mark >= MARKS {
-        return answered(MARKED, MARK_ABOVE, 0, 0);
-    }
-    let c = marks::set_mark(pool, index, mark, true);
-    covered_reply(MARKED, c)
+    if on { MARKED } else { UNMARKED }
 }
 
-fn run_unmark(pool: &mut [u64], index: u64, mark: u64) -> Reply
+// A mark where the bit is on, an unmark where it is off.
+fn run_remark(pool: &mut [u64], index: u64, mark: u64, on: bool) -> Reply
     requires { ⌜ WellFormed (now pool) ⌝ }
-    ensures { λ r. ⌜ ((s : WellFormed (now (pool .entry))) → Executes s (Command.Unmark index mark) r (now (pool .exit))) ⌝ }
+    ensures { λ r. ⌜ ((s : WellFormed (now (pool .entry))) → Executes s (remarking index mark on) r (now (pool .exit))) ⌝ }
     ensures { λ _. ⌜ ((low : ℕ) → InUse low (now (pool .entry)) → InUse low (now (pool .exit))) ⌝ }
 {
+    let tag = remarked_tag(on);
     if mark >= MARKS {
-        return answered(UNMARKED, MARK_ABOVE, 0, 0);
+        return answered(tag, MARK_ABOVE, 0, 0);
     }
-    let c = marks::set_mark(pool, index, mark, false);
-    covered_reply(UNMARKED, c)
+    let c = marks::set_mark(pool, index, mark, on);
+    covered_reply(tag, c)
 }
 
 fn run_erase(pool: &mut [u64], index: u64, low: u64) -> Execution
@@ -242,11 +240,11 @@ pub fn execute(pool: &mut [u64], c: Command, low: u64) -> Execution
         },
         Command::Erase { index } => run_erase(pool, index, low),
         Command::Mark { index, mark } => Execution {
-            reply: run_mark(pool, index, mark),
+            reply: run_remark(pool, index, mark, true),
             low: low,
         },
         Command::Unmark { index, mark } => Execution {
-            reply: run_unmark(pool, index, mark),
+            reply: run_remark(pool, index, mark, false),
             low: low,
         },
         Command::Find {

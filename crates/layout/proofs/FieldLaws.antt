@@ -1,59 +1,154 @@
--- The words of the nodes after a store: the same apart from the range, and those of new nodes.
-use Prim.Native.Nat.{ℕ, suc, _+_, _*_, _-_, _/_, _^_, _≤_, _<_}
-use mathlib.Core.Path.{_≡_, refl, sym, ap, _∙_}
+-- The fields of a node: a law for each, all by their kinds, and two nodes compared.
+use Prim.Native.Nat.{ℕ, suc, _+_, _*_, _-_, _/_, _<_, _≤_}
+use mathlib.Core.Path.{_≡_, refl, sym, subst, _∙_}
 use mathlib.Core.Bool.{true, false}
 use mathlib.Core.List.{List}
 use native.Mathlib.Omega.{arith}
-use lib.Dec.{ltb}
-use borrow.Author.Tests.{eqb-true, ltb-true, eq-eqb}
-use Rattle.blocks.specs.Lists.{any, All}
-use Rattle.blocks.specs.Blocks.{block}
-use Rattle.blocks.proofs.BoolLaws.{byT}
-use Rattle.blocks.proofs.ListLaws.{All-map}
-use Rattle.blocks.proofs.BlockLaws.{block-up, block-at}
+use lib.Dec.{leb, ltb, eqb}
+use borrow.Author.Tests.{eqb-true, eqb-false, ltb-true, ltb-false, leb-true, leb-false, lt-ltb, le-ltb, le-leb, ne-eqb}
+use Rattle.blocks.specs.Choice.{both}
+use Rattle.blocks.specs.Blocks.{bitsTo}
+use Rattle.blocks.proofs.BoolLaws.{byT, both-l, both-r, clash}
 use Rattle.blocks.proofs.BitLaws.{bits-same}
 use Rattle.model.specs.declared.Entry.{Entry}
-use Rattle.model.specs.Model.{covers, within, storeNew}
-use Rattle.model.proofs.RangeLaws.{Room, Apart}
+use Rattle.model.specs.Model.{markCount}
 use Rattle.tree.specs.Slots.{Numbering, slot}
-use Rattle.tree.specs.Tree.{slotMark, slots, tierOrder}
-use Rattle.tree.proofs.StoreLaws.{slot-apart}
-use Rattle.tree.proofs.SlotLaws.{tier-up, empty-node}
-use Rattle.layout.specs.Words.{owner, field, nodeWords}
+use Rattle.tree.specs.Tree.{slotMark, slots}
+use Rattle.layout.specs.Words.{
+  IsField,
+  shiftField,
+  ownerField,
+  markField,
+  slotField,
+  isMark,
+  fieldOf,
+  shiftWord,
+  owner,
+  ownerUnder,
+  markWord,
+  slotWord,
+  field,
+  fieldUnder,
+}
+
+-- EACH FIELD
+is-mark : (m : ℕ) → m < markCount → isMark (markField + m) ≡ true
+is-mark m h = rw (le-leb markField (markField + m) (omega arith), lt-ltb (markField + m) (markField + markCount) (omega arith)) refl
+
+no-mark : (j : ℕ) → isMark (slotField + j) ≡ false
+no-mark j = rw (
+  le-leb markField (slotField + j) (omega arith),
+  le-ltb (slotField + j) (markField + markCount) (omega arith),
+) refl
+
+module _ (shift owner : ℕ) (mark slot : ℕ → ℕ) where
+  pub at-shift : fieldOf shift owner mark slot shiftField ≡ shift
+  unfolding fieldOf
+  at-shift = refl
+
+  pub at-owner : fieldOf shift owner mark slot ownerField ≡ owner
+  unfolding fieldOf
+  at-owner = refl
+
+  pub at-mark : (m : ℕ) → m < markCount → fieldOf shift owner mark slot (markField + m) ≡ mark m
+  unfolding fieldOf
+  at-mark m h =
+      let e : markField + m - markField ≡ m = omega arith in
+      rw (
+        ne-eqb (markField + m) shiftField (omega arith),
+        ne-eqb (markField + m) ownerField (omega arith),
+        is-mark m h,
+        e,
+      )
+
+  pub at-slot : (o : ℕ) → fieldOf shift owner mark slot (slotField + o) ≡ slot o
+  unfolding fieldOf
+  at-slot o =
+      let e : slotField + o - slotField ≡ o = omega arith in
+      rw (
+        ne-eqb (slotField + o) shiftField (omega arith),
+        ne-eqb (slotField + o) ownerField (omega arith),
+        no-mark o,
+        e,
+      )
+
+-- every field is one of these kinds
+pub by-field : (Q : ℕ → Type 0) → Q shiftField → Q ownerField → ((m : ℕ) → m < markCount → Q (markField + m)) →
+    ((o : ℕ) → o < slots → Q (slotField + o)) → (f : ℕ) → IsField f → Q f
+by-field Q a b c d f h =
+    byT (eqb f shiftField) (λ t. subst Q (sym (eqb-true _ _ t)) a)
+    (λ t₀. byT (eqb f ownerField) (λ t. subst Q (sym (eqb-true _ _ t)) b)
+    (λ t₁. let ne₀ : f ≡ shiftField → ⊥ = eqb-false _ _ t₀ in
+    let ne₁ : f ≡ ownerField → ⊥ = eqb-false _ _ t₁ in
+    byT (ltb f (markField + markCount))
+    (λ t. let lt : f < markField + markCount = ltb-true _ _ t in
+    let e : markField + (f - markField) ≡ f = omega arith in
+    subst Q e (c (f - markField) (omega arith)))
+    (λ t. let ge : markField + markCount ≤ f = ltb-false _ _ t in
+    let e : slotField + (f - slotField) ≡ f = omega arith in
+    subst Q e (d (f - slotField) (omega arith)))))
+
+-- two nodes with the same words
+pub fields-same : (s s′ w w′ : ℕ) (mark mark′ slot slot′ : ℕ → ℕ) → s′ ≡ s → w′ ≡ w →
+    ((m : ℕ) → m < markCount → mark′ m ≡ mark m) → ((o : ℕ) → o < slots → slot′ o ≡ slot o) → (f : ℕ) → IsField f →
+    fieldOf s′ w′ mark′ slot′ f ≡ fieldOf s w mark slot f
+fields-same s s′ w w′ mark mark′ slot slot′ a b c d =
+    by-field (λ f. fieldOf s′ w′ mark′ slot′ f ≡ fieldOf s w mark slot f)
+    (at-shift s′ w′ mark′ slot′ ∙ (a ∙ sym (at-shift s w mark slot)))
+    (at-owner s′ w′ mark′ slot′ ∙ (b ∙ sym (at-owner s w mark slot)))
+    (λ m h. at-mark s′ w′ mark′ slot′ m h ∙ (c m h ∙ sym (at-mark s w mark slot m h)))
+    (λ o h. at-slot s′ w′ mark′ slot′ o ∙ (d o h ∙ sym (at-slot s w mark slot o)))
+
+-- OF THE NODE (u, b)
+module _ (l : List Entry) (ν : Numbering) (u b : ℕ) where
+  module _ (h : ℕ) where
+    pub under-shift : fieldUnder l ν h u b shiftField ≡ shiftWord u
+    under-shift = at-shift _ _ _ _
+
+    pub under-owner : fieldUnder l ν h u b ownerField ≡ ownerUnder h ν u b
+    under-owner = at-owner _ _ _ _
+
+    pub under-mark : (m : ℕ) → m < markCount → fieldUnder l ν h u b (markField + m) ≡ markWord l ν u b m
+    under-mark m g = at-mark _ _ (markWord l ν u b) _ m g
+
+    pub under-slot : (o : ℕ) → fieldUnder l ν h u b (slotField + o) ≡ slot l ν (u - 1) (slots * b + o)
+    under-slot o = at-slot _ _ _ (slotWord l ν u b) o
+
+  pub field-shift : field l ν u b shiftField ≡ shiftWord u
+  field-shift = at-shift _ _ _ _
+
+  pub field-owner : field l ν u b ownerField ≡ owner l ν u b
+  field-owner = at-owner _ _ _ _
+
+  pub field-mark : (m : ℕ) → m < markCount →
+      field l ν u b (markField + m) ≡ bitsTo (λ j. slotMark l m (u - 1) (slots * b + j)) slots
+  field-mark m g = at-mark _ _ (markWord l ν u b) _ m g
+
+  pub field-slot : (o : ℕ) → field l ν u b (slotField + o) ≡ slot l ν (u - 1) (slots * b + o)
+  field-slot o = at-slot _ _ _ (slotWord l ν u b) o
+
+-- by the tier of its slots
+module _ (l : List Entry) (ν : Numbering) (v b : ℕ) where
+  v≡ : suc v - 1 ≡ v
+  v≡ = omega arith
+
+  pub level-mark : (m : ℕ) → m < markCount →
+      field l ν (suc v) b (markField + m) ≡ bitsTo (λ j. slotMark l m v (slots * b + j)) slots
+  level-mark m g = field-mark l ν (suc v) b m g ∙ rw v≡
+
+  pub level-slot : (o : ℕ) → field l ν (suc v) b (slotField + o) ≡ slot l ν v (slots * b + o)
+  level-slot o = field-slot l ν (suc v) b o ∙ rw v≡
 
 -- a node's words are the same where its owner, marks and slots are
 module _ (l l′ : List Entry) (ν ν′ : Numbering) (v b : ℕ)
     (o : owner l′ ν′ (suc v) b ≡ owner l ν (suc v) b)
-    (m : (m d : ℕ) → m < 3 → d / slots ≡ b → slotMark l′ m v d ≡ slotMark l m v d)
+    (m : (m d : ℕ) → m < markCount → d / slots ≡ b → slotMark l′ m v d ≡ slotMark l m v d)
     (s : (d : ℕ) → d / slots ≡ b → slot l′ ν′ v d ≡ slot l ν v d) where
-  pub field-same : (f : ℕ) → f < nodeWords → field l′ ν′ (suc v) b f ≡ field l ν (suc v) b f
-  field-same f lt =
+  pub field-same : (f : ℕ) → IsField f → field l′ ν′ (suc v) b f ≡ field l ν (suc v) b f
+  field-same =
       let v≡ : suc v - 1 ≡ v = omega arith in
-      rw (o, v≡, s (slots * b + (f - 5)) (omega arith))
-      (byT (ltb f 5) (λ t. rw (
-        t,
-        bits-same (λ j. slotMark l′ (f - 2) v (slots * b + j))
-            (λ j. slotMark l (f - 2) v (slots * b + j)) slots
-            (λ j g. m (f - 2) (slots * b + j) (omega (arith, ltb-true)) (omega arith)),
-      )) (λ t. rw t))
-
--- a block of a node's slot is apart from a range where the node's is
-pub apart-slot : (i k v b d : ℕ) → Apart i k (tierOrder (suc v)) b → d / slots ≡ b → Apart i k (tierOrder v) d
-apart-slot i k v b d a q y e = a y (tier-up v y ∙ ap (λ (x : ℕ). x / slots) e ∙ q)
-
-module _ (i k w : ℕ) (l : List Entry) (room : All (Room i k) l) where
-  -- a node that is new on the path: all but the path's slot, or the run's, hold 0, and no mark is set
-  module _ (v : ℕ) (above : k < tierOrder (suc v)) (new : any
-      (within (tierOrder (suc v)) (block (tierOrder (suc v)) i)) l ≡ false) where
-    pub none-over : All (λ x. tierOrder (suc v) ≤ x .order →
-        covers (block (tierOrder (suc v)) i * 2 ^ (tierOrder (suc v))) x ≡ true → ⊥) l
-    none-over =
-        All-map (λ x r o t. let h : x .order ≤ k = r (eq-eqb _ _
-        (block-up {j = tierOrder (suc v)} {k = x .order} i (block (tierOrder (suc v)) i * 2 ^ (tierOrder (suc v)))
-        o (sym (block-at (tierOrder (suc v)) (block (tierOrder (suc v)) i))) ∙ eqb-true _ _ t)) in omega arith)
-        room
-
-    pub fresh-slot : (ν′ : Numbering) (d : ℕ) → d / slots ≡ block (tierOrder (suc v)) i → Apart i k (tierOrder v) d →
-        slot (storeNew l i k w) ν′ v d ≡ 0
-    fresh-slot ν′ d q a = slot-apart i k w l ν′ ν′ v d room a (λ _. refl) ∙ empty-node l ν′ v
-        (block (tierOrder (suc v)) i) new none-over d q
+      fields-same _ _ _ _ (markWord l ν (suc v) b) (markWord l′ ν′ (suc v) b) (slotWord l ν (suc v) b)
+      (slotWord l′ ν′ (suc v) b) refl o
+      (λ x h. rw v≡ (bits-same (λ j. slotMark l′ x v (slots * b + j)) (λ j. slotMark l x v (slots * b + j)) slots
+      (λ j g. m x (slots * b + j) h (omega arith))))
+      (λ j h. rw v≡ (s (slots * b + j) (omega arith)))

@@ -8,7 +8,8 @@ use lib.ListN.{length, getD, length-set}
 use lib.Seq.{getD-set-same, getD-set-other}
 use borrow.Author.Tests.{eqb-true, eqb-false}
 use Rattle.blocks.proofs.BoolLaws.{byT}
-use Rattle.layout.specs.Fill.{filled}
+use Rattle.layout.specs.Words.{poolWords, nodeWords, nodeEnd}
+use Rattle.layout.specs.Fill.{filled, cleared}
 
 module _ (ws : List ℕ) (a x : ℕ) where
   pub length-filled : (n : ℕ) → length (filled ws a x n) ≡ length ws
@@ -36,3 +37,17 @@ module _ (ws : List ℕ) (a x : ℕ) where
       rw z (getD-set-same (filled ws a x n) (a + n) x 0 (omega (arith, length-filled n))))
       (λ e. let z : j ≡ a + n → ⊥ = eqb-false _ _ e in
       getD-set-other (filled ws a x n) (a + n) j x 0 z ∙ filled-in n j (omega arith) h (omega arith))
+
+-- a node that is cleared
+module _ (ws : List ℕ) (m : ℕ) where
+  pub length-cleared : length (cleared ws m) ≡ length ws
+  length-cleared = length-filled ws (poolWords m) 0 nodeWords
+
+  pub cleared-before : (j : ℕ) → j < poolWords m → getD (cleared ws m) j 0 ≡ getD ws j 0
+  cleared-before = filled-before ws (poolWords m) 0 nodeWords
+
+  pub cleared-after : (j : ℕ) → nodeEnd m ≤ j → getD (cleared ws m) j 0 ≡ getD ws j 0
+  cleared-after = filled-after ws (poolWords m) 0 nodeWords
+
+  pub cleared-in : nodeEnd m ≤ length ws → (j : ℕ) → poolWords m ≤ j → j < nodeEnd m → getD (cleared ws m) j 0 ≡ 0
+  cleared-in h j = filled-in ws (poolWords m) 0 nodeWords j h

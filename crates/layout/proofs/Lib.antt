@@ -1,6 +1,11 @@
 pub mod FieldLaws
 pub mod FillLaws
+pub mod FreeLaws
+pub mod FreshLaws
+pub mod PassLaws
+pub mod SaysLaws
 pub mod NewNumberLaws
+pub mod NodeLaws
 pub mod NumberLaws
 pub mod OwnerLaws
 pub mod PlacesLaws
@@ -8,3 +13,4 @@ pub mod RenderLaws
 pub mod RenderWordLaws
 pub mod SlotWordLaws
 pub mod StayLaws
+pub mod SparesLaws

@@ -1,35 +1,22 @@
 -- Parents and owners.
 use Prim.Native.Nat.{ℕ, suc, _/_, _<_}
-use mathlib.Core.Path.{_≡_, ap, _∙_}
+use mathlib.Core.Path.{_≡_}
 use mathlib.Core.Bool.{true}
 use mathlib.Core.List.{List, _∷_}
 use native.Mathlib.Omega.{arith}
 use native.Mathlib.Nat.{le-refl}
-use lib.Dec.{leb, ltb}
-use borrow.Author.Tests.{ltb-true, lt-ltb, le-leb, eq-eqb, ne-eqb}
-use Rattle.blocks.specs.Lists.{any, All, here}
-use Rattle.blocks.specs.Blocks.{block}
-use Rattle.blocks.proofs.BoolLaws.{both-l, both-r}
-use Rattle.blocks.proofs.ListLaws.{any-in, in-any, look}
+use lib.Dec.{leb}
+use borrow.Author.Tests.{lt-ltb, le-leb, eq-eqb, ne-eqb}
+use Rattle.blocks.specs.Lists.{All, here}
+use Rattle.blocks.proofs.BoolLaws.{both-r}
+use Rattle.blocks.proofs.ListLaws.{in-any, look}
 use Rattle.model.specs.declared.Entry.{Entry}
 use Rattle.model.specs.Model.{within}
 use Rattle.tree.specs.Tree.{has, height, fits, slots, tierOrder}
 use Rattle.tree.specs.Slots.{Numbering}
-use Rattle.tree.proofs.StoreLaws.{within-only}
 use Rattle.tree.proofs.HeightLaws.{Low, height-fits, fits-order, fits-base}
-use Rattle.tree.proofs.SlotLaws.{tier-up}
+use Rattle.tree.proofs.SlotLaws.{within-up}
 use Rattle.layout.specs.Words.{owner}
-
-pub within-up : (l : List Entry) (u b : ℕ) → any (within (tierOrder u) b) l ≡ true →
-    any (within (tierOrder (suc u)) (b / slots)) l ≡ true
-within-up l u b t =
-    let (x, m, s) = any-in (within (tierOrder u) b) l t in
-    let o : x .order < tierOrder u = ltb-true _ _ (both-l (ltb (x .order) (tierOrder u)) _ s) in
-    in-any (within (tierOrder (suc u)) (b / slots)) m (rw (
-      lt-ltb (x .order) (tierOrder (suc u)) (omega arith),
-      eq-eqb (block (tierOrder (suc u)) (x .base)) (b / slots)
-          (tier-up u (x .base) ∙ ap (λ (c : ℕ). c / slots) (within-only (tierOrder u) b x s)),
-    ))
 
 -- a node below the head has a parent
 pub parent : (l : List Entry) (u b : ℕ) → has l u b ≡ true → u < height l → has l (suc u) (b / slots) ≡ true

@@ -1,17 +1,17 @@
 -- Well-formedness as a test that computes: the list and the places are read off the words, and every word compared.
 use Prim.Native.Nat.{ℕ, _+_, _*_, _-_, _/_, _^_}
-use mathlib.Core.Bool.{Bool, true, false, not}
+use mathlib.Core.Bool.{Bool, true, false}
 use mathlib.Core.List.{List, [], _∷_}
 use lib.Dec.{leb, ltb, eqb}
 use lib.ListN.{length}
 use Rattle.blocks.specs.Choice.{both}
-use Rattle.blocks.specs.Lists.{any}
+use Rattle.blocks.specs.Placing as P
 use Rattle.blocks.specs.Blocks.{block}
 use Rattle.model.specs.declared.Entry.{Entry}
 use Rattle.model.specs.Model.{storable, maxOrder, markCount}
-use Rattle.tree.specs.Tree.{has, Node, nodes}
+use Rattle.tree.specs.Tree.{nodes}
 use Rattle.layout.specs.Words.{anchorWords, nodeWords, maxNodes, poolWords}
-use Rattle.layout.specs.Places.{Places, same, standing, render}
+use Rattle.layout.specs.Places.{Places, same, hasNode, render}
 use Rattle.layout.specs.Decode.{listOf, placesOf}
 
 -- the number of nodes that a length makes room for, and whether it is a pool's (R27)
@@ -36,13 +36,8 @@ isSorted n [] = true
 isSorted n (e ∷ l) = both (leb n (e .base)) (both (isEntry e) (isSorted (e .base + 2 ^ e .order) l))
 
 -- `Placed`, as a test: each node that stands is one of the tree's, none stands twice, and none is missing
-abbrev pub allStand : List Entry → List Node → Bool
-allStand l [] = true
-allStand l (p ∷ ps) = both (has l (p .tier) (p .number)) (both (not (any (same p) ps)) (allStand l ps))
-
 abbrev pub isPlaced : ℕ → List Entry → Places → Bool
-isPlaced n l os =
-    both (eqb (length os) n) (both (allStand l (standing os)) (eqb (length (standing os)) (length (nodes l))))
+isPlaced n l os = P.isPlaced same n (length (nodes l)) (hasNode l) os
 
 abbrev pub equal : List ℕ → List ℕ → Bool
 equal [] [] = true

@@ -6,3 +6,5 @@ pub mod Decode
 pub mod Fill
 pub mod Decide
 pub mod View
+pub mod Reading
+pub mod Spares

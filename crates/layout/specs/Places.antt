@@ -1,13 +1,14 @@
 -- Which node stands at each number, which numbers new nodes take, and the words of a pool under such places.
-use Prim.Native.Nat.{ℕ, suc, _-_, _/_, _%_}
-use mathlib.Core.Path.{_≡_}
-use mathlib.Core.Bool.{Bool, true, false}
-use mathlib.Core.List.{List, [], _∷_, map}
-use mathlib.Core.Option.{Option, none, some}
+use Prim.Native.Nat.{ℕ, _-_, _/_, _%_}
+use mathlib.Core.Bool.{Bool}
+use mathlib.Core.List.{List}
+use mathlib.Core.Option.{Option, none}
 use lib.Dec.{ltb, eqb}
-use lib.ListN.{length, getD}
+use lib.ListN.{getD}
 use Rattle.blocks.specs.Choice.{pick, both}
-use Rattle.blocks.specs.Lists.{upTo, In, Distinct}
+use Rattle.blocks.specs.Lists.{upTo}
+use Rattle.blocks.specs.Placing as P
+pub use Rattle.blocks.specs.Placing.{standing, freeCount, allocate}
 use Rattle.model.specs.declared.Entry.{Entry}
 use Rattle.tree.specs.Tree.{has, Node, newNodes}
 use Rattle.tree.specs.Slots.{Numbering}
@@ -21,51 +22,26 @@ Places = List (Option Node)
 abbrev pub same : Node → Node → Bool
 same p q = both (eqb (p .tier) (q .tier)) (eqb (p .number) (q .number))
 
-abbrev pub isAt : Node → Option Node → Bool
-isAt p none = false
-isAt p (some q) = same q p
-
 abbrev pub numberOf : Node → Places → ℕ
-numberOf p [] = 0
-numberOf p (o ∷ os) = pick (isAt p o) 0 (suc (numberOf p os))
+numberOf p os = P.numberOf same p os
 
 abbrev pub numberIn : Places → Numbering
 numberIn os u b = numberOf (record { tier = u; number = b }) os
 
--- NODES IN USE, AND FREE ONES
-abbrev pub standing : Places → List Node
-standing [] = []
-standing (none ∷ os) = standing os
-standing (some p ∷ os) = p ∷ standing os
-
-abbrev pub freeCount : Places → ℕ
-freeCount [] = 0
-freeCount (none ∷ os) = suc (freeCount os)
-freeCount (some p ∷ os) = freeCount os
-
 -- every node of the tree stands at one number below n, and nothing else does
-pub record Placed (n : ℕ) (l : List Entry) (os : Places) : Type 0 where
-  pub size : length os ≡ n
-  pub sound : (p : Node) → In p (standing os) → has l (p .tier) (p .number) ≡ true
-  pub full : (p : Node) → has l (p .tier) (p .number) ≡ true → In p (standing os)
-  pub once : Distinct (standing os)
+abbrev pub hasNode : List Entry → Node → Bool
+hasNode l p = has l (p .tier) (p .number)
+
+abbrev pub Placed : ℕ → List Entry → Places → Type 0
+Placed n l os = P.Placed n (hasNode l) os
 
 -- AFTER A COMMAND
--- R35: each new node at the lowest free number that is left (document 01: taken)
-abbrev pub allocate : Places → List Node → Places
-allocate [] ps = []
-allocate (some q ∷ os) ps = some q ∷ allocate os ps
-allocate (none ∷ os) [] = none ∷ allocate os []
-allocate (none ∷ os) (p ∷ ps) = some p ∷ allocate os ps
-
--- R36, R37: only after the new nodes have their numbers is a node freed (document 01: given up); what stays keeps its
--- number
+-- R35 to R37: new nodes take the lowest free numbers; then what is not in the tree leaves its number
 abbrev pub keepIf : List Entry → Option Node → Option Node
-keepIf l none = none
-keepIf l (some p) = pick (has l (p .tier) (p .number)) (some p) none
+keepIf l o = P.keepIf (hasNode l) o
 
 abbrev pub prune : List Entry → Places → Places
-prune l os = map (keepIf l) os
+prune l os = P.prune (hasNode l) os
 
 abbrev pub newPlaces : List Entry → List Entry → Places → Places
 newPlaces l l′ os = prune l′ (allocate os (newNodes l l′))

@@ -6,7 +6,7 @@ use lib.Dec.{ltb, eqb}
 use lib.ListN.{getD}
 use Rattle.blocks.specs.Choice.{pick, both}
 use Rattle.model.specs.Model.{markCount}
-use Rattle.tree.specs.Tree.{slots}
+use Rattle.tree.specs.Tree.{slotBits, slots}
 use Rattle.tree.specs.Slots.{nodeOffset, siblingWord}
 use Rattle.layout.specs.Words.{
   countWord,
@@ -20,6 +20,10 @@ use Rattle.layout.specs.Words.{
 }
 pub use Rattle.layout.specs.declared.Slot.{Slot}
 pub use Rattle.layout.specs.declared.Slot.the-variants.{Empty, Held, Sibling, Child}
+
+-- an entry of a node takes fewer than all its slots
+abbrev pub maxRun : ℕ
+maxRun = slotBits - 1
 
 -- R31 read backwards
 unfoldable pub slotOf : ℕ → Slot
@@ -64,7 +68,7 @@ module _ (P : Pool) where
   abbrev pub slotAt : ℕ → ℕ → Slot
   slotAt n j = slotOf (P .slot n j)
 
-  -- the entry in slot j of node n takes 2^r slots: the siblings at distances 1, 2, 4, ..
+  -- the entry in slot j of node n takes 2^r slots, r at most maxRun: the siblings at distances 1, 2, 4, ..
   abbrev pub runFrom : ℕ → ℕ → (fuel r : ℕ) → ℕ
   runFrom n j zero r = r
   runFrom n j (suc k) r =
@@ -72,4 +76,4 @@ module _ (P : Pool) where
       pick (both (ltb (j + 2 ^ r) slots) (eqb (P .slot n (j + 2 ^ r)) (siblingWord j))) next r
 
   unfoldable pub run : ℕ → ℕ → ℕ
-  run n j = runFrom n j 5 0
+  run n j = runFrom n j maxRun 0

@@ -2,21 +2,17 @@
 use Prim.Native.Nat.{ℕ, suc, _+_, _*_, _-_, _/_, _^_, _≤_, _<_}
 use mathlib.Core.Path.{_≡_, refl, sym, ap, _∙_}
 use mathlib.Core.Bool.{Bool, true, false}
-use mathlib.Core.List.{List}
 use native.Mathlib.Omega.{arith}
 use native.Mathlib.Nat.{div-eq-of-lt, mul-assoc, pow-succ'}
 use lib.Dec.{ltb, eqb}
 use borrow.Author.Tests.{eqb-true, eqb-false, ltb-true, ltb-false, eq-eqb, ne-eqb}
 use Rattle.blocks.specs.Choice.{pick}
-use Rattle.blocks.specs.Lists.{any}
 use Rattle.blocks.specs.Blocks.{block, bit, bitsTo, setBit}
 use Rattle.blocks.proofs.BoolLaws.{byT}
 use Rattle.blocks.proofs.BlockLaws.{pow-pos, block-block, block-hi}
 use Rattle.blocks.proofs.BitLaws.{bits-read, bits-change}
-use Rattle.model.specs.declared.Entry.{Entry}
-use Rattle.model.specs.Model.{hasMark, marksOf}
 use Rattle.tree.specs.Tree.{slots}
-use Rattle.lookup.proofs.StandLaws.{marks-sum, end-fits}
+use Rattle.lookup.proofs.StandLaws.{end-fits}
 
 pub bit-kept : (j w : ℕ) (b : Bool) → setBit j b w ≡ w → bit j w ≡ pick b 1 0
 bit-kept j w true h = byT (eqb (bit j w) 1) (λ t. eqb-true _ _ t)
@@ -72,20 +68,3 @@ set-bits f g o n h s =
         e in
         omega arith) in
         omega arith
-
-pub marks-bits : (e : Entry) → e .marks < 8 → bitsTo (λ j. hasMark j e) 3 ≡ e .marks
-marks-bits e h = sum (hasMark 0 e) (hasMark 1 e) (hasMark 2 e) ∙ marks-sum e h
-  where
-    sum : (a b c : Bool) → 0 + pick a (2 ^ 0) 0 + pick b (2 ^ 1) 0 + pick c (2 ^ 2) 0 ≡ pick a 1 0 + 2 * pick b 1 0 +
-        4 * pick c 1 0
-    sum true true true = refl
-    sum true true false = refl
-    sum true false true = refl
-    sum true false false = refl
-    sum false true true = refl
-    sum false true false = refl
-    sum false false true = refl
-    sum false false false = refl
-
-pub marks-of-bits : (l : List Entry) → marksOf l ≡ bitsTo (λ j. any (hasMark j) l) 3
-marks-of-bits l = omega arith

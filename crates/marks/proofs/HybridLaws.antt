@@ -10,7 +10,7 @@ use native.Mathlib.Nat.{le-refl}
 use lib.Dec.{leb, eqb}
 use lib.ListN.{length, getD, set, length-set}
 use lib.Seq.{getD-set-same, getD-set-other}
-use borrow.Author.Tests.{leb-true, leb-false, eqb-true, eqb-false, lt-ltb, le-leb, lt-leb, ne-eqb}
+use borrow.Author.Tests.{leb-true, leb-false, eqb-true, eqb-false, le-leb, lt-leb}
 use Rattle.blocks.specs.Choice.{pick}
 use Rattle.blocks.specs.Lists.{any, All}
 use Rattle.blocks.specs.Blocks.{block, bit, bitsTo, setBit}
@@ -18,34 +18,37 @@ use Rattle.blocks.proofs.BoolLaws.{byT, both-r}
 use Rattle.blocks.proofs.ListLaws.{All-map, look}
 use Rattle.blocks.proofs.BitLaws.{bits-read}
 use Rattle.model.specs.declared.Entry.{Entry}
-use Rattle.model.specs.Model.{Valid, covering, within, hasMark, remark, markCount}
+use Rattle.model.specs.Model.{covering, within, hasMark, remark, markCount}
 use Rattle.model.proofs.ValidLaws.{sorted-ok, covers-self}
 use Rattle.tree.specs.Tree.{slotMark, has, height, Node, slots, tierOrder, topTier}
 use Rattle.tree.specs.Slots.{Numbering}
 use Rattle.tree.proofs.SlotLaws.{tier-up}
-use Rattle.tree.proofs.HeightLaws.{Low, height-fits, fits-base, fits-most}
-use Rattle.tree.proofs.EraseLaws.{height-le}
+use Rattle.tree.proofs.HeightLaws.{Low, height-fits, fits-base}
 use Rattle.layout.specs.Words.{
   field,
   fieldAt,
   owner,
   anchorWord,
-  markField,
   poolWords,
-  lastField,
-  nodeWords,
   place,
-  ownerField,
   maxNodes,
   marksWord,
   anchorWords,
+  ownerPlace,
+  lastPlace,
+  markPlace,
+  IsField,
+  fieldMark,
+  ownerUnder,
 }
+use Rattle.layout.proofs.FieldLaws.{level-mark}
+use Rattle.layout.proofs.NodeLaws.{get-owner, get-mark}
 use Rattle.layout.proofs.OwnerLaws.{parent}
 use Rattle.layout.specs.Places.{render}
 use Rattle.layout.proofs.RenderLaws.{render-is}
 use Rattle.layout.specs.WellFormed.{WellFormed, num}
 use Rattle.lookup.specs.Views.{AtNode, Holds}
-use Rattle.lookup.proofs.WordLaws.{pool-length, node-at, pool-anchor, has-tier, place-of, pool-node}
+use Rattle.lookup.proofs.WordLaws.{node-at}
 use Rattle.lookup.proofs.StandLaws.{covers-high}
 use Rattle.marks.proofs.MarkLaws.{
   entry-in,
@@ -62,6 +65,8 @@ use Rattle.marks.proofs.MarkLaws.{
   word-mark,
 }
 use Rattle.marks.proofs.BitSetLaws.{bit-kept}
+use Rattle.tree.proofs.NodeListLaws.{has-low, has-tier}
+use Rattle.layout.proofs.RenderWordLaws.{pool-length, pool-anchor, place-of, pool-node}
 
 -- the words where the nodes of the tiers up to v are new
 module _ (l l′ : List Entry) (ν : Numbering) (v : ℕ) where
@@ -72,7 +77,7 @@ module _ (l l′ : List Entry) (ν : Numbering) (v : ℕ) where
 pub record Hybrid {ws₀ : List ℕ} (s : WellFormed ws₀) (l′ : List Entry) (v : ℕ) (ws : List ℕ) : Type 0 where
   pub size : length ws ≡ poolWords (s .n)
   pub anchor : (k : ℕ) → k < anchorWords → getD ws k 0 ≡ anchorWord (s .list) (num s) (s .n) k
-  pub node : (m k : ℕ) → m < s .n → k < nodeWords → getD ws (place m k) 0 ≡ mixed (s .list) l′ (num s) v
+  pub node : (m k : ℕ) → m < s .n → IsField k → getD ws (place m k) 0 ≡ mixed (s .list) l′ (num s) v
       (getD (s .places) m none) k
 
 module _ {ws₀ : List ℕ} (s : WellFormed ws₀) (i m : ℕ) (m< : m < markCount) (b : Bool) (e : Entry)
@@ -95,7 +100,7 @@ module _ {ws₀ : List ℕ} (s : WellFormed ws₀) (i m : ℕ) (m< : m < markCou
     node = λ n k p h. pool-node s n k p h ∙ go n (getD (s .places) n none) refl k h;
   }
     where
-      go : (n : ℕ) (o : Option Node) → getD (s .places) n none ≡ o → (k : ℕ) → k < nodeWords →
+      go : (n : ℕ) (o : Option Node) → getD (s .places) n none ≡ o → (k : ℕ) → IsField k →
           fieldAt l ν o k ≡ mixed l l′ ν v o k
       go n none r k h = refl
       go n (some p) r k h =
@@ -119,47 +124,47 @@ module _ {ws₀ : List ℕ} (s : WellFormed ws₀) (i m : ℕ) (m< : m < markCou
           { tier = suc v; number = block (tierOrder (suc v)) (e .base) }))
       n< = node-at s a
 
-      pub hybrid-old : getD ws (place n (markField + m)) 0 ≡ field l ν (suc v) (block (tierOrder (suc v)) (e .base))
-          (2 + m)
-      hybrid-old = hy .node n (2 + m) (n< .0) (omega arith) ∙ rw (n< .1, lt-leb (suc v) v (omega arith)) refl
+      pub hybrid-old : getD ws (markPlace n m) 0 ≡ field l ν (suc v) (block (tierOrder (suc v)) (e .base))
+          (fieldMark m)
+      hybrid-old = hy .node n (fieldMark m) (n< .0) (omega arith) ∙ rw (n< .1, lt-leb (suc v) v (omega arith)) refl
 
-      pub hybrid-step : Hybrid s l′ (suc v) (set ws (place n (markField + m))
+      pub hybrid-step : Hybrid s l′ (suc v) (set ws (markPlace n m)
           (setBit (block (tierOrder v) (e .base) % slots) (slotMark l′ m v (block (tierOrder v) (e .base)))
-          (getD ws (place n (markField + m)) 0)))
+          (getD ws (markPlace n m) 0)))
       hybrid-step =
           let x : ℕ = setBit (block (tierOrder v) (e .base) % slots) (slotMark l′ m v (block (tierOrder v) (e .base)))
-          (getD ws (place n (markField + m)) 0) in
+          (getD ws (markPlace n m) 0) in
           record {
-            size = length-set ws (place n (markField + m)) x ∙ hy .size;
-            anchor = λ k h. getD-set-other ws (place n (markField + m)) k x 0 (omega arith) ∙ hy .anchor k h;
-            node = λ n′ k p h. byT (eqb (place n′ k) (place n (markField + m)))
-                (λ t. let z : place n′ k ≡ place n (markField + m) = eqb-true _ _ t in
+            size = length-set ws (markPlace n m) x ∙ hy .size;
+            anchor = λ k h. getD-set-other ws (markPlace n m) k x 0 (omega arith) ∙ hy .anchor k h;
+            node = λ n′ k p h. byT (eqb (place n′ k) (markPlace n m))
+                (λ t. let z : place n′ k ≡ markPlace n m = eqb-true _ _ t in
                 let z₁ : n′ ≡ n = omega arith in
-                let z₂ : k ≡ 2 + m = omega arith in
+                let z₂ : k ≡ fieldMark m = omega arith in
                 here n′ k z₁ z₂)
-                (λ t. let z : place n′ k ≡ place n (markField + m) → ⊥ = eqb-false _ _ t in
-                getD-set-other ws (place n (markField + m)) (place n′ k) x 0 z ∙
+                (λ t. let z : place n′ k ≡ markPlace n m → ⊥ = eqb-false _ _ t in
+                getD-set-other ws (markPlace n m) (place n′ k) x 0 z ∙
                 (hy .node n′ k p h ∙ other n′ (getD (s .places) n′ none) refl k h (λ c d. z (omega arith))));
           }
         where
           x : ℕ
           x = setBit (block (tierOrder v) (e .base) % slots) (slotMark l′ m v (block (tierOrder v) (e .base)))
-              (getD ws (place n (markField + m)) 0)
+              (getD ws (markPlace n m) 0)
 
-          here : (n′ k : ℕ) → n′ ≡ n → k ≡ 2 + m → getD (set ws (place n (markField + m))
+          here : (n′ k : ℕ) → n′ ≡ n → k ≡ fieldMark m → getD (set ws (markPlace n m)
               (setBit (block (tierOrder v) (e .base) % slots) (slotMark l′ m v (block (tierOrder v) (e .base)))
-              (getD ws (place n (markField + m)) 0))) (place n′ k) 0 ≡ mixed l l′ ν (suc v) (getD (s .places) n′ none)
+              (getD ws (markPlace n m) 0))) (place n′ k) 0 ≡ mixed l l′ ν (suc v) (getD (s .places) n′ none)
               k
           here n′ k z₁ z₂ =
               rw (z₁, z₂, n< .1, le-leb (suc v) (suc v) (le-refl (suc v)))
-              (getD-set-same ws (place n (markField + m))
+              (getD-set-same ws (markPlace n m)
               (setBit (block (tierOrder v) (e .base) % slots) (slotMark l′ m v (block (tierOrder v) (e .base)))
-              (getD ws (place n (markField + m)) 0)) 0 (omega (arith, hy .size, n< .0)) ∙
+              (getD ws (markPlace n m) 0)) 0 (omega (arith, hy .size, n< .0)) ∙
               (ap (setBit (block (tierOrder v) (e .base) % slots) (slotMark l′ m v (block (tierOrder v) (e .base))))
               hybrid-old ∙ field-on l (s .valid) i e q m m< b ν v))
 
-          other : (n′ : ℕ) (o : Option Node) → getD (s .places) n′ none ≡ o → (k : ℕ) → k < nodeWords →
-              (n′ ≡ n → k ≡ 2 + m → ⊥) → mixed l l′ ν v o k ≡ mixed l l′ ν (suc v) o k
+          other : (n′ : ℕ) (o : Option Node) → getD (s .places) n′ none ≡ o → (k : ℕ) → IsField k →
+              (n′ ≡ n → k ≡ fieldMark m → ⊥) → mixed l l′ ν v o k ≡ mixed l l′ ν (suc v) o k
           other n′ none r k h ne = refl
           other n′ (some p) r k h ne =
               let (y, t) = place-of s n′ p r in
@@ -180,36 +185,29 @@ module _ {ws₀ : List ℕ} (s : WellFormed ws₀) (i m : ℕ) (m< : m < markCou
   -- after the step
   module _ {v n : ℕ} {ws : List ℕ} (hy : Hybrid s l′ (suc v) ws)
       (a : AtNode l ν v (block (tierOrder (suc v)) (e .base)) n) where
-    pub hybrid-new : (k : ℕ) → k < nodeWords → getD ws (place n k) 0 ≡ field l′ ν (suc v)
+    pub hybrid-new : (k : ℕ) → IsField k → getD ws (place n k) 0 ≡ field l′ ν (suc v)
         (block (tierOrder (suc v)) (e .base)) k
     hybrid-new k h = hy .node n k (node-at s a .0) h ∙ rw (node-at s a .1, le-leb (suc v) (suc v) (le-refl (suc v)))
         refl
 
     -- the mark word says whether the slot over the node has the mark
-    pub hybrid-mark : not (eqb (getD ws (place n (markField + m)) 0) 0) ≡ slotMark l′ m (suc v)
+    pub hybrid-mark : not (eqb (getD ws (markPlace n m) 0) 0) ≡ slotMark l′ m (suc v)
         (block (tierOrder (suc v)) (e .base))
     hybrid-mark =
-        let d : 2 + m - 2 ≡ m = omega arith in
-        let c : suc v - 1 ≡ v = omega arith in
-        let w : getD ws (place n (markField + m)) 0 ≡ bitsTo
-        (λ j. slotMark l′ m v (slots * block (tierOrder (suc v)) (e .base) + j)) slots = hybrid-new (2 + m)
-        (omega arith) ∙ rw (
-          ne-eqb (2 + m) 0 (omega arith),
-          ne-eqb (2 + m) 1 (omega arith),
-          lt-ltb (2 + m) 5 (omega arith),
-          c,
-          d,
-        ) refl in
+        let w : getD ws (markPlace n m) 0 ≡ bitsTo
+        (λ j. slotMark l′ m v (slots * block (tierOrder (suc v)) (e .base) + j)) slots = get-mark ws n l′ ν (height l′) v
+        (block (tierOrder (suc v)) (e .base)) hybrid-new m m< in
         ap (λ (x : ℕ). not (eqb x 0)) w ∙ word-mark l′ m v (block (tierOrder (suc v)) (e .base))
 
-    pub hybrid-owner : getD ws (place n ownerField) 0 ≡ owner l ν (suc v) (block (tierOrder (suc v)) (e .base))
-    hybrid-owner = hybrid-new 1 (omega arith) ∙ rw (same-height l (s .valid) i e q m m< b) refl
+    pub hybrid-owner : getD ws (ownerPlace n) 0 ≡ owner l ν (suc v) (block (tierOrder (suc v)) (e .base))
+    hybrid-owner = get-owner ws n l′ ν (height l′) v (block (tierOrder (suc v)) (e .base)) hybrid-new ∙ ap
+        (λ (h : ℕ). ownerUnder h ν (suc v) (block (tierOrder (suc v)) (e .base))) (same-height l (s .valid) i e q m m< b)
 
     v-top : suc v ≤ height l
     v-top = has-tier l (suc v) _ (a .there) .1
 
     -- the node over it
-    pub hybrid-up : (p : ℕ) → p ≡ getD ws (place n ownerField) 0 → (p ≡ 0 → ⊥) →
+    pub hybrid-up : (p : ℕ) → p ≡ getD ws (ownerPlace n) 0 → (p ≡ 0 → ⊥) →
         AtNode l ν (suc v) (block (tierOrder (suc (suc v))) (e .base)) ((p - 1) / slots) ×
         ((p - 1) % slots ≡ block (tierOrder (suc v)) (e .base) % slots)
     hybrid-up p r z =
@@ -229,7 +227,7 @@ module _ {ws₀ : List ℕ} (s : WellFormed ws₀) (i m : ℕ) (m< : m < markCou
         ))
 
     -- at the head
-    pub hybrid-top : getD ws (place n ownerField) 0 ≡ 0 → suc v ≡ height l
+    pub hybrid-top : getD ws (ownerPlace n) 0 ≡ 0 → suc v ≡ height l
     hybrid-top z =
         byT (eqb (suc v) (height l)) (λ t. eqb-true _ _ t)
         (λ t. let w : 0 ≡ 1 + slots * ν (suc (suc v)) (block (tierOrder (suc v)) (e .base) / slots) + block
@@ -256,18 +254,18 @@ module _ {ws₀ : List ℕ} (s : WellFormed ws₀) (i m : ℕ) (m< : m < markCou
       anchor : (k : ℕ) → k < anchorWords → getD (set ws marksWord (setBit m t (getD ws marksWord 0))) k 0 ≡ anchorWord
           l′ ν (s .n) k
       anchor k h =
-          byT (eqb k 2)
-          (λ f. let z : k ≡ 2 = eqb-true _ _ f in
-          rw z (getD-set-same ws 2 (setBit m t (getD ws marksWord 0)) 0 (omega (arith, hy .size)) ∙
-          (ap₂ (setBit m) marked (hy .anchor 2 (omega arith)) ∙ marks-on l (s .valid) i e q m m< b)))
-          (λ f. let z : k ≡ 2 → ⊥ = eqb-false _ _ f in
-          getD-set-other ws 2 k (setBit m t (getD ws marksWord 0)) 0 z ∙
+          byT (eqb k marksWord)
+          (λ f. let z : k ≡ marksWord = eqb-true _ _ f in
+          rw z (getD-set-same ws marksWord (setBit m t (getD ws marksWord 0)) 0 (omega (arith, hy .size)) ∙
+          (ap₂ (setBit m) marked (hy .anchor marksWord (omega arith)) ∙ marks-on l (s .valid) i e q m m< b)))
+          (λ f. let z : k ≡ marksWord → ⊥ = eqb-false _ _ f in
+          getD-set-other ws marksWord k (setBit m t (getD ws marksWord 0)) 0 z ∙
           (hy .anchor k h ∙ sym (anchor-off l (s .valid) i e q m m< b ν (s .n) k z)))
 
-      node : (n k : ℕ) → n < s .n → k < nodeWords → getD (set ws marksWord (setBit m t (getD ws marksWord 0)))
+      node : (n k : ℕ) → n < s .n → IsField k → getD (set ws marksWord (setBit m t (getD ws marksWord 0)))
           (place n k) 0 ≡ fieldAt
           l′ ν (getD (s .places) n none) k
-      node n k p h = getD-set-other ws 2 (place n k) (setBit m t (getD ws marksWord 0)) 0 (omega arith) ∙
+      node n k p h = getD-set-other ws marksWord (place n k) (setBit m t (getD ws marksWord 0)) 0 (omega arith) ∙
           (hy .node n k p h ∙ go (getD (s .places) n none) refl)
         where
           go : (o : Option Node) → getD (s .places) n none ≡ o → mixed l l′ ν u o k ≡ fieldAt l′ ν o k
@@ -286,14 +284,14 @@ module _ {ws₀ : List ℕ} (s : WellFormed ws₀) (i m : ℕ) (m< : m < markCou
     where
       anchor : (k : ℕ) → k < anchorWords → getD ws k 0 ≡ anchorWord (remark (s .list) i m b) (num s) (s .n) k
       anchor k h =
-          byT (eqb k 2)
-          (λ f. let z : k ≡ 2 = eqb-true _ _ f in
-          rw z (hy .anchor 2 (omega arith) ∙ sym (marks-same (s .list) (s .valid) i e q m m< b
+          byT (eqb k marksWord)
+          (λ f. let z : k ≡ marksWord = eqb-true _ _ f in
+          rw z (hy .anchor marksWord (omega arith) ∙ sym (marks-same (s .list) (s .valid) i e q m m< b
           (settled-any (s .list) (s .valid) i e q m m< b v same))))
-          (λ f. let z : k ≡ 2 → ⊥ = eqb-false _ _ f in
+          (λ f. let z : k ≡ marksWord → ⊥ = eqb-false _ _ f in
           hy .anchor k h ∙ sym (anchor-off (s .list) (s .valid) i e q m m< b (num s) (s .n) k z))
 
-      go : (n k : ℕ) → k < nodeWords → (o : Option Node) → getD (s .places) n none ≡ o →
+      go : (n k : ℕ) → IsField k → (o : Option Node) → getD (s .places) n none ≡ o →
           mixed (s .list) (remark (s .list) i m b) (num s) v o k ≡ fieldAt (remark (s .list) i m b) (num s) o k
       go n k h none r = refl
       go n k h (some p) r =
@@ -321,17 +319,8 @@ pub record Bounds (ws₀ ws : List ℕ) (n v o : ℕ) : Type 0 where
   pub node-lt : n < maxNodes
   pub slot-lt : o < slots
   pub tier-le : v < topTier
-  pub node-in : place n lastField < length ws
+  pub node-in : lastPlace n < length ws
   pub same : length ws ≡ length ws₀
-
-pub has-low : (l : List Entry) (u b : ℕ) → Valid l → has l u b ≡ true → u ≤ topTier
-has-low l u b val t =
-    omega (
-      arith,
-      has-tier l u b t .1,
-      height-le {h = 11}
-          (All-map (λ x o. fits-most x (o .order-le, o .in-range)) (sorted-ok val)),
-    )
 
 module _ {ws₀ : List ℕ} (s : WellFormed ws₀) {i m : ℕ} (m< : m < markCount) {on : Bool} where
   pub climb-start : {v n o : ℕ} → Holds (s .list) (num s) i n v o → Climbing s i m on v n o on ws₀
@@ -348,7 +337,7 @@ module _ {ws₀ : List ℕ} (s : WellFormed ws₀) {i m : ℕ} (m< : m < markCou
     pub climb-bounds : Bounds ws₀ ws n v o
     climb-bounds =
         let h : n < s .n = node-at s (a .at-node) .0 in
-        let t : suc v ≤ topTier = has-low (s .list) (suc v) (block (tierOrder (suc v)) (a .entry .base)) (s .valid)
+        let t : suc v ≤ topTier = has-low (s .list) (suc v) (block (tierOrder (suc v)) (a .entry .base))
         (a .at-node .there) in
         record {
           node-lt = omega (arith, s .most);
@@ -358,14 +347,14 @@ module _ {ws₀ : List ℕ} (s : WellFormed ws₀) {i m : ℕ} (m< : m < markCou
           same = a .words-are .size ∙ sym (pool-length s);
         }
 
-    module _ {ws′ : List ℕ} (e : ws′ ≡ set ws (place n (markField + m))
-        (setBit o b (getD ws (place n (markField + m)) 0))) where
+    module _ {ws′ : List ℕ} (e : ws′ ≡ set ws (markPlace n m)
+        (setBit o b (getD ws (markPlace n m) 0))) where
       climb-put : Hybrid s (remark (s .list) i m on) (suc v) ws′
       climb-put = rw (e, a .slot-is, a .bit-is) (hybrid-step s i m m< on (a .entry) (a .covering-is) (a .words-are)
           (a .at-node))
 
-      module _ {b′ : Bool} (t : b′ ≡ not (eqb (getD ws′ (place n (markField + m)) 0) 0)) {p : ℕ}
-          (r : p ≡ getD ws′ (place n ownerField) 0) where
+      module _ {b′ : Bool} (t : b′ ≡ not (eqb (getD ws′ (markPlace n m) 0) 0)) {p : ℕ}
+          (r : p ≡ getD ws′ (ownerPlace n) 0) where
         pub climb-next : (p ≡ 0 → ⊥) → Climbing s i m on (suc v) ((p - 1) / slots) ((p - 1) % slots) b′ ws′
         climb-next z =
             let (h, k) = hybrid-up s i m m< on (a .entry) (a .covering-is) climb-put (a .at-node) p r z in
@@ -386,25 +375,22 @@ module _ {ws₀ : List ℕ} (s : WellFormed ws₀) {i m : ℕ} (m< : m < markCou
             (hybrid-top s i m m< on (a .entry) (a .covering-is) climb-put (a .at-node) (sym r ∙ z)) b′
             (t ∙ hybrid-mark s i m m< on (a .entry) (a .covering-is) climb-put (a .at-node))
 
-    pub climb-stop : setBit o b (getD ws (place n (markField + m)) 0) ≡ getD ws (place n (markField + m)) 0 →
+    pub climb-stop : setBit o b (getD ws (markPlace n m) 0) ≡ getD ws (markPlace n m) 0 →
         ws ≡ render (remark (s .list) i m on) (s .places) (s .n)
     climb-stop z =
-        let old : getD ws (place n (markField + m)) 0 ≡ field (s .list) (num s) (suc v)
-        (block (tierOrder (suc v)) (a .entry .base)) (2 + m) = hybrid-old s i m m< on (a .entry) (a .covering-is)
+        let old : getD ws (markPlace n m) 0 ≡ field (s .list) (num s) (suc v)
+        (block (tierOrder (suc v)) (a .entry .base)) (fieldMark m) = hybrid-old s i m m< on (a .entry) (a .covering-is)
         (a .words-are) (a .at-node) in
-        let k : bit o (getD ws (place n (markField + m)) 0) ≡ pick b 1 0 = bit-kept o
-        (getD ws (place n (markField + m)) 0) b z in
-        let c : suc v - 1 ≡ v = omega arith in
-        let d : 2 + m - 2 ≡ m = omega arith in
-        let w : field (s .list) (num s) (suc v) (block (tierOrder (suc v)) (a .entry .base)) (2 + m) ≡ bitsTo
-        (λ j. slotMark (s .list) m v (slots * block (tierOrder (suc v)) (a .entry .base) + j)) slots = rw
-        (ne-eqb (2 + m) 0 (omega arith), ne-eqb (2 + m) 1 (omega arith), lt-ltb (2 + m) 5 (omega arith), c, d)
-        refl in
+        let k : bit o (getD ws (markPlace n m) 0) ≡ pick b 1 0 = bit-kept o
+        (getD ws (markPlace n m) 0) b z in
+        let w : field (s .list) (num s) (suc v) (block (tierOrder (suc v)) (a .entry .base)) (fieldMark m) ≡ bitsTo
+        (λ j. slotMark (s .list) m v (slots * block (tierOrder (suc v)) (a .entry .base) + j)) slots = level-mark
+        (s .list) (num s) v (block (tierOrder (suc v)) (a .entry .base)) m m< in
         let y : block (tierOrder (suc v)) (a .entry .base) ≡ block (tierOrder v) (a .entry .base) / slots = tier-up v
         (a .entry .base) in
         let at : slots * block (tierOrder (suc v)) (a .entry .base) + o ≡ block (tierOrder v) (a .entry .base) = omega
         (arith, a .slot-is) in
-        let r : bit o (getD ws (place n (markField + m)) 0) ≡ pick
+        let r : bit o (getD ws (markPlace n m) 0) ≡ pick
         (slotMark (s .list) m v (block (tierOrder v) (a .entry .base))) 1 0 = ap (bit o) (old ∙ w) ∙
         (bits-read (λ j. slotMark (s .list) m v (slots * block (tierOrder (suc v)) (a .entry .base) + j)) slots o
         (omega (arith, a .slot-is)) ∙ ap (λ (x : ℕ). pick (slotMark (s .list) m v x) 1 0) at) in

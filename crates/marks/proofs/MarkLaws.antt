@@ -7,8 +7,8 @@ use mathlib.Core.Option.{Option, none, some}
 use mathlib.Core.Logic.{_⊎_, inl, inr}
 use native.Mathlib.Omega.{arith}
 use native.Mathlib.Nat.{le-refl, zero-add}
-use lib.Dec.{ltb, eqb}
-use borrow.Author.Tests.{eqb-true, eqb-false, ltb-true, lt-ltb, eq-eqb, ne-eqb}
+use lib.Dec.{eqb}
+use borrow.Author.Tests.{eqb-true, eqb-false, eq-eqb, ne-eqb}
 use Rattle.blocks.specs.Choice.{pick, both, either}
 use Rattle.blocks.specs.Lists.{any, All, end, also, In}
 use Rattle.blocks.specs.Blocks.{block, bit, bitsTo, setBit}
@@ -49,8 +49,10 @@ use Rattle.tree.proofs.StoreLaws.{marked-only}
 use Rattle.tree.proofs.HeightLaws.{Low, height-fits, fits-base}
 use Rattle.tree.proofs.SlotLaws.{tier-up, mark-up, mark-down}
 use Rattle.tree.proofs.RelabelLaws.{mapO, any-map, within-map, covering-map, height-map}
-use Rattle.layout.specs.Words.{field, anchorWord, nodeWords}
-use Rattle.marks.proofs.BitSetLaws.{marks-bits, set-bits, marks-of-bits}
+use Rattle.layout.specs.Words.{field, fieldMark, ownerUnder, anchorWord, marksWord, IsField}
+use Rattle.layout.proofs.FieldLaws.{by-field, field-shift, field-owner, field-mark, field-slot, level-mark}
+use Rattle.marks.proofs.BitSetLaws.{set-bits}
+use Rattle.model.proofs.MarkLaws.{marks-bits, marks-of-bits}
 
 -- a node's mark word is 0 where the slot that leads to the node has no mark
 pub word-mark : (l : List Entry) (m v b : ℕ) → not (eqb (bitsTo (λ j. slotMark l m v (slots * b + j)) slots) 0) ≡
@@ -179,20 +181,17 @@ module _ (l : List Entry) (val : Valid l) (i : ℕ) (e : Entry) (q : covering l 
         go none = refl
         go (some x) = refl
 
-    pub field-off : (ν : Numbering) (u c k : ℕ) → 0 < u → k < nodeWords →
-        (k ≡ 2 + m → c ≡ block (tierOrder u) (e .base) → ⊥) → field l′ ν u c k ≡ field l ν u c k
-    field-off ν u c k pos h ne =
-        byT (eqb k 0) (λ t. rw t)
-        (λ t₀. byT (eqb k 1) (λ t. rw (t₀, t, same-height))
-        (λ t₁. let n₀ : k ≡ 0 → ⊥ = eqb-false _ _ t₀ in
-        let n₁ : k ≡ 1 → ⊥ = eqb-false _ _ t₁ in
-        byT (ltb k 5)
-        (λ t. let k< : k < 5 = ltb-true _ _ t in
-        rw (t₀, t₁, t) (bits-same (λ j. slotMark l′ (k - 2) (u - 1) (slots * c + j))
-        (λ j. slotMark l (k - 2) (u - 1) (slots * c + j)) slots
-        (λ j lt. mark-off (k - 2) (u - 1) (slots * c + j) (omega arith)
-        (λ a z. ne (omega arith) (up (slots * c + j) z (omega arith))))))
-        (λ t. rw (t₀, t₁, t, same-slot))))
+    pub field-off : (ν : Numbering) (u c k : ℕ) → 0 < u → IsField k →
+        (k ≡ fieldMark m → c ≡ block (tierOrder u) (e .base) → ⊥) → field l′ ν u c k ≡ field l ν u c k
+    field-off ν u c k pos h =
+        by-field (λ k. (k ≡ fieldMark m → c ≡ block (tierOrder u) (e .base) → ⊥) → field l′ ν u c k ≡ field l ν u c k)
+        (λ _. field-shift l′ ν u c ∙ sym (field-shift l ν u c))
+        (λ _. field-owner l′ ν u c ∙ (ap (λ (x : ℕ). ownerUnder x ν u c) same-height ∙ sym (field-owner l ν u c)))
+        (λ x g ne. field-mark l′ ν u c x g ∙ (bits-same (λ j. slotMark l′ x (u - 1) (slots * c + j))
+        (λ j. slotMark l x (u - 1) (slots * c + j)) slots
+        (λ j lt. mark-off x (u - 1) (slots * c + j) g
+        (λ a z. ne (ap fieldMark a) (up (slots * c + j) z (omega arith)))) ∙ sym (field-mark l ν u c x g)))
+        (λ o g _. field-slot l′ ν u c o ∙ (same-slot ν (u - 1) (slots * c + o) ∙ sym (field-slot l ν u c o))) k h
       where
         up : (d : ℕ) → d ≡ block (tierOrder (u - 1)) (e .base) → c ≡ d / slots → c ≡ block (tierOrder u) (e .base)
         up d z y = let s : suc (u - 1) ≡ u = omega arith in
@@ -201,36 +200,28 @@ module _ (l : List Entry) (val : Valid l) (i : ℕ) (e : Entry) (q : covering l 
 
     pub field-on : (ν : Numbering) (v : ℕ) → setBit (block (tierOrder v) (e .base) % slots)
         (slotMark l′ m v (block (tierOrder v) (e .base)))
-        (field l ν (suc v) (block (tierOrder (suc v)) (e .base)) (2 + m)) ≡ field l′ ν (suc v)
-        (block (tierOrder (suc v)) (e .base)) (2 + m)
+        (field l ν (suc v) (block (tierOrder (suc v)) (e .base)) (fieldMark m)) ≡ field l′ ν (suc v)
+        (block (tierOrder (suc v)) (e .base)) (fieldMark m)
     field-on ν v =
         let B : ℕ = block (tierOrder (suc v)) (e .base) in
         let c : ℕ = block (tierOrder v) (e .base) in
         let y : block (tierOrder (suc v)) (e .base) ≡ block (tierOrder v) (e .base) / slots = tier-up v (e .base) in
         let at : slots * block (tierOrder (suc v)) (e .base) + block (tierOrder v) (e .base) % slots ≡ block
         (tierOrder v) (e .base) = omega arith in
-        let F : (l : List Entry) → field l ν (suc v) B (2 + m) ≡ bitsTo (λ j. slotMark l m v (slots * B + j)) slots =
-        λ l. mark-field l ν v B in
+        let F : (l : List Entry) → field l ν (suc v) B (fieldMark m) ≡ bitsTo (λ j. slotMark l m v (slots * B + j))
+        slots = λ l. level-mark l ν v B m m< in
         rw (F l, F l′) (ap (λ (x : ℕ). setBit (c % slots) (slotMark l′ m v x)
         (bitsTo (λ j. slotMark l m v (slots * B + j)) slots)) (sym at) ∙
         set-bits (λ j. slotMark l m v (slots * B + j)) (λ j. slotMark l′ m v (slots * B + j)) (c % slots) slots
         (omega arith) (λ j lt n. sym (mark-off m v (slots * B + j) m< (λ a z. n (omega arith)))))
-      where
-        mark-field : (l : List Entry) (ν : Numbering) (v b : ℕ) →
-            field l ν (suc v) b (2 + m) ≡ bitsTo (λ j. slotMark l m v (slots * b + j)) slots
-        mark-field l ν v b =
-            let e : suc v - 1 ≡ v = omega arith in
-            let d : 2 + m - 2 ≡ m = omega arith in
-            rw (ne-eqb (2 + m) 0 (omega arith), ne-eqb (2 + m) 1 (omega arith), lt-ltb (2 + m) 5 (omega arith), e, d)
-            refl
 
     -- the anchor's
-    pub anchor-off : (ν : Numbering) (n k : ℕ) → (k ≡ 2 → ⊥) → anchorWord l′ ν n k ≡ anchorWord l ν n k
-    anchor-off ν n k ne = rw (ne-eqb k 2 ne, same-height, same-slot)
+    pub anchor-off : (ν : Numbering) (n k : ℕ) → (k ≡ marksWord → ⊥) → anchorWord l′ ν n k ≡ anchorWord l ν n k
+    anchor-off ν n k ne = rw (ne-eqb k marksWord ne, same-height, same-slot)
 
     pub marks-on : setBit m (any (hasMark m) l′) (marksOf l) ≡ marksOf l′
     marks-on =
-        rw (marks-of-bits l, marks-of-bits l′) (set-bits (λ j. any (hasMark j) l) (λ j. any (hasMark j) l′) m 3 m<
+        rw (marks-of-bits l, marks-of-bits l′) (set-bits (λ j. any (hasMark j) l) (λ j. any (hasMark j) l′) m markCount m<
         (λ j lt ne.
         let t : hasMark j (f e) ≡ hasMark j e = has-new j lt ∙ rw (ne-eqb j m ne) in
         one-apart (hasMark j) ∙ (ap (λ (t : Bool). either t (any (hasMark j) (erase l i))) (sym t) ∙ sym
@@ -238,7 +229,7 @@ module _ (l : List Entry) (val : Valid l) (i : ℕ) (e : Entry) (q : covering l 
 
     pub marks-same : any (hasMark m) l′ ≡ any (hasMark m) l → marksOf l′ ≡ marksOf l
     marks-same h =
-        rw (marks-of-bits l, marks-of-bits l′) (bits-same (λ j. any (hasMark j) l′) (λ j. any (hasMark j) l) 3
+        rw (marks-of-bits l, marks-of-bits l′) (bits-same (λ j. any (hasMark j) l′) (λ j. any (hasMark j) l) markCount
         (λ j lt. byT (eqb j m) (λ t. let z : j ≡ m = eqb-true _ _ t in rw z h)
         (λ t. let k : hasMark j (f e) ≡ hasMark j e = has-new j lt ∙ rw t in
         one-new (hasMark j) ∙ (ap (λ (t : Bool). either t (any (hasMark j) (erase l i))) k ∙ sym
@@ -324,20 +315,19 @@ module _ (l : List Entry) (val : Valid l) (i : ℕ) (e : Entry) (q : covering l 
               rw (r′, either-yes, either-yes)
 
       -- so the fields of the nodes above are the same
-      pub field-settled : (ν : Numbering) (u k : ℕ) → v < u → k < nodeWords →
+      pub field-settled : (ν : Numbering) (u k : ℕ) → v < u → IsField k →
           field l′ ν u (block (tierOrder u) (e .base)) k ≡ field l ν u (block (tierOrder u) (e .base)) k
       field-settled ν u k lt h =
-          byT (eqb k (2 + m))
-          (λ t. let k≡ : k ≡ 2 + m = eqb-true _ _ t in
-          let d : 2 + m - 2 ≡ m = omega arith in
+          byT (eqb k (fieldMark m))
+          (λ t. let k≡ : k ≡ fieldMark m = eqb-true _ _ t in
           let s : suc (u - 1) ≡ u = omega arith in
           let y : block (tierOrder u) (e .base) ≡ block (tierOrder (u - 1)) (e .base) / slots = ap
           (λ (x : ℕ). block (tierOrder x) (e .base)) (sym s) ∙ tier-up (u - 1) (e .base) in
-          rw (k≡, ne-eqb (2 + m) 0 (omega arith), ne-eqb (2 + m) 1 (omega arith), lt-ltb (2 + m) 5 (omega arith), d)
-          (bits-same (λ j. slotMark l′ m (u - 1) (slots * block (tierOrder u) (e .base) + j))
+          rw k≡ (field-mark l′ ν u (block (tierOrder u) (e .base)) m m< ∙ (bits-same (λ j. slotMark l′ m (u - 1) (slots * block (tierOrder u) (e .base) + j))
           (λ j. slotMark l m (u - 1) (slots * block (tierOrder u) (e .base) + j)) slots (λ j j<.
           byT (eqb (slots * block (tierOrder u) (e .base) + j) (block (tierOrder (u - 1)) (e .base)))
           (λ g. let g′ : slots * block (tierOrder u) (e .base) + j ≡ block (tierOrder (u - 1)) (e .base) = eqb-true _
           _ g in rw g′ (settled (u - 1) (omega arith)))
-          (λ g. mark-off m (u - 1) (slots * block (tierOrder u) (e .base) + j) m< (λ _ z. eqb-false _ _ g z)))))
+          (λ g. mark-off m (u - 1) (slots * block (tierOrder u) (e .base) + j) m< (λ _ z. eqb-false _ _ g z)))
+          ∙ sym (field-mark l ν u (block (tierOrder u) (e .base)) m m<))))
           (λ t. field-off ν u (block (tierOrder u) (e .base)) k (omega arith) h (λ z _. eqb-false _ _ t z))

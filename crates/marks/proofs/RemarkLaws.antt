@@ -29,17 +29,18 @@ use Rattle.model.specs.Model.{
   markCount,
 }
 use Rattle.model.specs.declared.Covered.the-variants.{Nothing, By}
-use Rattle.tree.specs.Tree.{height, Node, tierOrder}
+use Rattle.tree.specs.Tree.{height, tierOrder}
 use Rattle.tree.proofs.RelabelLaws.{mapO, covering-map, has-map, new-nodes-map}
 use Rattle.tree.specs.Slots.{Numbering}
-use Rattle.layout.specs.Places.{Places, Placed, render, prune, newPlaces, allocate}
+use Rattle.layout.specs.Places.{Places, Placed, render, newPlaces}
 use Rattle.layout.specs.WellFormed.{WellFormed}
-use Rattle.layout.proofs.NumberLaws.{prune-same, allocate-none}
 use Rattle.lookup.specs.Views.{Holds}
-use Rattle.marks.proofs.BitSetLaws.{set-bits, marks-bits}
+use Rattle.marks.proofs.BitSetLaws.{set-bits}
 use Rattle.marks.proofs.HybridLaws.{hybrid-start, hybrid-end}
 use Rattle.marks.proofs.MarkLaws.{mark-entry}
 use Rattle.layout.specs.Words.{marksWord}
+use Rattle.model.proofs.MarkLaws.{marks-bits}
+use Rattle.layout.proofs.StayLaws.{places-stay}
 
 -- A MARK CHANGED: still a list, at the same places
 set-small : (w m : ℕ) (b : Bool) → w < 8 → m < markCount → setBit m b w < 8
@@ -136,14 +137,11 @@ holds-remark {l} {v} i m b h = record {
 }
 
 -- no node is new, and none goes
-pub places-remark : {n : ℕ} {l : List Entry} {os : Places} (i m : ℕ) (b : Bool) → Placed n l os →
+pub places-remark : {n : ℕ} (l : List Entry) {os : Places} (i m : ℕ) (b : Bool) → Placed n l os →
     newPlaces l (remark l i m b) os ≡ os
-places-remark {l} {os} i m b pl =
-    ap (λ (ps : List Node). prune (remark l i m b) (allocate os ps))
-    (new-nodes-map (withMark i m b) (λ x. refl) (λ x. refl) l) ∙
-    (ap (prune (remark l i m b)) (allocate-none os) ∙
-    prune-same (remark l i m b) os (λ p k. has-map (withMark i m b) (λ x. refl) (λ x. refl) (p .tier) (p .number) l ∙
-    pl .sound p k))
+places-remark l i m b pl = places-stay l (remark l i m b) pl
+    (new-nodes-map (withMark i m b) (λ x. refl) (λ x. refl) l)
+    (λ u c. has-map (withMark i m b) (λ x. refl) (λ x. refl) u c l)
 
 -- THE ANSWER
 module _ (l : List Entry) (i m : ℕ) (b : Bool) where

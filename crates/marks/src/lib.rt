@@ -2,13 +2,12 @@
 //
 // pool: the borrowed words, well-formed; n: the number of a node; v: the tier of its slots; o: the offset of a slot;
 // m: a mark, 0 to 2; on: whether it is set or cleared.
-use layout::MARK_FIELD;
 use layout::MARKS_WORD;
-use layout::OWNER_FIELD;
 use layout::SLOTS;
-use layout::field;
+use layout::mark_word;
+use layout::owner_of;
 use layout::pow2;
-use layout::put;
+use layout::put_mark_word;
 use lookup::Located;
 use lookup::Spot;
 use lookup::locate;
@@ -78,14 +77,14 @@ pub fn climb(pool: &mut [u64], i: u64, at: Spot, m: u64, on: bool)
     let mut o = at.slot;
     let mut b = on;
     loop {
-        let w = field(pool, n, MARK_FIELD + m);
+        let w = mark_word(pool, n, m);
         let x = with_bit(w, o, b);
         if x == w {
             return;
         }
-        put(pool, n, MARK_FIELD + m, x);
+        put_mark_word(pool, n, m, x);
         b = nonzero(x);
-        let p = field(pool, n, OWNER_FIELD);
+        let p = owner_of(pool, n);
         if p == 0 {
             break;
         }

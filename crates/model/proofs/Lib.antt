@@ -1,3 +1,4 @@
+pub mod MarkLaws
 pub mod InsertLaws
 pub mod RangeLaws
 pub mod ValidLaws

@@ -6,9 +6,8 @@ use mathlib.Core.List.{List, map}
 use mathlib.Core.Option.{none, some}
 use native.Mathlib.Omega.{arith}
 use native.Mathlib.Nat.{le-refl, le-trans, lt-of-le-of-lt, div-eq-of-lt-le}
-use lib.Dec.{leb, ltb, T, lit<}
+use lib.Dec.{leb, ltb, T}
 use borrow.Author.Tests.{leb-true, leb-false, eqb-true, ltb-true, ltb-false, eq-eqb}
-use Rattle.blocks.specs.Choice.{pick}
 use Rattle.blocks.specs.Lists.{any, without, All, end, also, In}
 use Rattle.blocks.specs.Blocks.{block}
 use Rattle.blocks.proofs.BoolLaws.{clash, byT, iff}
@@ -32,7 +31,6 @@ use Rattle.model.specs.Model.{
   covers,
   covering,
   starts,
-  hasMark,
   inside,
   clear,
   newEntry,
@@ -47,6 +45,7 @@ use Rattle.model.specs.Model.{
   Valid,
 }
 use Rattle.model.proofs.RangeLaws.{Room, clear-uncovered}
+use Rattle.model.proofs.MarkLaws.{marks-lt}
 
 pub block-in : (j c y : ℕ) → c * 2 ^ j ≤ y → y < c * 2 ^ j + 2 ^ j → block j y ≡ c
 block-in j c y a b = div-eq-of-lt-le (2 ^ j) a (omega arith)
@@ -125,19 +124,8 @@ module _ (i k w : ℕ) (l : List Entry) where
     in-range = lt-of-le-of-lt (block-lo k i) i<;
     word-ok = st;
     word-fits = w<;
-    marks-fit = small (any (hasMark 0) (inside l i k)) (any (hasMark 1) (inside l i k))
-        (any (hasMark 2) (inside l i k));
+    marks-fit = marks-lt (inside l i k);
   }
-    where
-      small : (a b c : Bool) → pick a 1 0 + pick b 2 0 + pick c 4 0 < 8
-      small true true true = lit< tt
-      small true true false = lit< tt
-      small true false true = lit< tt
-      small true false false = lit< tt
-      small false true true = lit< tt
-      small false true false = lit< tt
-      small false false true = lit< tt
-      small false false false = lit< tt
 
   pub store-at-valid : Valid l → All (Room i k) l → i < 2 ^ 64 → k ≤ 63 → T (storable w) → w < 2 ^ 64 →
       Valid (storeNew l i k w)

@@ -12,9 +12,9 @@ use Rattle.blocks.specs.Blocks.{bit}
 use Rattle.blocks.proofs.BoolLaws.{byT}
 use Rattle.tree.specs.Tree.{slots}
 use Rattle.layout.specs.Pool.{Pool}
-use Rattle.scan.specs.Local.{Decides}
+use Rattle.layout.specs.Reading.{Decides}
 use Rattle.scan.specs.Passes.{fillBit, FilledFrom, Filled, NoLoose}
-use Rattle.scan.proofs.TestLaws.{decide-eqb}
+use Rattle.layout.proofs.PassLaws.{decide-eqb}
 use Rattle.decode.proofs.CoverLaws.{bit-suc}
 use Rattle.scan.proofs.WordLaws.{join-low, join-high, among-clear, clear-among}
 

@@ -21,32 +21,34 @@ use Rattle.blocks.proofs.UpToLaws.{getD-upTo}
 use Rattle.model.specs.declared.Entry.{Entry}
 use Rattle.model.specs.Model.{storable, over, within, newEntry, storeNew}
 use Rattle.model.proofs.ValidLaws.{sorted-ok}
-use Rattle.tree.specs.Tree.{slots, tierOrder, fits, height, has, Node, needed}
+use Rattle.tree.specs.Tree.{slots, tierOrder, fits, height, has, Node, needed, slotBits}
 use Rattle.tree.specs.Slots.{Numbering, nodeWord, slot}
 use Rattle.tree.proofs.HeightLaws.{height-fits, fits-i, fits-base, fits-tall}
 use Rattle.tree.proofs.NeededLaws.{path-up}
 use Rattle.tree.proofs.SlotLaws.{tier-up, zero-starts}
 use Rattle.tree.proofs.StoreLaws.{within-only}
-use Rattle.layout.specs.Words.{place, nodeWords, shiftField, shiftWord, ownerField, slotField, field, fieldAt}
+use Rattle.layout.specs.Words.{place, shiftField, ownerField, fieldSlot, shiftWord, field, fieldAt, shiftPlace, ownerPlace, slotPlace, IsField}
 use Rattle.layout.specs.Places.{Places, numberIn, freeCount, newPlaces, render}
 use Rattle.layout.specs.WellFormed.{WellFormed, InUse, num}
 use Rattle.layout.proofs.OwnerLaws.{parent, owner-same}
 use Rattle.layout.proofs.NewNumberLaws.{kept, was}
-use Rattle.layout.proofs.RenderWordLaws.{field-slot, slot-node}
+use Rattle.layout.proofs.RenderWordLaws.{slot-node, pool-length, pool-anchor, pool-node}
+use Rattle.layout.proofs.FieldLaws.{field-shift, field-owner, field-slot}
 use Rattle.lookup.specs.Views.{AtNode}
-use Rattle.lookup.proofs.WordLaws.{pool-length, pool-anchor, pool-node, slot-at}
+use Rattle.lookup.proofs.WordLaws.{slot-at}
 use Rattle.plan.specs.Plan.{Plan, Found, Walked, before, freeAt}
-use Rattle.plan.proofs.AfterStore.{has-le, has-within, has-in, lows, tops, has-path}
+use Rattle.plan.proofs.AfterStore.{lows, tops, has-path}
 use Rattle.plan.proofs.FreeNumbers.{none-before, size-is}
 use Rattle.plan.proofs.FreshNumbers.{Tiers, tiers-same, needed-is, path-number}
-use Rattle.store.specs.Writes.{span, offset, joins, headAt, linked, entered, Laid, built}
+use Rattle.write.specs.Writes.{span, offset, joins, headAt, linked, entered, Laid, built}
 use Rattle.store.specs.Stored.{AtGap, Stores, Done, Short, entryOf}
-use Rattle.store.proofs.Right.{Long, Right, EdgeAt, set-stays, joins-same, joins-split, joins-keeps, joins-stay}
+use Rattle.store.proofs.FinalWords.{Long, Right, EdgeAt, set-stays, joins-same, joins-split, joins-keeps, joins-stay}
 use Rattle.store.proofs.Target.{field₁, field₁-shift, field₁-owner, field₁-slot, X, X-anchor, X-node, num-lt, edge-of}
-use Rattle.store.proofs.Final.{shift-ok, owner-ok, head-ok}
-use Rattle.store.proofs.RunLaws.{run-fits, run-slot}
+use Rattle.store.proofs.PathWords.{shift-ok, owner-ok, head-ok}
+use Rattle.write.proofs.RunLaws.{run-fits, run-slot}
 use Rattle.store.proofs.EmptyRange.{has-keeps, in-use-after, stores-unmarked, path-chain-entry}
-use Rattle.store.proofs.Results.{low-le, low-used}
+use Rattle.store.proofs.Outcomes.{low-le, low-used}
+use Rattle.tree.proofs.NodeListLaws.{has-le, has-within, has-in}
 
 -- how many of the e widest tiers have a new node, where those from v + 1 to u do
 before-is : (h v u top : ℕ) → u ≤ top → (e : ℕ) → e ≤ top → before false h v (suc u) top e ≡ u - max (top - e) v
@@ -66,9 +68,9 @@ before-is h v u top le (suc e) g =
 
 module _ {ws : List ℕ} (s : WellFormed ws) (i k w u first : ℕ) (i< : i < 2 ^ 64) (k≤ : k ≤ 63)
     (new : any (over i k) (s .list) ≡ false)
-    (none-start : All (λ x. block k (x .base) ≡ block k i → ⊥) (s .list)) (high : k / 6 ≤ u)
+    (none-start : All (λ x. block k (x .base) ≡ block k i → ⊥) (s .list)) (high : k / slotBits ≤ u)
     (at : AtNode (s .list) (num s) u (block (tierOrder (suc u)) i) first)
-    (not-there : (t : ℕ) → k / 6 < t → t ≤ u → has (s .list) t (block (tierOrder t) i) ≡ false) where
+    (not-there : (t : ℕ) → k / slotBits < t → t ≤ u → has (s .list) t (block (tierOrder t) i) ≡ false) where
   abbrev l : List Entry
   l = s .list
 
@@ -85,7 +87,7 @@ module _ {ws : List ℕ} (s : WellFormed ws) (i k w u first : ℕ) (i< : i < 2 ^
   ν′ = numberIn (newPlaces l l′ os)
 
   abbrev v : ℕ
-  v = k / 6
+  v = k / slotBits
 
   abbrev H : ℕ
   H = height l
@@ -210,7 +212,7 @@ module _ {ws : List ℕ} (s : WellFormed ws) (i k w u first : ℕ) (i< : i < 2 ^
     lg = record { len = pool-length s }
 
     -- a field of a node that stays, if it is to be what it is
-    same : (t b f : ℕ) → has l t b ≡ true → f < nodeWords → field l ν t b f ≡ field₁ l l′ ν′ t b f →
+    same : (t b f : ℕ) → has l t b ≡ true → IsField f → field l ν t b f ≡ field₁ l l′ ν′ t b f →
         R (place (ν′ t b) f) ws
     same t b f o h e = record {
       is = pool-node s (ν′ t b) f (num-lt (s .n) l os (s .placed) l′ enough t b (keeps t b o)) h ∙
@@ -218,24 +220,24 @@ module _ {ws : List ℕ} (s : WellFormed ws) (i k w u first : ℕ) (i< : i < 2 ^
           (e ∙ sym (X-node (s .n) l os (s .placed) l′ enough t b f (keeps t b o) h)));
     }
 
-    shift-there : (t b : ℕ) → has l t b ≡ true → R (place (ν′ t b) shiftField) ws
-    shift-there t b o = same t b 0 o (omega arith) (sym (field₁-shift l l′ ν′ t b))
+    shift-there : (t b : ℕ) → has l t b ≡ true → R (shiftPlace (ν′ t b)) ws
+    shift-there t b o = same t b shiftField o (omega arith) (field-shift l ν t b ∙ sym (field₁-shift l l′ ν′ t b))
 
-    owner-there : (t b : ℕ) → t < H → has l t b ≡ true → R (place (ν′ t b) ownerField) ws
+    owner-there : (t b : ℕ) → t < H → has l t b ≡ true → R (ownerPlace (ν′ t b)) ws
     owner-there t b h o =
         let h′ : t < H′ = omega (arith, height-same) in
-        same t b 1 o (omega arith) (sym (owner-same l l′ ν ν′ t b h h′ (kept (s .n) l os (s .placed) l′ enough (suc t)
-        (b / slots) (parent l t b o h) (parent l′ t b (keeps t b o) h′))) ∙ sym (field₁-owner l l′ ν′ t b))
+        same t b ownerField o (omega arith) (field-owner l ν t b ∙ (sym (owner-same l l′ ν ν′ t b h h′ (kept (s .n) l os (s .placed) l′ enough (suc t)
+        (b / slots) (parent l t b o h) (parent l′ t b (keeps t b o) h′))) ∙ sym (field₁-owner l l′ ν′ t b)))
 
     slot-there : (t : ℕ) → suc u ≤ t → t < H →
-        R (place (ν′ (suc t) (block (tierOrder (suc t)) i)) (slotField + block (tierOrder t) i % slots)) ws
+        R (slotPlace (ν′ (suc t) (block (tierOrder (suc t)) i)) (block (tierOrder t) i % slots)) ws
     slot-there t a h =
         let e₁ : suc t - 1 ≡ t = omega arith in
         let e₂ : slots * block (tierOrder (suc t)) i + block (tierOrder t) i % slots ≡ block (tierOrder t) i =
         ap (λ (y : ℕ). slots * y + block (tierOrder t) i % slots) (tier-up t i) ∙ omega arith in
         let x : has l t (block (tierOrder t) i) ≡ true = has-over t a (omega arith) in
         let x′ : has l′ t (block (tierOrder t) i) ≡ true = keeps t (block (tierOrder t) i) x in
-        same (suc t) (block (tierOrder (suc t)) i) (5 + block (tierOrder t) i % slots) (has-over (suc t) (omega arith) h)
+        same (suc t) (block (tierOrder (suc t)) i) (fieldSlot (block (tierOrder t) i % slots)) (has-over (suc t) (omega arith) h)
         (omega arith)
         (field-slot l ν (suc t) (block (tierOrder (suc t)) i) (block (tierOrder t) i % slots) ∙
         (ap₂ (slot l ν) e₁ e₂ ∙ (slot-node l ν t (block (tierOrder t) i) (has-within l t (block (tierOrder t) i) x) ∙
@@ -256,9 +258,9 @@ module _ {ws : List ℕ} (s : WellFormed ws) (i k w u first : ℕ) (i< : i < 2 ^
           (omega arith))))));
     }
 
-    head-owner : R (place (ν′ H 0) ownerField) ws
-    head-owner = same H 0 1 head-has (omega arith)
-        (rw (eq-eqb H H refl, field₁-owner l l′ ν′ H 0, eq-eqb H H′ (sym height-same)))
+    head-owner : R (ownerPlace (ν′ H 0)) ws
+    head-owner = same H 0 ownerField head-has (omega arith) (field-owner l ν H 0 ∙
+        (rw (eq-eqb H H refl, field₁-owner l l′ ν′ H 0, eq-eqb H H′ (sym height-same))))
 
     head-num : getD ps′ H′ 0 ≡ ν′ H 0
     head-num = ap (λ (y : ℕ). getD ps′ y 0) height-same ∙ (ps′-is H (le-refl _) ∙ ap (ν′ H) top-zero)
@@ -295,17 +297,17 @@ module _ {ws : List ℕ} (s : WellFormed ws) (i k w u first : ℕ) (i< : i < 2 ^
 
     linked-is : linked ws ps′ i v H′ ≡ J
     linked-is =
-        let shift-stays : set J (place (getD ps′ H′ 0) shiftField) (shiftWord H′) ≡ J = set-stays (s .n) Y _ _
+        let shift-stays : set J (shiftPlace (getD ps′ H′ 0)) (shiftWord H′) ≡ J = set-stays (s .n) Y _ _
         (shift-ok (s .n) l os (s .placed) (s .valid) i k w i< k≤ new enough some-node ps′ [] plan lg)
         (rw head-num (keeps-J (shift-there H 0 head-has))) in
-        let owner-stays : set J (place (getD ps′ H′ 0) ownerField) 0 ≡ J = set-stays (s .n) Y _ _
+        let owner-stays : set J (ownerPlace (getD ps′ H′ 0)) 0 ≡ J = set-stays (s .n) Y _ _
         (owner-ok (s .n) l os (s .placed) (s .valid) i k w i< k≤ new enough some-node ps′ [] plan lg)
         (rw head-num (keeps-J head-owner)) in
         let head-stays : set J 1 (nodeWord (getD ps′ H′ 0)) ≡ J = set-stays (s .n) Y _ _
         (head-ok (s .n) l os (s .placed) (s .valid) i k w i< k≤ new enough some-node ps′ [] plan lg)
         (keeps-J head-there) in
         ap (λ (y : List ℕ). headAt y (getD ps′ H′ 0) H′) joins-is ∙
-        (ap (λ (y : List ℕ). set (set y (place (getD ps′ H′ 0) ownerField) 0) 1 (nodeWord (getD ps′ H′ 0))) shift-stays ∙
+        (ap (λ (y : List ℕ). set (set y (ownerPlace (getD ps′ H′ 0)) 0) 1 (nodeWord (getD ps′ H′ 0))) shift-stays ∙
         (ap (λ (y : List ℕ). set y 1 (nodeWord (getD ps′ H′ 0))) owner-stays ∙ head-stays))
 
     pub words-after : (ps : List ℕ) → ((t : ℕ) → v < t → t ≤ u + 1 → getD ps t 0 ≡ ν′ t (block (tierOrder t) i)) →
@@ -321,9 +323,9 @@ module _ {ws : List ℕ} (s : WellFormed ws) (i k w u first : ℕ) (i< : i < 2 ^
         path-chain-entry s i k w i< k≤ new none-start enough some-node ps′ [] plan))
 
 -- AS THE CODE HAS IT: new nodes below the slot
-module _ {ws : List ℕ} (s : WellFormed ws) (i k w u first : ℕ) (i< : i < 2 ^ 64) (k≤ : k ≤ 63) (deep : k / 6 < u)
+module _ {ws : List ℕ} (s : WellFormed ws) (i k w u first : ℕ) (i< : i < 2 ^ 64) (k≤ : k ≤ 63) (deep : k / slotBits < u)
     (g : AtGap (s .list) (num s) i k u first) (ns : List ℕ) (r next : ℕ)
-    (found : Found (s .places) (u - k / 6) ns r next) where
+    (found : Found (s .places) (u - k / slotBits) ns r next) where
   none-below : All (λ x. block k (x .base) ≡ block k i → ⊥) (s .list)
   none-below = each (s .list) (λ x m q. byT (ltb (x .order) (tierOrder u))
       (λ t. clash (in-any (within (tierOrder u) (block (tierOrder u) i)) m
@@ -335,28 +337,28 @@ module _ {ws : List ℕ} (s : WellFormed ws) (i k w u first : ℕ) (i< : i < 2 ^
         le-leb k (x .order) (omega arith),
       ))) (g .new)))
 
-  no-node : (t : ℕ) → k / 6 < t → t ≤ u → has (s .list) t (block (tierOrder t) i) ≡ false
+  no-node : (t : ℕ) → k / slotBits < t → t ≤ u → has (s .list) t (block (tierOrder t) i) ≡ false
   no-node t a h = is-false (λ y. clash (path-up i {j = tierOrder t} {k = tierOrder u} (s .list) (omega arith)
       (has-within (s .list) t (block (tierOrder t) i) y)) (g .nothing))
 
-  abbrev high : k / 6 ≤ u
+  abbrev high : k / slotBits ≤ u
   high = omega arith
 
-  needed-as : needed (s .list) (storeNew (s .list) i k w) ≡ u - k / 6
+  needed-as : needed (s .list) (storeNew (s .list) i k w) ≡ u - k / slotBits
   needed-as = need-is s i k w u first i< k≤ (g .new) none-below high (g .at-node) no-node
 
-  pub below-short : r < u - k / 6 →
+  pub below-short : r < u - k / slotBits →
       Stores (s .n) (s .list) (s .places) (storeNew (s .list) i k w) i ws ws Short
   below-short h = record {
     done = λ z. absurd (omega (arith, needed-as, found .count-is));
     short = λ z. (refl, refl);
   }
 
-  module _ (ge : u - k / 6 ≤ r) (ps : List ℕ) (laid : Laid ns ps first (k / 6) u) where
+  module _ (ge : u - k / slotBits ≤ r) (ps : List ℕ) (laid : Laid ns ps first (k / slotBits) u) where
     enough : needed (s .list) (storeNew (s .list) i k w) ≤ freeCount (s .places)
     enough = omega (arith, needed-as, found .count-is)
 
-    ps-is : (t : ℕ) → k / 6 < t → t ≤ u + 1 → getD ps t 0 ≡ numberIn
+    ps-is : (t : ℕ) → k / slotBits < t → t ≤ u + 1 → getD ps t 0 ≡ numberIn
         (newPlaces (s .list) (storeNew (s .list) i k w) (s .places)) t (block (tierOrder t) i)
     ps-is t a b = byT (eqb t (u + 1))
         (λ z. let e : t ≡ suc u = eqb-true _ _ z ∙ add-one u in
@@ -367,7 +369,7 @@ module _ {ws : List ℕ} (s : WellFormed ws) (i k w u first : ℕ) (i< : i < 2 ^
         in
         laid .rest-are t a (omega arith) ∙ (found .numbers (u - t) (omega (arith, needed-as)) ∙ sym x))
 
-    pub laid-lt : (t : ℕ) → k / 6 < t → t ≤ u + 1 → getD ps t 0 < s .n
+    pub laid-lt : (t : ℕ) → k / slotBits < t → t ≤ u + 1 → getD ps t 0 < s .n
     laid-lt t a b = rw (ps-is t a b)
         (path-lt s i k w u first i< k≤ (g .new) none-below high (g .at-node) no-node enough t a b)
 
@@ -384,35 +386,34 @@ module _ {ws : List ℕ} (s : WellFormed ws) (i k w u first : ℕ) (i< : i < 2 ^
         (omega (arith, needed-as, found .count-is, found .next-is))
 
 -- AS THE CODE HAS IT: empty slots of the entry's node
-module _ {ws : List ℕ} (s : WellFormed ws) (i k w u a o c : ℕ) (i< : i < 2 ^ 64) (k≤ : k ≤ 63)
-    (g : AtGap (s .list) (num s) i k u a) (tier-is : k / 6 ≡ u) (o-is : o ≡ offset i k) (c-is : c ≡ span k)
-    (empty : (t : ℕ) → t < c → getD ws (place a (slotField + (o + t))) 0 ≡ 0) where
+module _ {ws : List ℕ} (s : WellFormed ws) (i k w u a : ℕ) (i< : i < 2 ^ 64) (k≤ : k ≤ 63)
+    (g : AtGap (s .list) (num s) i k u a) (tier-is : k / slotBits ≡ u)
+    (empty : (t : ℕ) → t < span k → getD ws (slotPlace a (offset i k + t)) 0 ≡ 0) where
   abbrev b₀ : ℕ
-  b₀ = block (tierOrder (k / 6 + 1)) i
+  b₀ = block (tierOrder (k / slotBits + 1)) i
 
-  at₀ : AtNode (s .list) (num s) (k / 6) b₀ a
-  at₀ = subst (λ (y : ℕ). AtNode (s .list) (num s) (k / 6) (block (tierOrder y) i) a) (sym (add-one (k / 6)))
+  at₀ : AtNode (s .list) (num s) (k / slotBits) b₀ a
+  at₀ = subst (λ (y : ℕ). AtNode (s .list) (num s) (k / slotBits) (block (tierOrder y) i) a) (sym (add-one (k / slotBits)))
       (subst (λ (v : ℕ). AtNode (s .list) (num s) v (block (tierOrder (suc v)) i) a) (sym tier-is) (g .at-node))
 
-  slot-zero : (t : ℕ) → t < span k → slot (s .list) (num s) (k / 6) (slots * b₀ + (offset i k + t)) ≡ 0
-  slot-zero t h = sym (slot-at s at₀ (offset i k + t) (omega (arith, run-fits i k))) ∙
-      subst (λ (y : ℕ). getD ws (place a (slotField + (y + t))) 0 ≡ 0) o-is (empty t (omega (arith, c-is)))
+  slot-zero : (t : ℕ) → t < span k → slot (s .list) (num s) (k / slotBits) (slots * b₀ + (offset i k + t)) ≡ 0
+  slot-zero t h = sym (slot-at s at₀ (offset i k + t) (omega (arith, run-fits i k))) ∙ empty t h
 
   none-in : All (λ x. block k (x .base) ≡ block k i → ⊥) (s .list)
   none-in = each (s .list) (λ x m q.
-      let y : ℕ = block (tierOrder (k / 6)) (x .base) in
-      let t₁ : tierOrder (suc (k / 6)) ≡ tierOrder (k / 6 + 1) = omega arith in
-      let up : y / slots ≡ b₀ = sym (tier-up (k / 6) (x .base)) ∙ (ap (λ (z : ℕ). block z (x .base)) t₁ ∙
-      block-up {j = k} {k = tierOrder (k / 6 + 1)} (x .base) i (omega arith) q) in
-      let (t, p, e) = run-slot i k y up (sym (block-block {j = tierOrder (k / 6)} {k = k} (x .base) (omega arith)) ∙ q)
+      let y : ℕ = block (tierOrder (k / slotBits)) (x .base) in
+      let t₁ : tierOrder (suc (k / slotBits)) ≡ tierOrder (k / slotBits + 1) = omega arith in
+      let up : y / slots ≡ b₀ = sym (tier-up (k / slotBits) (x .base)) ∙ (ap (λ (z : ℕ). block z (x .base)) t₁ ∙
+      block-up {j = k} {k = tierOrder (k / slotBits + 1)} (x .base) i (omega arith) q) in
+      let (t, p, e) = run-slot i k y up (sym (block-block {j = tierOrder (k / slotBits)} {k = k} (x .base) (omega arith)) ∙ q)
       in
-      look (zero-starts (s .list) (num s) (k / 6) (slots * b₀ + (offset i k + t)) (sorted-ok (s .valid)) (slot-zero t p)) m
+      look (zero-starts (s .list) (num s) (k / slotBits) (slots * b₀ + (offset i k + t)) (sorted-ok (s .valid)) (slot-zero t p)) m
       e)
 
-  abbrev no-tier : (t : ℕ) → k / 6 < t → t ≤ u → has (s .list) t (block (tierOrder t) i) ≡ false
+  abbrev no-tier : (t : ℕ) → k / slotBits < t → t ≤ u → has (s .list) t (block (tierOrder t) i) ≡ false
   no-tier t a b = absurd (omega arith)
 
-  abbrev high₀ : k / 6 ≤ u
+  abbrev high₀ : k / slotBits ≤ u
   high₀ = omega arith
 
   none-needed : needed (s .list) (storeNew (s .list) i k w) ≡ 0
@@ -421,26 +422,26 @@ module _ {ws : List ℕ} (s : WellFormed ws) (i k w u a o c : ℕ) (i< : i < 2 ^
   enough₀ : needed (s .list) (storeNew (s .list) i k w) ≤ freeCount (s .places)
   enough₀ = omega (arith, none-needed)
 
-  words₀ : {ws′ : List ℕ} → ws′ ≡ entered ws a o c w → ws′ ≡ render (storeNew (s .list) i k w)
+  words₀ : {ws′ : List ℕ} → ws′ ≡ entered ws a (offset i k) (span k) w → ws′ ≡ render (storeNew (s .list) i k w)
       (newPlaces (s .list) (storeNew (s .list) i k w) (s .places)) (s .n)
   unfolding built joins
   words₀ e =
-      let ps : List ℕ = upTo (λ t. a) 0 (k / 6 + 2) in
-      let num-is : getD (upTo (λ t. a) 0 (k / 6 + 2)) (k / 6 + 1) 0 ≡ a = getD-upTo (λ t. a) 0 (k / 6 + 2) (k / 6 + 1)
+      let ps : List ℕ = upTo (λ t. a) 0 (k / slotBits + 2) in
+      let num-is : getD (upTo (λ t. a) 0 (k / slotBits + 2)) (k / slotBits + 1) 0 ≡ a = getD-upTo (λ t. a) 0 (k / slotBits + 2) (k / slotBits + 1)
       (omega arith) in
-      let z : u + 1 - (k / 6 + 1) ≡ 0 = omega arith in
-      let same : entered ws a o c w ≡ built ws (upTo (λ t. a) 0 (k / 6 + 2)) i k w u = rw (z, num-is, o-is, c-is) refl in
+      let z : u + 1 - (k / slotBits + 1) ≡ 0 = omega arith in
+      let same : entered ws a (offset i k) (span k) w ≡ built ws (upTo (λ t. a) 0 (k / slotBits + 2)) i k w u = rw (z, num-is) refl in
       e ∙ (same ∙ words-after s i k w u a i< k≤ (g .new) none-in high₀ (g .at-node) no-tier enough₀ ps
-      (λ t p q. let f : t ≡ k / 6 + 1 = omega arith in
+      (λ t p q. let f : t ≡ k / slotBits + 1 = omega arith in
       let f′ : t ≡ suc u = omega arith in
-      ap (λ (y : ℕ). getD (upTo (λ t. a) 0 (k / 6 + 2)) y 0) f ∙ (num-is ∙
+      ap (λ (y : ℕ). getD (upTo (λ t. a) 0 (k / slotBits + 2)) y 0) f ∙ (num-is ∙
       rw f′ (sym (first-is s i k w u a i< k≤ (g .new) none-in high₀ (g .at-node) no-tier enough₀)))))
 
-  pub slots-done : {ws′ : List ℕ} {e : Entry} → e ≡ entryOf i k w 0 → ws′ ≡ entered ws a o c w →
+  pub slots-done : {ws′ : List ℕ} {e : Entry} → e ≡ entryOf i k w 0 → ws′ ≡ entered ws a (offset i k) (span k) w →
       Stores (s .n) (s .list) (s .places) (storeNew (s .list) i k w) i ws ws′ (Done e)
   slots-done q e = stores-unmarked s i k w i< k≤ (g .new) none-in enough₀ q (words₀ e)
 
-  pub slots-used : {ws′ : List ℕ} {low : ℕ} → T (storable w) → w < 2 ^ 64 → InUse low ws → ws′ ≡ entered ws a o c w →
-      InUse low ws′
+  pub slots-used : {ws′ : List ℕ} {low : ℕ} → T (storable w) → w < 2 ^ 64 → InUse low ws →
+      ws′ ≡ entered ws a (offset i k) (span k) w → InUse low ws′
   slots-used {ws′} {low} st w< h e = in-use-after s i k w i< k≤ (g .new) none-in enough₀ st w< (words₀ e) low
       (omega (arith, size-is s, low-le s h)) (omega (arith, none-before (s .places) low (low-used s h)))

@@ -1,44 +1,44 @@
 -- A store where nothing starts in the target range: no node goes, no mark changes, and the path, the chain and the entry
 -- are all that is written.
-use Prim.Native.Nat.{ℕ, suc, _+_, _*_, _-_, _/_, _^_, _≤_, _<_}
+use Prim.Native.Nat.{ℕ, _+_, _*_, _-_, _/_, _^_, _≤_, _<_}
 use mathlib.Core.Path.{_≡_, refl, sym, ap, subst, _∙_}
 use mathlib.Core.Bool.{true, false, not}
 use mathlib.Core.List.{List}
 use mathlib.Core.Option.{Option, none, some}
 use native.Mathlib.Omega.{arith}
-use lib.Dec.{T, leb, ltb, eqb}
+use lib.Dec.{T, eqb}
 use lib.ListN.{length, getD}
-use borrow.Author.Tests.{leb-true, eqb-true, ltb-true}
+use borrow.Author.Tests.{eqb-true}
 use Rattle.blocks.specs.Choice.{both}
 use Rattle.blocks.specs.Lists.{any, All, nonempty}
 use Rattle.blocks.specs.Blocks.{block}
-use Rattle.blocks.proofs.BoolLaws.{byT, both-l, both-r, both-no}
+use Rattle.blocks.proofs.BoolLaws.{both-l, both-no}
 use Rattle.blocks.proofs.ListLaws.{All-map, any-none, any-in, any-keep-both, look}
 use Rattle.blocks.proofs.BitLaws.{bits-same}
 use Rattle.model.specs.declared.Entry.{Entry}
 use Rattle.model.specs.Model.{Valid, storable, over, starts, within, hasMark, marksOf, inside, newEntry, storeNew}
 use Rattle.model.proofs.RangeLaws.{Inside}
 use Rattle.model.proofs.ValidLaws.{room, store-at-valid}
-use Rattle.tree.specs.Tree.{slots, tierOrder, height, has, Node, newNodes, needed, slotMark}
+use Rattle.tree.specs.Tree.{slots, tierOrder, height, has, Node, newNodes, needed, slotMark, slotBits}
 use Rattle.tree.specs.Slots.{Numbering, slot}
 use Rattle.tree.proofs.StoreLaws.{within-only, store-covering, mark-apart, mark-path, mark-inside}
-use Rattle.layout.specs.Words.{field, fieldAt}
+use Rattle.layout.specs.Words.{field, fieldAt, IsField}
 use Rattle.layout.specs.Places.{Places, numberIn, freeCount, keepIf, newPlaces, render}
 use Rattle.layout.specs.WellFormed.{WellFormed, InUse}
 use Rattle.layout.proofs.NewNumberLaws.{number-none, new-stays}
 use Rattle.layout.proofs.NumberLaws.{in-standing}
 use Rattle.layout.proofs.PlacesLaws.{placed-new}
 use Rattle.layout.proofs.RenderLaws.{render-is}
-use Rattle.layout.proofs.RenderWordLaws.{field-mark}
 use Rattle.plan.specs.Plan.{Plan, freeTo}
-use Rattle.plan.proofs.AfterStore.{Lies, lies, on-path, in-run, off, has-le, has-within, rooms, tops, has-path, stays}
+use Rattle.plan.proofs.AfterStore.{Lies, lies, on-path, in-run, off, rooms, tops, has-path, stays}
 use Rattle.plan.proofs.FreeNumbers.{below-taken}
-use Rattle.store.specs.Writes.{span, offset, linked, grownWords, entered}
+use Rattle.write.specs.Writes.{span, offset, linked, entered}
 use Rattle.store.specs.Stored.{Stores, Done, entryOf}
 use Rattle.store.proofs.Freeing.{Freed, freed-none}
-use Rattle.store.proofs.Target.{field₁, fieldAt₁, X-anchor, X-at}
-use Rattle.store.proofs.Final.{enter-long, grow-long, link-long, lg₁, anchor-right, node-right}
-use Rattle.store.proofs.Results.{in-use}
+use Rattle.store.proofs.Target.{field₁, field₁-as, fieldAt₁, X-anchor, X-at}
+use Rattle.store.proofs.PathWords.{grownWords, enter-long, grow-long, link-long, lg₁, anchor-right, node-right}
+use Rattle.store.proofs.Outcomes.{in-use}
+use Rattle.tree.proofs.NodeListLaws.{has-le, has-within}
 
 -- THE TREE
 module _ (l : List Entry) (valid : Valid l) (i k w : ℕ) (i< : i < 2 ^ 64) (k≤ : k ≤ 63)
@@ -151,20 +151,14 @@ module _ {ws : List ℕ} (s : WellFormed ws) (i k w : ℕ) (i< : i < 2 ^ 64) (k�
         (freed-none (s .n) (render l os (s .n)))
 
     -- the marks of the old list are those of the new
-    field-same : (t b f : ℕ) → field₁ l l₁ ν₁ t b f ≡ field l₁ ν₁ t b f
-    unfolding field₁
-    field-same t b f = byT (both (leb 2 f) (ltb f 5))
-        (λ c. let lo : 2 ≤ f = leb-true _ _ (both-l (leb 2 f) _ c) in
-        let hi : f < 5 = ltb-true _ _ (both-r (leb 2 f) _ c) in
-        let e : 2 + (f - 2) ≡ f = omega arith in
-        rw c (bits-same (λ j. slotMark l (f - 2) (t - 1) (slots * b + j)) (λ j. slotMark l₁ (f - 2) (t - 1) (slots * b + j))
-        slots (λ j g. mark-same l (s .valid) i k w i< k≤ new none-start (f - 2) (t - 1) (slots * b + j) (omega arith)) ∙
-        (sym (field-mark l₁ ν₁ t b (f - 2) (omega arith)) ∙ ap (field l₁ ν₁ t b) e)))
-        (λ c. rw c)
+    field-same : (t b f : ℕ) → IsField f → field₁ l l₁ ν₁ t b f ≡ field l₁ ν₁ t b f
+    field-same t b = field₁-as l l₁ ν₁ t b (λ x h. bits-same (λ j. slotMark l x (t - 1) (slots * b + j))
+        (λ j. slotMark l₁ x (t - 1) (slots * b + j)) slots
+        (λ j g. mark-same l (s .valid) i k w i< k≤ new none-start x (t - 1) (slots * b + j) h))
 
-    pub path-chain-entry : entered (grownWords (linked ws ps i (k / 6) (height l₁)) ps cs (marksOf l) (height l)
+    pub path-chain-entry : entered (grownWords (linked ws ps i (k / slotBits) (height l₁)) ps cs (marksOf l) (height l)
         (height l₁) (slot l (numberIn os) (height l) 0) (both (nonempty l) (not (eqb (block k i) 0))))
-        (getD ps (k / 6 + 1) 0) (offset i k) (span k) w ≡ render l₁ os₁ (s .n)
+        (getD ps (k / slotBits + 1) 0) (offset i k) (span k) w ≡ render l₁ os₁ (s .n)
     unfolding fieldAt₁
     path-chain-entry = render-is l₁ os₁ (s .n) _
         (enter-long (s .n) l os (s .placed) (s .valid) i k w i< k≤ new enough some-node ps cs plan
@@ -176,8 +170,8 @@ module _ {ws : List ℕ} (s : WellFormed ws) (i k w : ℕ) (i< : i < 2 ^ 64) (k�
         freed (λ u b t. refl) (λ m a e q. was-free m e) p h .is ∙ X-anchor (s .n) l os (s .placed) l₁ enough p h)
         (λ m f a h. node-right (s .n) l os (s .placed) (s .valid) i k w i< k≤ new enough some-node ps cs plan ws
         (λ m. false) freed (λ u b t. refl) (λ m a e q. was-free m e) m f a h .is ∙
-        (X-at (s .n) l os (s .placed) l₁ enough m f h ∙ go f (getD os₁ m none)))
+        (X-at (s .n) l os (s .placed) l₁ enough m f h ∙ go f h (getD os₁ m none)))
       where
-        go : (f : ℕ) (o : Option Node) → fieldAt₁ l l₁ ν₁ o f ≡ fieldAt l₁ ν₁ o f
-        go f none = refl
-        go f (some p) = field-same (p .tier) (p .number) f
+        go : (f : ℕ) → IsField f → (o : Option Node) → fieldAt₁ l l₁ ν₁ o f ≡ fieldAt l₁ ν₁ o f
+        go f h none = refl
+        go f h (some p) = field-same (p .tier) (p .number) f h

@@ -1,4 +1,4 @@
--- Strictly ascending lists of numbers are equal where they have the same members; the blocks of the nodes of a tier.
+-- Strictly ascending lists of numbers: equal where they have the same members.
 use Prim.Native.Nat.{ℕ, suc, _≤_, _<_}
 use mathlib.Core.Path.{_≡_, refl, sym, ap, ap₂, _∙_}
 use mathlib.Core.Bool.{Bool, true, false, not}
@@ -9,11 +9,8 @@ use lib.Dec.{ltb, eqb}
 use borrow.Author.Tests.{eqb-true, eqb-false, ltb-true, ltb-false, eq-eqb, ne-eqb}
 use Rattle.blocks.specs.Choice.{both, either}
 use Rattle.blocks.specs.Lists.{any, without}
-use Rattle.blocks.specs.Blocks.{block}
 use Rattle.blocks.proofs.BoolLaws.{clash, byT, both-no, either-swap, either-same}
-use Rattle.model.specs.declared.Entry.{Entry}
-use Rattle.model.specs.Model.{within}
-use Rattle.tree.specs.Tree.{add, addIf, blocks, at, tierOrder}
+use Rattle.tree.specs.Tiers.{add, addIf}
 
 -- STRICTLY ASCENDING LISTS, equal if they have the same members
 pub data Asc : ℕ → List ℕ → Type 0 where
@@ -81,12 +78,3 @@ mem-without p b (x ∷ s) =
     (λ e. let q : p b ≡ p x = ap p (sym (eqb-true x b e)) in
     byT (p x) (λ d. rw (d, e, mem-without p b s, q, d)) (λ d. rw (d, e, q, d)))
     (λ e. byT (p x) (λ d. rw (d, e, mem-without p b s)) (λ d. rw (d, e, mem-without p b s)))
-
-pub asc-blocks : (u : ℕ) (l : List Entry) → Asc 0 (blocks u l)
-asc-blocks u [] = asc-end
-asc-blocks u (e ∷ l) = asc-addIf (ltb (e .order) (tierOrder u)) _ (asc-blocks u l)
-
-pub mem-blocks : (u b : ℕ) (l : List Entry) → mem b (blocks u l) ≡ any (within (tierOrder u) b) l
-mem-blocks u b [] = refl
-mem-blocks u b (e ∷ l) = mem-addIf (ltb (e .order) (tierOrder u)) b (block (tierOrder u) (e .base)) (blocks u l) ∙ ap
-    (either (within (tierOrder u) b e)) (mem-blocks u b l)

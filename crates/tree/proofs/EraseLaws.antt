@@ -10,7 +10,7 @@ use native.Mathlib.Nat.{le-refl, div-one, pow-le-pow-right}
 use lib.Dec.{leb, ltb, eqb, lit<}
 use borrow.Author.Tests.{leb-true, leb-false, eqb-true, eqb-false, ltb-true, ltb-false, le-leb, eq-eqb}
 use Rattle.blocks.specs.Choice.{pick}
-use Rattle.blocks.specs.Lists.{any, without, All, end, also, In}
+use Rattle.blocks.specs.Lists.{any, without, All, In}
 use Rattle.blocks.specs.Blocks.{block}
 use Rattle.blocks.proofs.BoolLaws.{clash, byT, both-l, both-r, either-yes}
 use Rattle.blocks.proofs.ListLaws.{
@@ -43,7 +43,7 @@ use Rattle.model.proofs.ValidLaws.{unique, covers-self, covers-i, sorted-ok}
 use Rattle.tree.specs.Slots.{slot, Numbering, nodeWord}
 use Rattle.tree.specs.Tree.{has, height, fits, slots, tierOrder}
 use Rattle.tree.proofs.StoreLaws.{within-only}
-use Rattle.tree.proofs.HeightLaws.{Low, height-fits, fits-i, fits-tall, fits-order, fits-base}
+use Rattle.tree.proofs.HeightLaws.{Low, height-le, height-fits, fits-i, fits-order, fits-base}
 use Rattle.tree.proofs.SlotLaws.{tier-up, covering-slot, zero-covering, zero-starts}
 
 module _ (i k : ℕ) (l : List Entry) (room : All (Room i k) l) where
@@ -78,10 +78,6 @@ module _ (i k : ℕ) (l : List Entry) (room : All (Room i k) l) where
       ))
 
 -- the head
-pub height-le : {h : ℕ} {l : List Entry} → All (λ x. fits h x ≡ true) l → height l ≤ h
-height-le end = omega arith
-height-le {h} (also {x} f a) = omega (arith, fits-tall h x f, height-le a)
-
 pub height-clear : (q : Entry → Bool) (l : List Entry) → height (without q l) ≤ height l
 height-clear q [] = le-refl _
 height-clear q (x ∷ l) = byT (q x) (λ t. rw t (omega (arith, height-clear q l)))

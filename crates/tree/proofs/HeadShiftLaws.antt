@@ -1,22 +1,23 @@
 -- The head's tier is that of the rules' wording (R17 to R19).
-use Prim.Native.Nat.{ℕ, zero, suc, _+_, _^_, _≤_, _<_, max}
+use Prim.Native.Nat.{ℕ, _+_, _^_, _-_, _≤_, _<_, max}
 use mathlib.Core.Path.{_≡_, refl, sym, _∙_}
-use mathlib.Core.Bool.{Bool, true, false}
+use mathlib.Core.Bool.{true, false}
 use mathlib.Core.List.{List, [], _∷_}
 use native.Mathlib.Omega.{arith}
-use native.Mathlib.Nat.{le-refl, div-one, div-eq-of-lt, one-mul}
+use native.Mathlib.Nat.{div-one, div-eq-of-lt, one-mul}
 use lib.Dec.{leb, eqb}
 use borrow.Author.Tests.{leb-true, leb-false, eqb-true, ltb-true, lt-ltb, le-leb, eq-eqb}
 use Rattle.blocks.specs.Choice.{both}
 use Rattle.blocks.specs.Blocks.{block}
-use Rattle.blocks.specs.Lists.{least, All, end, also}
+use Rattle.blocks.specs.Lists.{All, end, also}
 use Rattle.blocks.proofs.BoolLaws.{clash, byT, iff, both-l, both-r}
 use Rattle.blocks.proofs.ListLaws.{All-map}
+use Rattle.blocks.proofs.LeastLaws.{least-is}
 use Rattle.blocks.proofs.BlockLaws.{block-up, block-at, block-hi, pow-pos}
 use Rattle.model.specs.declared.Entry.{Entry}
 use Rattle.model.specs.Model.{EntryOk, covers, more, Valid}
 use Rattle.model.proofs.ValidLaws.{covers-i, sorted-ok}
-use Rattle.tree.specs.Tree.{fits, tall, height, tierOrder}
+use Rattle.tree.specs.Tree.{fits, tall, height, tierOrder, topTier}
 use Rattle.tree.proofs.HeightLaws.{
   fits-i,
   fits-order,
@@ -24,11 +25,8 @@ use Rattle.tree.proofs.HeightLaws.{
   height-fits,
   tall-fits,
   fits-tall,
-  fits-most,
-  least-fits,
-  least-min,
+  height-most,
 }
-use Rattle.tree.proofs.EraseLaws.{height-le}
 use Rattle.tree.specs.HeadShift.{lone, fitsUnder, allFit, headTier}
 
 fits-in : (h : ℕ) (x : Entry) → EntryOk x → 1 ≤ h → fitsUnder h x ≡ fits h x
@@ -65,17 +63,6 @@ all-fit h (also {x} {l} ok a) pos =
     (λ t. let p : max (tall x) (height l) ≤ h = leb-true _ _ t in
     rw (tall-fits h x (ok .order-le, ok .in-range) (omega arith), le-leb (height l) h (omega arith))))
 
-least-ge : (p : ℕ → Bool) (n h : ℕ) → h ≤ least p n h
-least-ge p zero h = le-refl h
-least-ge p (suc n) h = byT (p h) (λ e. rw e (le-refl h)) (λ e. rw e (omega (arith, least-ge p n (suc h))))
-
-least-is : (p : ℕ → Bool) (n H : ℕ) → 1 ≤ H → H ≤ n + 1 → ((h : ℕ) → 1 ≤ h → p h ≡ leb H h) → least p n 1 ≡ H
-least-is p n H pos le f =
-    let a : least p n 1 ≤ H = least-min p n 1 H pos (f H pos ∙ le-leb H H (le-refl H)) in
-    let b : H ≤ least p n 1 = leb-true H (least p n 1)
-    (sym (f (least p n 1) (least-ge p n 1)) ∙ least-fits p n 1 (f (n + 1) (omega arith) ∙ le-leb H (n + 1) le)) in
-    omega arith
-
 -- a list whose entries all fit under no node is empty or bare
 not-lone : {l : List Entry} {e : Entry} → Valid (e ∷ l) → lone (e ∷ l) ≡ false → 1 ≤ height (e ∷ l)
 not-lone {l} {e} v n = byT (leb 1 (height (e ∷ l))) (leb-true _ _)
@@ -101,6 +88,5 @@ pub height-text : {l : List Entry} → Valid l → headTier (lone l) l ≡ heigh
 height-text {l = []} v = refl
 height-text {l = e ∷ l} v =
     byT (lone (e ∷ l)) (λ t. rw t (sym (lone-zero (e ∷ l) t)))
-    (λ t. rw t (least-is (λ h. allFit h (e ∷ l)) 10 (height (e ∷ l)) (not-lone v t)
-    (height-le (All-map (λ x ok. fits-most x (ok .order-le, ok .in-range)) (sorted-ok v)))
-    (λ h pos. all-fit h (sorted-ok v) pos)))
+    (λ t. rw t (least-is (λ h. allFit h (e ∷ l)) (topTier - 1) (height (e ∷ l)) (not-lone v t)
+    (height-most (e ∷ l)) (λ h pos. all-fit h (sorted-ok v) pos)))

@@ -1,21 +1,22 @@
 -- The tier of the head, before and after a store.
-use Prim.Native.Nat.{ℕ, zero, suc, _+_, _*_, _^_, _≤_, _<_, max}
+use Prim.Native.Nat.{ℕ, _*_, _^_, _≤_, _<_, max}
 use mathlib.Core.Path.{_≡_, refl, sym, _∙_}
 use mathlib.Core.Bool.{Bool, true}
 use mathlib.Core.List.{List, [], _∷_}
 use native.Mathlib.Omega.{arith}
-use native.Mathlib.Nat.{zero-div, div-eq-of-lt, zero-add, suc-add, add-suc, lt-of-le-of-lt, le-refl}
+use native.Mathlib.Nat.{zero-div, div-eq-of-lt, lt-of-le-of-lt, le-refl}
 use lib.Dec.{ltb}
 use borrow.Author.Tests.{eqb-true, ltb-true, lt-ltb, eq-eqb}
-use Rattle.blocks.specs.Lists.{without, least, All, end, also}
+use Rattle.blocks.specs.Lists.{without, All, end, also}
 use Rattle.blocks.specs.Blocks.{block}
-use Rattle.blocks.proofs.BoolLaws.{clash, byT, both-l, both-r}
+use Rattle.blocks.proofs.BoolLaws.{byT, both-l, both-r}
 use Rattle.blocks.proofs.ListLaws.{All-map}
 use Rattle.blocks.proofs.BlockLaws.{block-up, block-at, block-lo}
+use Rattle.blocks.proofs.LeastLaws.{least-fits, least-min, least-most}
 use Rattle.model.specs.declared.Entry.{Entry}
 use Rattle.model.specs.Model.{insert, starts, newEntry, storeNew}
 use Rattle.model.proofs.RangeLaws.{Room, InRun, starts-order}
-use Rattle.tree.specs.Tree.{fits, tall, height, tierOrder}
+use Rattle.tree.specs.Tree.{fits, tall, height, tierOrder, topTier}
 
 pub fits-i : (h : ℕ) (x : Entry) → x .order < max 1 (tierOrder h) → block (tierOrder h) (x .base) ≡ 0 →
     fits h x ≡ true
@@ -35,30 +36,30 @@ pub fits-up : {h g : ℕ} (x : Entry) → h ≤ g → fits h x ≡ true → fits
 fits-up {h} {g} x le t = fits-i g x (omega (arith, fits-order h x t))
     (zero-up (x .base) (omega arith) (fits-base h x t))
 
-pub least-fits : (p : ℕ → Bool) (n h : ℕ) → p (n + h) ≡ true → p (least p n h) ≡ true
-least-fits p zero h t = rw zero-add at t
-least-fits p (suc n) h t = byT (p h) (λ e. rw e e) (λ e. rw e (least-fits p n (suc h) (rw (suc-add, ← add-suc) at t)))
-
-pub least-min : (p : ℕ → Bool) (n h g : ℕ) → h ≤ g → p g ≡ true → least p n h ≤ g
-least-min p zero h g le t = le
-least-min p (suc n) h g le t =
-    byT (p h) (λ e. rw e le) (λ e. rw e (least-min p n (suc h) g
-    (let ne : h ≡ g → ⊥ = λ q. clash (rw q t) e in omega arith) t))
-
 -- what an entry has that fits under the widest head
 abbrev pub Low : Entry → Type 0
 Low x = (x .order ≤ 63) × (x .base < 2 ^ 64)
 
-pub fits-most : (x : Entry) → Low x → fits 11 x ≡ true
-fits-most x ok = fits-i 11 x (omega arith) (div-eq-of-lt (omega arith))
+pub fits-most : (x : Entry) → Low x → fits topTier x ≡ true
+fits-most x ok = fits-i topTier x (omega arith) (div-eq-of-lt (omega arith))
 
 pub tall-fits : (h : ℕ) (x : Entry) → Low x → tall x ≤ h → fits h x ≡ true
 unfolding tall
-tall-fits h x ok le = fits-up x le (least-fits (λ h. fits h x) 11 0 (fits-most x ok))
+tall-fits h x ok le = fits-up x le (least-fits (λ h. fits h x) topTier 0 (fits-most x ok))
 
 pub fits-tall : (h : ℕ) (x : Entry) → fits h x ≡ true → tall x ≤ h
 unfolding tall
-fits-tall h x t = least-min (λ h. fits h x) 11 0 h (omega arith) t
+fits-tall h x t = least-min (λ h. fits h x) topTier 0 h (omega arith) t
+
+-- the least head under which all fit, and the widest there is
+pub height-le : {h : ℕ} {l : List Entry} → All (λ x. fits h x ≡ true) l → height l ≤ h
+height-le end = omega arith
+height-le {h} (also {x} f a) = omega (arith, fits-tall h x f, height-le a)
+
+pub height-most : (l : List Entry) → height l ≤ topTier
+unfolding tall
+height-most [] = omega arith
+height-most (x ∷ l) = omega (arith, least-most (λ h. fits h x) topTier 0, height-most l)
 
 pub height-fits : {h : ℕ} {l : List Entry} → All Low l → height l ≤ h → All (λ x. fits h x ≡ true) l
 height-fits end le = end

@@ -1,4 +1,5 @@
 pub mod Ascending
+pub mod TierLaws
 pub mod StoreLaws
 pub mod HeightLaws
 pub mod NewNodeLaws

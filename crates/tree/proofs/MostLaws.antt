@@ -17,8 +17,7 @@ use Rattle.model.specs.declared.Entry.{Entry}
 use Rattle.model.specs.Model.{Valid, maxOrder, over, store, storeNew, storable, withWord}
 use Rattle.model.proofs.ValidLaws.{sorted-ok, store-valid}
 use Rattle.tree.specs.Tree.{at, addIf, height, tierOrder, needed}
-use Rattle.tree.proofs.HeightLaws.{fits-most}
-use Rattle.tree.proofs.EraseLaws.{height-le}
+use Rattle.tree.proofs.HeightLaws.{fits-most, height-le}
 use Rattle.tree.proofs.NewNodeLaws.{chained, missing, freshAt, freshTo, new-nodes}
 use Rattle.tree.proofs.RelabelLaws.{new-nodes-map}
 

@@ -11,7 +11,7 @@ use borrow.Author.Tests.{leb-true, leb-false, eqb-true, eqb-false, ltb-true, ltb
 use Rattle.blocks.specs.Choice.{both}
 use Rattle.blocks.specs.Lists.{any, All, nonempty}
 use Rattle.blocks.specs.Blocks.{block}
-use Rattle.blocks.proofs.BoolLaws.{clash, byT, is-false, both-l, both-r, both-no, both-yes, either-e, either-yes}
+use Rattle.blocks.proofs.BoolLaws.{clash, byT, is-false, both-no, both-yes}
 use Rattle.blocks.proofs.ListLaws.{All-map, without-all, without-none}
 use Rattle.blocks.proofs.BlockLaws.{block-up, block-at}
 use Rattle.model.specs.declared.Entry.{Entry}
@@ -29,19 +29,14 @@ use Rattle.tree.proofs.HeightLaws.{
   zero-up,
 }
 use Rattle.tree.proofs.NewNodeLaws.{chained, freshAt}
+use Rattle.tree.proofs.NodeListLaws.{finer}
+use Rattle.tree.proofs.TierLaws.{lies-above}
 
 -- a node on the path has a node above it on the path
 pub path-up : (i : ℕ) {j k : ℕ} (l : List Entry) → j ≤ k → any (within j (block j i)) l ≡ true →
     any (within k (block k i)) l ≡ true
-path-up i [] h t = t
-path-up i {j} {k} (x ∷ l) h t =
-    either-e (within j (block j i) x) (any (within j (block j i)) l) t
-    (λ s. rw (
-      lt-ltb (x .order) k (let o : x .order < j = ltb-true _ _ (both-l (ltb (x .order) j) _ s) in
-          omega arith),
-      eq-eqb _ _ (block-up {k = k} (x .base) i h (eqb-true _ _ (both-r (ltb (x .order) j) _ s))),
-    ))
-    (λ s. rw (path-up i l h s, either-yes))
+path-up i {j} {k} l h t = lies-above (λ e. e .base) finer i l h
+    (λ x s. let o : x .order < j = ltb-true _ _ s in lt-ltb (x .order) k (omega arith)) t
 
 module _ (i k w : ℕ) (l : List Entry) (low : All Low l) (grows : height l < tall (newEntry l i k w)) where
   not-fits : fits (height l) (newEntry l i k w) ≡ false

@@ -19,16 +19,8 @@ use Rattle.model.specs.Model.{starts, within, clear, newEntry, storeNew}
 use Rattle.model.proofs.InsertLaws.{any-insert}
 use Rattle.tree.specs.Tree.{height, has, addIf, blocks, Node, at, nodesTo, newNodes, tierOrder}
 use Rattle.tree.proofs.HeightLaws.{Low, height-fits, fits-order, fits-base, zero-up}
-use Rattle.tree.proofs.Ascending.{
-  mem-addIf,
-  mem-blocks,
-  ext,
-  asc-blocks,
-  mem-without,
-  asc-without,
-  asc-addIf,
-  asc-end,
-}
+use Rattle.tree.proofs.Ascending.{mem-addIf, ext, mem-without, asc-without, asc-addIf, asc-end}
+use Rattle.tree.proofs.NodeListLaws.{mem-blocks, asc-blocks}
 
 module _ (l : List Entry) (i k : ℕ) where
   -- the head grows over what stays, and the path's node of tier u is not there

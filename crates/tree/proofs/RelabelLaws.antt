@@ -1,5 +1,5 @@
 -- Storing over an entry, marking and unmarking: a map that keeps base and order keeps the tree.
-use Prim.Native.Nat.{ℕ, zero, suc, _*_, _^_}
+use Prim.Native.Nat.{ℕ, _*_, _^_}
 use mathlib.Core.Path.{_≡_, refl, _∙_}
 use mathlib.Core.Bool.{Bool}
 use mathlib.Core.List.{List, [], _∷_, map}
@@ -10,9 +10,10 @@ use Rattle.blocks.proofs.BoolLaws.{byT}
 use Rattle.blocks.proofs.ListLaws.{each, without-all}
 use Rattle.model.specs.declared.Entry.{Entry}
 use Rattle.model.specs.Model.{covers, covering, starts, within, hasMark}
-use Rattle.tree.specs.Tree.{has, height, tall, blocks, nodesTo, nodes, newNodes, slotMark, tierOrder}
+use Rattle.tree.specs.Tree.{has, height, tall, blocks, nodes, newNodes, slotMark, tierOrder}
 use Rattle.tree.specs.Slots.{Numbering, nodeWord, entryWord, slot}
-use Rattle.tree.proofs.NodeListLaws.{nodes-in}
+use Rattle.tree.proofs.NodeListLaws.{nodes-in, finer}
+use Rattle.tree.proofs.TierLaws.{blocks-map, nodes-from-same}
 
 abbrev pub mapO : (Entry → Entry) → Option Entry → Option Entry
 mapO f none = none
@@ -44,16 +45,9 @@ module _ (f : Entry → Entry) (fb : (x : Entry) → f x .base ≡ x .base) (fo 
   unfolding has
   has-map u b l = rw (height-map l, within-map (tierOrder u) b l)
 
-  blocks-map : (u : ℕ) (l : List Entry) → blocks u (map f l) ≡ blocks u l
-  blocks-map u [] = refl
-  blocks-map u (x ∷ l) = rw (fb x, fo x, blocks-map u l)
-
-  nodesTo-map : (u : ℕ) (l : List Entry) → nodesTo u (map f l) ≡ nodesTo u l
-  nodesTo-map zero l = refl
-  nodesTo-map (suc u) l = rw (blocks-map (suc u) l, nodesTo-map u l)
-
   pub nodes-map : (l : List Entry) → nodes (map f l) ≡ nodes l
-  nodes-map l = rw (height-map l, nodesTo-map (height l) l)
+  nodes-map l = rw (height-map l) (nodes-from-same (λ u. blocks u (map f l)) (λ u. blocks u l)
+      (λ u. blocks-map (λ e. e .base) finer f fb (λ j x. rw (fo x)) (tierOrder u) l) (height l))
 
   pub new-nodes-map : (l : List Entry) → newNodes l (map f l) ≡ []
   new-nodes-map l = rw (nodes-map l) (without-all (λ p. has l (p .tier) (p .number))

@@ -1,5 +1,5 @@
 -- Slots of a valid list: what a zero word says, an index found through its slot, marks upwards.
-use Prim.Native.Nat.{ℕ, suc, _*_, _-_, _/_, _^_, _≤_, _<_}
+use Prim.Native.Nat.{ℕ, suc, _*_, _/_, _^_, _≤_, _<_}
 use mathlib.Core.Path.{_≡_, refl, sym, ap, subst, _∙_}
 use mathlib.Core.Bool.{true, false}
 use mathlib.Core.List.{List}
@@ -25,17 +25,30 @@ use Rattle.blocks.proofs.ListLaws.{
   any-in,
   in-any,
 }
-use Rattle.blocks.proofs.BlockLaws.{block-block, block-up, block-at}
+use Rattle.blocks.proofs.BlockLaws.{block-up, block-at}
 use Rattle.model.specs.declared.Entry.{Entry}
 use Rattle.model.specs.Model.{EntryOk, storable, covers, covering, starts, within, hasMark}
 use Rattle.tree.specs.Slots.{slot, entryWord, Numbering}
-use Rattle.tree.specs.Tree.{slotMark, slots, tierOrder}
+use Rattle.tree.specs.Tree.{slotMark, slotBits, slots, tierOrder}
 use Rattle.tree.proofs.StoreLaws.{within-only}
+use Rattle.tree.proofs.NodeListLaws.{finer}
+use Rattle.tree.proofs.TierLaws as T
+
+-- the slots of a node are told by so many bits
+pub slots-are : slots ≡ 2 ^ slotBits
+slots-are = refl
 
 pub tier-up : (u x : ℕ) → block (tierOrder (suc u)) x ≡ block (tierOrder u) x / slots
-tier-up u x =
-    let e : tierOrder (suc u) - tierOrder u ≡ 6 = omega arith in
-    block-block {j = tierOrder u} x (omega arith) ∙ ap (λ (d : ℕ). block (tierOrder u) x / 2 ^ d) e
+tier-up u x = T.tier-up slotBits u x ∙ ap (λ (d : ℕ). block (tierOrder u) x / d) (sym slots-are)
+
+-- what lies in a slot of a node lies in the node's block
+pub within-up : (l : List Entry) (u b : ℕ) → any (within (tierOrder u) b) l ≡ true →
+    any (within (tierOrder (suc u)) (b / slots)) l ≡ true
+within-up l u b t =
+    subst (λ (d : ℕ). any (within (tierOrder (suc u)) (b / d)) l ≡ true) (sym slots-are)
+    (T.lies-up (λ e. e .base) finer slotBits u b l
+    (λ x s. let o : x .order < tierOrder u = ltb-true _ _ s in
+    lt-ltb (x .order) (tierOrder (suc u)) (omega arith)) t)
 
 -- an index whose slot holds no node is covered as the slot's first index is
 pub covering-slot : (l : List Entry) (j c y : ℕ) → any (within j c) l ≡ false → block j y ≡ c →

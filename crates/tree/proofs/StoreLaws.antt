@@ -1,20 +1,20 @@
 -- Slots and marks after a store: the same apart from the target range, those of the path, and those inside the range.
-use Prim.Native.Nat.{ℕ, zero, suc, _+_, _*_, _^_, _≤_, _<_}
-use mathlib.Core.Path.{_≡_, refl, sym, _∙_}
+use Prim.Native.Nat.{ℕ, _+_, _*_, _^_, _≤_, _<_}
+use mathlib.Core.Path.{_≡_, sym, _∙_}
 use mathlib.Core.Bool.{Bool, true, false}
 use mathlib.Core.List.{List}
 use mathlib.Core.Option.{some}
 use native.Mathlib.Omega.{arith}
-use lib.Dec.{ltb, eqb}
+use lib.Dec.{ltb}
 use borrow.Author.Tests.{eqb-true, lt-ltb, le-ltb, eq-eqb}
-use Rattle.blocks.specs.Choice.{pick, both}
+use Rattle.blocks.specs.Choice.{both}
 use Rattle.blocks.specs.Lists.{any, All}
-use Rattle.blocks.specs.Blocks.{block, bit}
+use Rattle.blocks.specs.Blocks.{block}
 use Rattle.blocks.proofs.BoolLaws.{byT, is-false, both-l, both-r, either-no}
 use Rattle.blocks.proofs.ListLaws.{All-of, All-map, All-keep, any-same, any-split}
 use Rattle.blocks.proofs.BlockLaws.{block-up, block-at}
 use Rattle.model.specs.declared.Entry.{Entry}
-use Rattle.model.specs.Model.{covers, covering, starts, within, hasMark, inside, clear, newEntry, storeNew, marksOf}
+use Rattle.model.specs.Model.{covers, covering, starts, within, hasMark, inside, clear, newEntry, storeNew}
 use Rattle.model.proofs.InsertLaws.{any-insert, first-insert-not, first-insert}
 use Rattle.model.proofs.RangeLaws.{
   Room,
@@ -28,29 +28,13 @@ use Rattle.model.proofs.RangeLaws.{
 }
 use Rattle.tree.specs.Slots.{slot, entryWord, Numbering, nodeOffset}
 use Rattle.tree.specs.Tree.{slotMark, tierOrder}
+use Rattle.model.proofs.MarkLaws.{marks-of}
 
 pub within-only : (j c : ℕ) (x : Entry) → within j c x ≡ true → block j (x .base) ≡ c
 within-only j c x t = eqb-true _ _ (both-r (ltb (x .order) j) _ t)
 
 pub marked-only : (m j c : ℕ) (x : Entry) → both (starts j c x) (hasMark m x) ≡ true → block j (x .base) ≡ c
 marked-only m j c x t = eqb-true _ _ (both-l (starts j c x) (hasMark m x) t)
-
-bits : (a b c : Bool) → let n = pick a 1 0 + pick b 2 0 + pick c 4 0 in
-    (eqb (bit 0 n) 1 ≡ a) × (eqb (bit 1 n) 1 ≡ b) × (eqb (bit 2 n) 1 ≡ c)
-bits true true true = (refl, refl, refl)
-bits true true false = (refl, refl, refl)
-bits true false true = (refl, refl, refl)
-bits true false false = (refl, refl, refl)
-bits false true true = (refl, refl, refl)
-bits false true false = (refl, refl, refl)
-bits false false true = (refl, refl, refl)
-bits false false false = (refl, refl, refl)
-
-pub marks-of : (l : List Entry) (m : ℕ) → m < 3 → eqb (bit m (marksOf l)) 1 ≡ any (hasMark m) l
-marks-of l zero h = bits (any (hasMark 0) l) (any (hasMark 1) l) (any (hasMark 2) l) .0
-marks-of l (suc zero) h = bits (any (hasMark 0) l) (any (hasMark 1) l) (any (hasMark 2) l) .1
-marks-of l (suc (suc zero)) h = bits (any (hasMark 0) l) (any (hasMark 1) l) (any (hasMark 2) l) .2
-marks-of l (suc (suc (suc m))) h = absurd (omega arith)
 
 module _ (i k w : ℕ) (l : List Entry) where
   new-run : InRun i k (newEntry l i k w .base)

@@ -1,12 +1,12 @@
 -- The head's tier as R17 to R19 word it, to compare with `height`.
-use Prim.Native.Nat.{ℕ, _+_, _^_}
+use Prim.Native.Nat.{ℕ, _+_, _-_, _^_}
 use mathlib.Core.Bool.{Bool, true, false}
 use mathlib.Core.List.{List, [], _∷_}
 use lib.Dec.{leb, ltb, eqb}
 use Rattle.blocks.specs.Choice.{both}
 use Rattle.blocks.specs.Lists.{least}
 use Rattle.model.specs.declared.Entry.{Entry}
-use Rattle.tree.specs.Tree.{tierOrder}
+use Rattle.tree.specs.Tree.{tierOrder, topTier}
 
 -- R18: the entry that is the head itself
 abbrev pub lone : List Entry → Bool
@@ -26,4 +26,4 @@ allFit h (e ∷ l) = both (fitsUnder h e) (allFit h l)
 abbrev pub headTier : Bool → List Entry → ℕ
 headTier true l = 0
 headTier false [] = 0
-headTier false (e ∷ l) = least (λ h. allFit h (e ∷ l)) 10 1
+headTier false (e ∷ l) = least (λ h. allFit h (e ∷ l)) (topTier - 1) 1

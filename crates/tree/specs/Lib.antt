@@ -1,3 +1,4 @@
+pub mod Tiers
 pub mod Tree
 pub mod Slots
 pub mod HeadShift

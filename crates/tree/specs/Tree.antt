@@ -3,16 +3,17 @@
 -- A block of tier u has 2^(6u) indices. The node (u, b), of shift 6u - 6, covers block b of tier u; its slots are
 -- the blocks of tier u - 1 in it. So the slot (u, c) leads to the node (u, c), and the head is the slot of block 0
 -- of the head's tier, also where it is an entry or empty (tier 0).
-use Prim.Native.Nat.{ℕ, zero, suc, _*_, max}
+use Prim.Native.Nat.{ℕ, _*_, max}
 use mathlib.Core.Bool.{Bool}
-use mathlib.Core.List.{List, [], _∷_, _++_, map}
-use lib.Dec.{leb, ltb, eqb}
+use mathlib.Core.List.{List, [], _∷_}
+use lib.Dec.{leb, ltb}
 use lib.ListN.{length}
-use Rattle.blocks.specs.Choice.{pick, both}
+use Rattle.blocks.specs.Choice.{both}
 use Rattle.blocks.specs.Lists.{any, without, least}
-use Rattle.blocks.specs.Blocks.{block}
 use Rattle.model.specs.Model.{starts, within, hasMark}
 use Rattle.model.specs.declared.Entry.{Entry}
+use Rattle.tree.specs.Tiers.{blocksOf, nodesFrom}
+pub use Rattle.tree.specs.Tiers.{Node, add, addIf, at}
 
 -- R16
 abbrev pub slotBits : ℕ
@@ -49,31 +50,13 @@ height (e ∷ l) = max (tall e) (height l)
 unfoldable pub has : List Entry → ℕ → ℕ → Bool
 has l u b = both (leb u (height l)) (any (within (tierOrder u) b) l)
 
--- a node by its tier and the number of its block
-pub record Node : Type 0 where
-  pub tier : ℕ
-  pub number : ℕ
-
--- a strictly ascending list of numbers, with one more
-abbrev pub add : ℕ → List ℕ → List ℕ
-add b [] = b ∷ []
-add b (c ∷ cs) = pick (ltb b c) (b ∷ c ∷ cs) (pick (eqb b c) (c ∷ cs) (c ∷ add b cs))
-
-abbrev pub addIf : Bool → ℕ → List ℕ → List ℕ
-addIf t b s = pick t (add b s) s
-
 -- the blocks of the nodes of tier u, ascending
 abbrev pub blocks : ℕ → List Entry → List ℕ
-blocks u [] = []
-blocks u (e ∷ l) = addIf (ltb (e .order) (tierOrder u)) (block (tierOrder u) (e .base)) (blocks u l)
+blocks u l = blocksOf (λ e. e .base) (λ j e. ltb (e .order) j) (tierOrder u) l
 
-abbrev pub at : ℕ → List ℕ → List Node
-at u bs = map (λ b. record { tier = u; number = b }) bs
-
--- the nodes of tier u and below, in the order of R35
+-- the nodes of tier u and below
 abbrev pub nodesTo : ℕ → List Entry → List Node
-nodesTo zero l = []
-nodesTo (suc u) l = at (suc u) (blocks (suc u) l) ++ nodesTo u l
+nodesTo u l = nodesFrom (λ v. blocks v l) u
 
 abbrev pub nodes : List Entry → List Node
 nodes l = nodesTo (height l) l

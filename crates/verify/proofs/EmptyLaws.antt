@@ -1,16 +1,15 @@
 -- The pool that init leaves: n free nodes and no entry.
-use Prim.Native.Nat.{ℕ, zero, suc, _+_, _-_, _≤_, _<_}
+use Prim.Native.Nat.{ℕ, zero, suc, _-_, _≤_, _<_}
 use mathlib.Core.Path.{_≡_, refl, sym, ap, subst, _∙_}
 use mathlib.Core.Bool.{true}
 use mathlib.Core.List.{List, []}
 use mathlib.Core.Option.{Option, none}
 use native.Mathlib.Omega.{arith}
-use lib.Dec.{eqb, leb}
+use lib.Dec.{leb}
 use lib.ListN.{length, getD, set, replicate, length-set, length-replicate, getD-replicate}
 use lib.Seq.{ext-getD, getD-set-same, getD-set-other}
-use borrow.Author.Tests.{eqb-true, eqb-false}
 use Rattle.blocks.specs.Lists.{In, d-end}
-use Rattle.blocks.proofs.BoolLaws.{byT, clash, both-no}
+use Rattle.blocks.proofs.BoolLaws.{clash, both-no}
 use Rattle.model.specs.Model.{done}
 use Rattle.tree.specs.Tree.{Node, has}
 use Rattle.tree.specs.Slots.{slot}
@@ -18,27 +17,13 @@ use Rattle.layout.specs.Words.{anchorWords, anchorWord, fieldAt, poolWords, pla
 use Rattle.layout.specs.Places.{Places, standing, numberIn, render}
 use Rattle.layout.specs.Fill.{filled}
 use Rattle.layout.specs.WellFormed.{Sized, Prescribed, WellFormed}
+use Rattle.layout.proofs.FillLaws.{length-filled, filled-in}
 use Rattle.layout.proofs.RenderLaws.{render-is}
 use Rattle.decode.proofs.DecideLaws.{count-of, sized-is}
 use Rattle.verify.specs.Answers.{emptyPool, initAnswer, initWords, checkAnswer}
 use Rattle.verify.proofs.AnswerLaws.{not-sized, well-formed-0}
 
 -- WHAT THE CODE LEAVES
-module _ (ws : List ℕ) where
-  pub filled-length : (n : ℕ) → length (filled ws 0 0 n) ≡ length ws
-  unfolding filled
-  filled-length zero = refl
-  filled-length (suc n) = length-set (filled ws 0 0 n) (0 + n) 0 ∙ filled-length n
-
-  filled-zero : (n k : ℕ) → n ≤ length ws → k < n → getD (filled ws 0 0 n) k 0 ≡ 0
-  unfolding filled
-  filled-zero (suc n) k h lt =
-      byT (eqb k (0 + n))
-      (λ e. subst (λ (j : ℕ). getD (set (filled ws 0 0 n) (0 + n) 0) j 0 ≡ 0) (sym (eqb-true k (0 + n) e))
-      (getD-set-same (filled ws 0 0 n) (0 + n) 0 0 (omega (arith, filled-length n))))
-      (λ e. let ne : k ≡ 0 + n → ⊥ = eqb-false k (0 + n) e in
-      getD-set-other (filled ws 0 0 n) (0 + n) k 0 0 ne ∙ filled-zero n k (omega arith) (omega arith))
-
 empty-length : (n : ℕ) → length (emptyPool n) ≡ poolWords n
 empty-length n = ap suc (length-replicate {A = ℕ} (poolWords n - 1) 0) ∙ (omega arith)
 
@@ -48,18 +33,18 @@ empty-word n i h = getD-replicate (poolWords n - 1) i 0 0 (omega arith)
 
 emptied : {n : ℕ} {ws : List ℕ} → Sized n ws → set (filled ws 0 0 (length ws)) 0 n ≡ emptyPool n
 emptied {n} {ws} s =
-    ext-getD 0 (set zeros 0 n) (emptyPool n) (length-set zeros 0 n ∙ filled-length ws (length ws) ∙ s .size
+    ext-getD 0 (set zeros 0 n) (emptyPool n) (length-set zeros 0 n ∙ length-filled ws 0 0 (length ws) ∙ s .size
     ∙ sym (empty-length n)) word
   where
     zeros : List ℕ
     zeros = filled ws 0 0 (length ws)
 
     word : (i : ℕ) → i < length (set zeros 0 n) → getD (set zeros 0 n) i 0 ≡ getD (emptyPool n) i 0
-    word zero h = getD-set-same zeros 0 n 0 (omega (arith, filled-length ws (length ws), s .size))
+    word zero h = getD-set-same zeros 0 n 0 (omega (arith, length-filled ws 0 0 (length ws), s .size))
     word (suc i) h =
-        let lt : suc i < poolWords n = omega (arith, length-set zeros 0 n, filled-length ws (length ws), s .size) in
+        let lt : suc i < poolWords n = omega (arith, length-set zeros 0 n, length-filled ws 0 0 (length ws), s .size) in
         getD-set-other zeros 0 (suc i) n 0 (λ (e : suc i ≡ 0). omega arith)
-        ∙ filled-zero ws (length ws) (suc i) (omega arith) (omega (arith, s .size)) ∙ sym (empty-word n i lt)
+        ∙ filled-in ws 0 0 (length ws) (suc i) (omega arith) (omega arith) (omega (arith, s .size)) ∙ sym (empty-word n i lt)
 
 pub init-done : {n : ℕ} {ws : List ℕ} → Sized n ws →
     (0 ≡ initAnswer ws) × (set (filled ws 0 0 (length ws)) 0 n ≡ initWords ws)
@@ -70,7 +55,7 @@ pub init-refused : {ws : List ℕ} → ((n : ℕ) → Sized n ws → ⊥) → (1
 init-refused f = (rw (not-sized f), rw (not-sized f))
 
 -- WHICH IS THE POOL OF THE EMPTY LIST
-none-stand : (n : ℕ) → standing (replicate n none) ≡ []
+none-stand : (n : ℕ) → standing {A = Node} (replicate n none) ≡ []
 none-stand zero = refl
 none-stand (suc n) = none-stand n
 

@@ -4,6 +4,7 @@ use mathlib.Core.Path.{_≡_, refl}
 use mathlib.Core.Bool.{true}
 use Rattle.tree.specs.Tree.{tall, has, slotMark}
 use Rattle.tree.specs.Slots.{slot}
+use Rattle.layout.specs.Words.{fieldOf}
 use Rattle.layout.specs.Pool.{slotOf}
 use Rattle.layout.specs.Pool as P
 use Rattle.layout.specs.Decode.{span, below}
@@ -16,6 +17,6 @@ use Rattle.xapool.specs.Calls as C
 use Rattle.xapool.specs.Cases.{cases, casesHold}
 
 pub starred-cases : casesHold cases ≡ true
-unfolding tall has slotMark slot slotOf span below depthTo stopTier turnAt step findFrom readAt parseFrom restAt parse execute
+unfolding tall has slotMark slot fieldOf slotOf span below depthTo stopTier turnAt step findFrom readAt parseFrom restAt parse execute
     isWellFormed P.run C.run cases
 starred-cases = refl

@@ -9,7 +9,7 @@ use Rattle.blocks.specs.Lists.{upTo}
 use Rattle.model.specs.declared.Entry.{Entry}
 use Rattle.model.specs.Model.{store}
 use Rattle.tree.specs.Tree.{tierOrder, Node, nodes, needed}
-use Rattle.layout.specs.Words.{poolWords, place, headWord, marksWord, slotField}
+use Rattle.layout.specs.Words.{poolWords, headWord, marksWord, slotPlace}
 use Rattle.layout.specs.Decode.{listOf}
 use Rattle.layout.specs.Decide.{equal}
 use Rattle.verify.specs.Answers.{initWords}
@@ -112,7 +112,7 @@ store3 = store2 ++ (Store 64 0 5 ∷ [])
 
 -- slots from .. of node m, count of them, hold x
 abbrev slotsHold : (m from count x : ℕ) → List Fact
-slotsHold m from count x = upTo (λ j. word (place m (slotField + j)) x) from count
+slotsHold m from count x = upTo (λ j. word (slotPlace m j) x) from count
 
 abbrev last64 : ℕ
 last64 = 2 ^ 64 - 1
@@ -146,7 +146,7 @@ cases =
       n = 1;
       before = [];
       last = Store 13 3 5;
-      facts = entry 1 8 3 5 0 0 ∷ word (place 0 (slotField + 8)) 5 ∷ slotsHold 0 9 7 34;
+      facts = entry 1 8 3 5 0 0 ∷ word (slotPlace 0 8) 5 ∷ slotsHold 0 9 7 34;
     }
     -- case 9 (R114): the load, then the erase
     ∷ record {
@@ -178,9 +178,9 @@ cases =
       facts =
           entry 1 (2 ^ 63) 63 5 0 0
           ∷ shifts (60 ∷ [])
-          ∷ word (place 0 (slotField + 7)) 0
-          ∷ word (place 0 (slotField + 8)) 5
-          ∷ slotsHold 0 9 7 34 ++ (word (place 0 (slotField + 16)) 0 ∷ []);
+          ∷ word (slotPlace 0 7) 0
+          ∷ word (slotPlace 0 8) 5
+          ∷ slotsHold 0 9 7 34 ++ (word (slotPlace 0 16) 0 ∷ []);
     }
     ∷ record { n = 1; before = []; last = Store (2 ^ 63) 64 5; facts = answer 1 5 0 0 ∷ asAfter [] ∷ [] }
     -- case 13 (R118): found, paused, and by a mark

@@ -1,3 +1,4 @@
+-- `command_at`: the command of a tag whose fields begin at a place.
 use native.Mathlib.Omega.{arith}
 use mathlib.Core.Path.{ap, ap₂}
 use Rattle.batch.specs.Batch.{Load, Erase, Mark, Unmark}
@@ -5,6 +6,37 @@ use Rattle.batch.proofs.BatchLaws.{last-tag, room}
 use borrow.Author.Needs.{needs}
 use Rattle.batch.proofs.command_at.Statement.{statement}
 use Rattle.batch.proofs.command_at.Tie as tie
+
+-- THE PLACES IN THE CODE, each from one after it
+abbrev start-from-then3 : tie.Then3 → tie.Start
+start-from-then3 c = c .before .before .before .before
+
+abbrev start-from-then4 : tie.Then4 → tie.Start
+start-from-then4 c = c .before .before .before .before .before
+
+abbrev start-from-number83 : tie.After-number83 → tie.Start
+start-from-number83 c = c .before .before .before .before .before .before
+
+abbrev else1-from-else5 : tie.Else5 → tie.Else1
+else1-from-else5 c = c .before .before .before .before
+
+abbrev start-from-else5 : tie.Else5 → tie.Start
+start-from-else5 c = else1-from-else5 c .before .before
+
+abbrev start-from-then5 : tie.Then5 → tie.Start
+start-from-then5 c = c .before .before .before .before .before .before
+
+abbrev else2-from-find-at : tie.After-find-at → tie.Else2
+else2-from-find-at c = c .before .before .before .before
+
+abbrev else1-from-find-at : tie.After-find-at → tie.Else1
+else1-from-find-at c = else2-from-find-at c .before
+
+abbrev start-from-find-at : tie.After-find-at → tie.Start
+start-from-find-at c = else1-from-find-at c .before .before
+
+abbrev start-from-number84 : tie.After-number84 → tie.Start
+start-from-number84 c = c .before .before .before .before .before .before .before
 
 store-at-requires : tie.Need-store-at-requires
 store-at-requires c κs = room 1 _ (c .if1 .taken) (c .before .before .pre .1)
@@ -19,13 +51,13 @@ returns-2 : tie.Need-returns-2
 returns-2 c = rw (c .before .if2 .taken) (ap Load (c .number8 .ensures))
 
 number8-requires-2 : tie.Need-number8-requires-2
-number8-requires-2 c κs = room 3 _ (c .if3 .taken) (c .before .before .before .before .pre .1)
+number8-requires-2 c κs = room 3 _ (c .if3 .taken) (start-from-then3 c .pre .1)
 
 returns-3 : tie.Need-returns-3
 returns-3 c = rw (c .before .if3 .taken) (ap Erase (c .number82 .ensures))
 
 number8-requires-3 : tie.Need-number8-requires-3
-number8-requires-3 c κs = omega (arith, room 4 _ (c .if4 .taken) (c .before .before .before .before .before .pre .1))
+number8-requires-3 c κs = omega (arith, room 4 _ (c .if4 .taken) (start-from-then4 c .pre .1))
 
 add-number1 : tie.Need-add-number1
 add-number1 c = search needs
@@ -34,7 +66,7 @@ number1-requires : tie.Need-number1-requires
 number1-requires c κs = omega (
   arith,
   room 4 _ (c .before .if4 .taken)
-      (c .before .before .before .before .before .before .pre .1),
+      (start-from-number83 c .pre .1),
 )
 
 returns-4 : tie.Need-returns-4
@@ -44,7 +76,7 @@ number8-requires-4 : tie.Need-number8-requires-4
 number8-requires-4 c κs = omega (
   arith,
   room 5 _ (c .if5 .taken)
-      (c .before .before .before .before .before .before .pre .1),
+      (start-from-then5 c .pre .1),
 )
 
 add-number1-2 : tie.Need-add-number1-2
@@ -54,7 +86,7 @@ number1-requires-2 : tie.Need-number1-requires-2
 number1-requires-2 c κs = omega (
   arith,
   room 5 _ (c .before .if5 .taken)
-      (c .before .before .before .before .before .before .before .pre .1),
+      (start-from-number84 c .pre .1),
 )
 
 returns-5 : tie.Need-returns-5
@@ -62,15 +94,15 @@ returns-5 c = rw (c .before .before .if5 .taken) (ap₂ Unmark (c .before .numbe
 
 find-at-requires : tie.Need-find-at-requires
 find-at-requires c κs = room 6 _
-    (last-tag _ (c .before .before .before .before .before .before .pre .0)
-    (c .before .before .before .before .if1 .left) (c .before .before .before .if2 .left)
+    (last-tag _ (start-from-else5 c .pre .0)
+    (else1-from-else5 c .if1 .left) (c .before .before .before .if2 .left)
     (c .before .before .if3 .left) (c .before .if4 .left) (c .if5 .left))
-    (c .before .before .before .before .before .before .pre .1)
+    (start-from-else5 c .pre .1)
 
 returns-6 : tie.Need-returns-6
 returns-6 c = rw
-    (last-tag _ (c .before .before .before .before .before .before .before .pre .0)
-    (c .before .before .before .before .before .if1 .left) (c .before .before .before .before .if2 .left)
+    (last-tag _ (start-from-find-at c .pre .0)
+    (else1-from-find-at c .if1 .left) (else2-from-find-at c .if2 .left)
     (c .before .before .before .if3 .left) (c .before .before .if4 .left) (c .before .if5 .left))
     (c .find-at .ensures)
 

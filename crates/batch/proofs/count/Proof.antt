@@ -1,3 +1,4 @@
+-- `count`: how many commands a batch has, or the place of its first bad record.
 use mathlib.Core.Path.{sym, ap, _∙_}
 use Rattle.batch.specs.Batch.{counted}
 use Rattle.batch.proofs.ParseLaws.{parse-long, parse-rest}

@@ -1,3 +1,4 @@
+-- `count_records`: the whole batch from its beginning, where it is not too long.
 use Prim.Native.Nat.{_≤_, _-_}
 use mathlib.Core.Path.{refl, sym, _∙_}
 use native.Mathlib.Omega.{arith}

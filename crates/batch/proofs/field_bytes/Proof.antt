@@ -1,7 +1,15 @@
+-- `field_bytes`: the length of a record's fields, by tag.
 use native.Mathlib.Omega.{arith}
 use borrow.Author.Tests.{ne-eqb}
 use Rattle.batch.proofs.field_bytes.Statement.{statement}
 use Rattle.batch.proofs.field_bytes.Tie as tie
+
+-- THE PLACES IN THE CODE, each from one after it
+abbrev else2-from-else6 : tie.Else6 → tie.Else2
+else2-from-else6 c = c .before .before .before .before
+
+abbrev else1-from-else6 : tie.Else6 → tie.Else1
+else1-from-else6 c = else2-from-else6 c .before
 
 returns : tie.Need-returns
 returns c = (rw (c .if1 .taken), omega arith)
@@ -24,8 +32,8 @@ returns-6 c = (rw (c .if6 .taken), omega arith)
 returns-7 : tie.Need-returns-7
 returns-7 c = (
   rw (
-    ne-eqb _ 1 (c .before .before .before .before .before .if1 .left),
-    ne-eqb _ 2 (c .before .before .before .before .if2 .left),
+    ne-eqb _ 1 (else1-from-else6 c .if1 .left),
+    ne-eqb _ 2 (else2-from-else6 c .if2 .left),
     ne-eqb _ 3 (c .before .before .before .if3 .left),
     ne-eqb _ 4 (c .before .before .if4 .left),
     ne-eqb _ 5 (c .before .if5 .left),

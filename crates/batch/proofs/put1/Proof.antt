@@ -1,3 +1,4 @@
+-- `put1`: one byte at its place.
 use mathlib.Core.Path.{refl}
 use lib.ListN.{length-set}
 use Rattle.batch.specs.Bytes.{writeFrom}

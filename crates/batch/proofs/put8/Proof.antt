@@ -1,3 +1,4 @@
+-- `put8`: eight bytes at their place, the highest first.
 use mathlib.Core.Path.{refl}
 use native.Mathlib.Omega.{arith}
 use lib.ListN.{length-set}

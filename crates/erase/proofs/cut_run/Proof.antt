@@ -1,3 +1,4 @@
+-- `cut_run`: empties the slots of the entry that covers i.
 use Prim.Native.Nat.{ℕ, _+_}
 use mathlib.Core.Path.{_≡_, ap, _∙_}
 use mathlib.Core.List.{List}
@@ -10,10 +11,10 @@ use Rattle.layout.proofs.FillLaws.{filled-before, filled-after, filled-in}
 use Rattle.lookup.specs.Views.{Holds}
 use Rattle.erase.specs.Leaving.{Unmarked}
 use Rattle.erase.proofs.LeavingLaws.{run-at, run-stands, run-fits, run-small, run-wide, cut-start}
-use Rattle.erase.proofs.FreedLaws.{run-spares}
 use borrow.Author.Needs.{needs}
 use Rattle.erase.proofs.cut_run.Statement.{statement}
 use Rattle.erase.proofs.cut_run.Tie as tie
+use Rattle.layout.proofs.SparesLaws.{run-spares}
 
 -- how many slots the entry takes
 order : (c : tie.After-order-of) (s : WellFormed (c .before .before .before .args .pool .now))
@@ -26,6 +27,19 @@ order c s h un =
     (block (tierOrder (c .before .before .before .args .at .tier)) (h .entry .base))
     (h .entry) (run-at s h un) (h .slot-is) (run-stands s h un)
 
+-- THE PLACES IN THE CODE, each from one after it
+abbrev start-from-empty-slots-arg : tie.After-empty-slots-arg → tie.Start
+start-from-empty-slots-arg c = c .before .before .before .before .before
+
+abbrev pow2-from-slice-known2 : tie.After-slice-known2 → tie.After-pow2
+pow2-from-slice-known2 c = c .before .before .before .before
+
+abbrev order-of-from-slice-known2 : tie.After-slice-known2 → tie.After-order-of
+order-of-from-slice-known2 c = pow2-from-slice-known2 c .before
+
+abbrev start-from-slice-known2 : tie.After-slice-known2 → tie.Start
+start-from-slice-known2 c = order-of-from-slice-known2 c .before .before .before
+
 order-of-requires : tie.Need-order-of-requires
 order-of-requires c κs = let l = c .before .before .pre in
     let f = run-fits (l .formed) (l .holds) (l .unmarked) in (f .0, f .2)
@@ -35,7 +49,7 @@ pow2-requires c κs = let l = c .before .before .before .pre in
     run-small (l .formed) (l .holds) (l .unmarked) _ (order c (l .formed) (l .holds) (l .unmarked))
 
 empty-slots-requires : tie.Need-empty-slots-requires
-empty-slots-requires c κs = let l = c .before .before .before .before .before .pre in
+empty-slots-requires c κs = let l = start-from-empty-slots-arg c .pre in
     let f = run-fits (l .formed) (l .holds) (l .unmarked) in
     let w = run-wide (l .formed) (l .holds) (l .unmarked) _
     (order (c .before .before) (l .formed) (l .holds) (l .unmarked)) in
@@ -45,12 +59,12 @@ same-length : tie.Need-same-length
 same-length c = search needs
 
 returns : tie.Need-returns
-returns c = let l = c .before .before .before .before .before .before .before .before .pre in
+returns c = let l = start-from-slice-known2 c .pre in
     let w = run-wide (l .formed) (l .holds) (l .unmarked) _
-    (order (c .before .before .before .before .before) (l .formed) (l .holds) (l .unmarked)) in
+    (order (order-of-from-slice-known2 c) (l .formed) (l .holds) (l .unmarked)) in
     let f = run-fits (l .formed) (l .holds) (l .unmarked) in
-    let e = c .before .before .before .before .pow2 .ensures in (
-      (λ s h un. cut-start s h un _ (order (c .before .before .before .before .before) s h un)
+    let e = pow2-from-slice-known2 c .pow2 .ensures in (
+      (λ s h un. cut-start s h un _ (order (order-of-from-slice-known2 c) s h un)
           (c .before .before .empty-slots .kept .0)
           (λ j a b. ap (λ (ws : List ℕ). getD ws j 0) (c .before .before .empty-slots .ensures) ∙
           filled-in _ _ 0 _ j (omega (arith, f .0)) a (omega arith))

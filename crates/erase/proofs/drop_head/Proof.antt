@@ -1,3 +1,5 @@
+-- `drop_head`: the head n, of tier h, gives way to what its slot 0 holds, if that is all it has: a node, or, at
+-- shift 0, an entry.
 use mathlib.Core.Path.{refl}
 use native.Mathlib.Omega.{arith}
 use borrow.Author.Tests.{not-true, not-false}
@@ -12,14 +14,82 @@ use Rattle.erase.proofs.LowerLaws.{
   not-empty,
   not-sibling,
 }
-use Rattle.erase.proofs.FreedLaws.{spares-same, raised-spares, freed-spares}
+use Rattle.erase.proofs.FreedLaws.{raised-spares, freed-spares}
 use borrow.Author.Needs.{needs}
 use Rattle.erase.proofs.drop_head.Statement.{statement}
 use Rattle.erase.proofs.drop_head.Tie as tie
+use Rattle.layout.proofs.SparesLaws.{spares-same}
+
+-- THE PLACES IN THE CODE, each from one after it
+abbrev start-from-else1 : tie.Else1 → tie.Start
+start-from-else1 c = c .before .before .before .before
+
+abbrev start-from-then1 : tie.Then1 → tie.Start
+start-from-then1 c = c .before .before .before .before
+
+abbrev start-from-slot-word-arg : tie.After-slot-word-arg → tie.Start
+start-from-slot-word-arg c = c .before .before .before .before .before
+
+abbrev start-from-slot-word : tie.After-slot-word → tie.Start
+start-from-slot-word c = c .before .before .before .before .before .before
+
+abbrev vacant-from-read-slot : tie.After-read-slot → tie.After-vacant
+vacant-from-read-slot c = c .before .before .before .before
+
+abbrev start-from-read-slot : tie.After-read-slot → tie.Start
+start-from-read-slot c = vacant-from-read-slot c .before .before .before
+
+abbrev else1-from-enum-told2 : tie.After-enum-told2 → tie.Else1
+else1-from-enum-told2 c = c .before .before .before .before .before
+
+abbrev vacant-from-enum-told2 : tie.After-enum-told2 → tie.After-vacant
+vacant-from-enum-told2 c = else1-from-enum-told2 c .before
+
+abbrev else1-from-enum-told3 : tie.After-enum-told3 → tie.Else1
+else1-from-enum-told3 c = c .before .before .before .before .before
+
+abbrev slot-word-from-then2 : tie.Then2 → tie.After-slot-word
+slot-word-from-then2 c = c .before .before .before .before
+
+abbrev read-slot-from-free-head-arg : tie.After-free-head-arg → tie.After-read-slot
+read-slot-from-free-head-arg c = c .before .before .before .before
+
+abbrev read-slot-from-raise-arg : tie.After-raise-arg → tie.After-read-slot
+read-slot-from-raise-arg c = c .before .before .before .before
+
+abbrev slot-word-from-raise-arg : tie.After-raise-arg → tie.After-slot-word
+slot-word-from-raise-arg c = read-slot-from-raise-arg c .before
+
+abbrev k-from-slice-known2 : tie.After-slice-known2 → tie.After-k
+k-from-slice-known2 c = c .before .before .before .before .before
+
+abbrev read-slot-from-slice-known2 : tie.After-slice-known2 → tie.After-read-slot
+read-slot-from-slice-known2 c = k-from-slice-known2 c .before .before
+
+abbrev slot-word-from-slice-known2 : tie.After-slice-known2 → tie.After-slot-word
+slot-word-from-slice-known2 c = read-slot-from-slice-known2 c .before
+
+abbrev else1-from-slice-known2 : tie.After-slice-known2 → tie.Else1
+else1-from-slice-known2 c = slot-word-from-slice-known2 c .before .before
+
+abbrev else2-from-slice-known3 : tie.After-slice-known3 → tie.Else2
+else2-from-slice-known3 c = c .before .before .before .before
+
+abbrev enum-told-from-slice-known3 : tie.After-slice-known3 → tie.After-enum-told
+enum-told-from-slice-known3 c = else2-from-slice-known3 c .before
+
+abbrev read-slot-from-slice-known3 : tie.After-slice-known3 → tie.After-read-slot
+read-slot-from-slice-known3 c = enum-told-from-slice-known3 c .before .before
+
+abbrev slot-word-from-slice-known3 : tie.After-slice-known3 → tie.After-slot-word
+slot-word-from-slice-known3 c = read-slot-from-slice-known3 c .before
+
+abbrev else1-from-slice-known3 : tie.After-slice-known3 → tie.Else1
+else1-from-slice-known3 c = slot-word-from-slice-known3 c .before .before
 
 vacant-requires : tie.Need-vacant-requires
-vacant-requires c κs = let H = c .before .before .pre .1 in under-fits (H .tower .tall) (c .before .before .pre .0)
-    (H .there) (H .number) .0
+vacant-requires c κs = let H = c .before .before .pre .1 in
+    (under-fits (H .tower .tall) (c .before .before .pre .0) (H .there) (H .number) .0, (omega arith, omega arith))
 
 same-length : tie.Need-same-length
 same-length c = search needs
@@ -28,20 +98,17 @@ returns : tie.Need-returns
 returns c = (
   (λ k l os w t q. record {
     yes = λ e. absurd (clash e refl);
-    no = λ _. stay-vacant w (c .before .before .before .before .pre .0) t q
+    no = λ _. stay-vacant w (start-from-then1 c .pre .0) t q
         (c .before .vacant .ensures .1 (not-true _ (c .if1 .taken)));
   }),
   λ low _. spares-same low _,
 )
 
-add-field : tie.Need-add-field
-add-field c = omega arith
-
-field-requires : tie.Need-field-requires
-field-requires c κs = let H = c .before .before .before .before .before .pre .1 in
+slot-word-requires : tie.Need-slot-word-requires
+slot-word-requires c κs = let H = start-from-slot-word-arg c .pre .1 in
     omega (
       arith,
-      under-fits (H .tower .tall) (c .before .before .before .before .before .pre .0) (H .there)
+      under-fits (H .tower .tall) (start-from-slot-word-arg c .pre .0) (H .there)
           (H .number) .0,
     )
 
@@ -52,15 +119,12 @@ enum-known-k : tie.Need-enum-known-k
 enum-known-k c = search needs
 
 raise-requires : tie.Need-raise-requires
-raise-requires c κs = let H = c .before .before .before .before .before .before .before .before .before .before
-    .before .pre .1 in (
-      under-fits (H .tower .tall) (c .before .before .before .before .before .before .before .before .before .before
-          .before .pre .0) (H .there) (H .number) .0,
-      under-child (H .tower .tall) (c .before .before .before .before .before .before .before .before .before .before
-          .before .pre .0) (H .there) (H .number) (c .before .before .before .before .before .field .ensures)
-          (c .before .before .before .before .read-slot .ensures)
-          _ (c .before .before .k .given .1) .2,
-    )
+raise-requires c κs = let H = start-from-read-slot (read-slot-from-raise-arg c) .pre .1 in (
+  under-fits (H .tower .tall) (start-from-read-slot (read-slot-from-raise-arg c) .pre .0) (H .there) (H .number) .0,
+  under-child (H .tower .tall) (start-from-read-slot (read-slot-from-raise-arg c) .pre .0) (H .there) (H .number) (slot-word-from-raise-arg c .slot-word .ensures)
+      (read-slot-from-raise-arg c .read-slot .ensures)
+      _ (c .before .before .k .given .1) .2,
+)
 
 enum-told : tie.Need-enum-told
 enum-told c = search needs
@@ -72,8 +136,8 @@ returns-2 : tie.Need-returns-2
 returns-2 c = (
   (λ k l os w t q. record {
     yes = λ e. absurd (clash e refl);
-    no = λ _. stay-held w (c .before .before .before .before .before .before .before .before .before .before .pre .0)
-        t q (c .before .before .before .before .field .ensures) (c .before .before .before .read-slot .ensures)
+    no = λ _. stay-held w (start-from-slot-word (slot-word-from-then2 c) .pre .0)
+        t q (slot-word-from-then2 c .slot-word .ensures) (c .before .before .before .read-slot .ensures)
         (c .before .enum-told .given .1)
         (c .if2 .taken);
   }),
@@ -81,9 +145,7 @@ returns-2 c = (
 )
 
 free-head-requires : tie.Need-free-head-requires
-free-head-requires c κs = let H = c .before .before .before .before .before .before .before .before .before .before
-    .before .pre .1 in under-fits (H .tower .tall) (c .before .before .before .before .before .before .before .before
-    .before .before .before .pre .0) (H .there) (H .number) .0
+free-head-requires c κs = let H = start-from-read-slot (read-slot-from-free-head-arg c) .pre .1 in under-fits (H .tower .tall) (start-from-read-slot (read-slot-from-free-head-arg c) .pre .0) (H .there) (H .number) .0
 
 enum-told-2 : tie.Need-enum-told-2
 enum-told-2 c = search needs
@@ -97,12 +159,11 @@ same-length-3 c = c .before .before .raise .kept .0
 returns-3 : tie.Need-returns-3
 returns-3 c = let d = c .before .before .raise .ensures in (
   (λ k l os w t q. record {
-    yes = λ _. drop-child w (c .before .before .before .before .before .before .before .before .before .before .before
-        .before .before .before .pre .0) t q (c .before .before .before .before .before .before .before .before .field
-        .ensures) (c .before .before .before .before .before .before .before .read-slot .ensures)
-        (c .before .before .before .before .before .before .before .before .before .before .before .vacant .ensures .0
-        (not-false _ (c .before .before .before .before .before .before .before .before .before .before .if1
-        .left))) _ (c .before .before .before .before .before .k .given .1) (c .before .before .raise .kept .0)
+    yes = λ _. drop-child w (start-from-read-slot (read-slot-from-slice-known2 c) .pre .0) t q (slot-word-from-slice-known2 c .slot-word
+        .ensures) (read-slot-from-slice-known2 c .read-slot .ensures)
+        (vacant-from-read-slot (read-slot-from-slice-known2 c) .vacant .ensures .0
+        (not-false _ (else1-from-slice-known2 c .if1
+        .left))) _ (k-from-slice-known2 c .k .given .1) (c .before .before .raise .kept .0)
         (d .gone) (d .own) (d .head) (d .rest);
     no = λ e. absurd (clash refl e);
   }),
@@ -115,13 +176,12 @@ same-length-4 c = c .before .before .free-head .kept .0
 returns-4 : tie.Need-returns-4
 returns-4 c = let d = c .before .before .free-head .ensures in (
   (λ k l os w t q. record {
-    yes = λ _. drop-held w (c .before .before .before .before .before .before .before .before .before .before .before
-        .before .before .before .pre .0) t q (c .before .before .before .before .before .before .before .before .field
-        .ensures) (c .before .before .before .before .before .before .before .read-slot .ensures)
-        (c .before .before .before .before .before .before .before .before .before .before .before .vacant .ensures .0
-        (not-false _ (c .before .before .before .before .before .before .before .before .before .before .if1
-        .left))) (c .before .before .before .before .before .enum-told .given .1)
-        (c .before .before .before .before .if2 .left)
+    yes = λ _. drop-held w (start-from-read-slot (read-slot-from-slice-known3 c) .pre .0) t q (slot-word-from-slice-known3 c .slot-word
+        .ensures) (read-slot-from-slice-known3 c .read-slot .ensures)
+        (vacant-from-read-slot (read-slot-from-slice-known3 c) .vacant .ensures .0
+        (not-false _ (else1-from-slice-known3 c .if1
+        .left))) (enum-told-from-slice-known3 c .enum-told .given .1)
+        (else2-from-slice-known3 c .if2 .left)
         (c .before .before .free-head .kept .0) (d .gone) (d .head) (d .rest);
     no = λ e. absurd (clash refl e);
   }),
@@ -135,10 +195,10 @@ returns-5 : tie.Need-returns-5
 returns-5 c = (
   (λ k l os w t q. record {
     yes = λ e. absurd (clash e refl);
-    no = λ _. absurd (not-empty w (c .before .before .before .before .before .before .before .before .before .pre .0)
-        t q (c .before .before .before .field .ensures) (c .before .before .read-slot .ensures)
-        (c .before .before .before .before .before .before .vacant .ensures .0
-        (not-false _ (c .before .before .before .before .before .if1 .left))) (c .enum-told2 .given .1));
+    no = λ _. absurd (not-empty w (start-from-else1 (else1-from-enum-told2 c) .pre .0)
+        t q (c .before .before .before .slot-word .ensures) (c .before .before .read-slot .ensures)
+        (vacant-from-enum-told2 c .vacant .ensures .0
+        (not-false _ (else1-from-enum-told2 c .if1 .left))) (c .enum-told2 .given .1));
   }),
   λ low _. spares-same low _,
 )
@@ -150,8 +210,8 @@ returns-6 : tie.Need-returns-6
 returns-6 c = (
   (λ k l os w t q. record {
     yes = λ e. absurd (clash e refl);
-    no = λ _. absurd (not-sibling w (c .before .before .before .before .before .before .before .before .before .pre
-        .0) t q (c .before .before .before .field .ensures) (c .before .before .read-slot .ensures) _
+    no = λ _. absurd (not-sibling w (start-from-else1 (else1-from-enum-told3 c) .pre
+        .0) t q (c .before .before .before .slot-word .ensures) (c .before .before .read-slot .ensures) _
         (c .enum-told3 .given .1));
   }),
   λ low _. spares-same low _,
@@ -164,8 +224,7 @@ drop-head-spec =
     vacant-requires
     same-length
     returns
-    add-field
-    field-requires
+    slot-word-requires
     read-slot-requires
     enum-known-k
     raise-requires

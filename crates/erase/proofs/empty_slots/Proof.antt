@@ -1,5 +1,6 @@
+-- `empty_slots`: empties the slots of node n from o on, c of them.
 use Prim.Native.Nat.{ℕ, _+_}
-use mathlib.Core.Path.{_≡_, refl, ap, sym, _∙_}
+use mathlib.Core.Path.{_≡_, ap, sym, _∙_}
 use mathlib.Core.List.{List}
 use native.Mathlib.Omega.{arith}
 use lib.ListN.{set}
@@ -13,51 +14,35 @@ one : (ws : List ℕ) (p x c : ℕ) → c ≡ 1 → set ws p x ≡ filled ws p x
 unfolding filled
 one ws p x c e = let z : p + 0 ≡ p = omega arith in sym (ap (filled ws p x) e ∙ ap (λ (y : ℕ). set ws y x) z)
 
-add-put : tie.Need-add-put
-add-put c = search needs
+-- THE PLACES IN THE CODE, each from one after it
+abbrev then1-from-slice-known2 : tie.After-slice-known2 → tie.Then1
+then1-from-slice-known2 c = c .before .before .before .before
 
-put-requires : tie.Need-put-requires
-put-requires c κs = omega arith
+put-slot-requires : tie.Need-put-slot-requires
+put-slot-requires c κs = omega arith
 
 same-length : tie.Need-same-length
 same-length c = search needs
 
 returns : tie.Need-returns
-returns c = c .before .before .put .ensures ∙ one _ _ 0 _ (c .before .before .before .before .if1 .taken)
+returns c = c .before .before .put-slot .ensures ∙ one _ _ 0 _ (then1-from-slice-known2 c .if1 .taken)
 
-mul-fill : tie.Need-mul-fill
-mul-fill c = omega arith
-
-add-fill : tie.Need-add-fill
-add-fill c = omega arith
-
-add-fill-2 : tie.Need-add-fill-2
-add-fill-2 c = omega arith
-
-add-fill-3 : tie.Need-add-fill-3
-add-fill-3 c = omega arith
-
-fill-requires : tie.Need-fill-requires
-fill-requires c κs = omega arith
+fill-slots-requires : tie.Need-fill-slots-requires
+fill-slots-requires c κs = omega arith
 
 same-length-2 : tie.Need-same-length-2
 same-length-2 c = search needs
 
 returns-2 : tie.Need-returns-2
-returns-2 c = c .before .before .fill .ensures
+returns-2 c = c .before .before .fill-slots .ensures
 
 pub empty-slots-spec : {M : Type 1} → statement M
 empty-slots-spec =
     tie.close
     (tie.spec
-    add-put
-    put-requires
+    put-slot-requires
     same-length
     returns
-    mul-fill
-    add-fill
-    add-fill-2
-    add-fill-3
-    fill-requires
+    fill-slots-requires
     same-length-2
     returns-2)

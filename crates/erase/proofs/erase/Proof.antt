@@ -1,13 +1,36 @@
+-- `erase`: takes out the entry that covers i.
 use mathlib.Core.Path.{sym, ap}
 use native.Mathlib.Omega.{arith}
 use lib.ListN.{length-set}
 use Rattle.model.specs.Model.{covered}
-use Rattle.lookup.proofs.WordLaws.{pool-length}
 use Rattle.lookup.proofs.HeadLaws.{at-apart, at-vacant, at-head, at-spot}
 use Rattle.erase.proofs.ErasedLaws.{words-gap, words-head, in-use-head}
 use borrow.Author.Needs.{needs}
 use Rattle.erase.proofs.erase.Statement.{statement}
 use Rattle.erase.proofs.erase.Tie as tie
+use Rattle.layout.proofs.RenderWordLaws.{pool-length}
+
+-- THE PLACES IN THE CODE, each from one after it
+abbrev start-from-enum-told : tie.After-enum-told → tie.Start
+start-from-enum-told c = c .before .before .before .before .before
+
+abbrev start-from-enum-told2 : tie.After-enum-told2 → tie.Start
+start-from-enum-told2 c = c .before .before .before .before .before
+
+abbrev start-from-known-told : tie.After-known-told → tie.Start
+start-from-known-told c = c .before .before .before .before .before .before
+
+abbrev locate-from-remove-arg : tie.After-remove-arg → tie.After-locate
+locate-from-remove-arg c = c .before .before .before .before
+
+abbrev start-from-remove-arg : tie.After-remove-arg → tie.Start
+start-from-remove-arg c = locate-from-remove-arg c .before .before .before
+
+abbrev k2-from-slice-known2 : tie.After-slice-known2 → tie.After-k2
+k2-from-slice-known2 c = c .before .before .before .before .before
+
+abbrev locate-from-slice-known2 : tie.After-slice-known2 → tie.After-locate
+locate-from-slice-known2 c = k2-from-slice-known2 c .before .before
 
 locate-requires : tie.Need-locate-requires
 locate-requires c κs = search needs
@@ -22,23 +45,23 @@ enum-known-k : tie.Need-enum-known-k
 enum-known-k c = search needs
 
 slice-write-pool : tie.Need-slice-write-pool
-slice-write-pool c = omega (arith, pool-length (c .before .before .before .before .before .before .pre .0))
+slice-write-pool c = omega (arith, pool-length (start-from-known-told c .pre .0))
 
 slice-write-pool-2 : tie.Need-slice-write-pool-2
 slice-write-pool-2 c = simp length-set (omega (
   arith,
   pool-length
-      (c .before .before .before .before .before .before .pre .0),
+      (start-from-known-told c .pre .0),
 ))
 
 enum-known-k-2 : tie.Need-enum-known-k-2
 enum-known-k-2 c = search needs
 
 remove-requires : tie.Need-remove-requires
-remove-requires c κs = let s = c .before .before .before .before .before .before .before .pre .0 in
-    let (q, h, t, le, d) = at-spot _ _ _ (c .before .before .before .before .locate .ensures s)
+remove-requires c κs = let s = start-from-remove-arg c .pre .0 in
+    let (q, h, t, le, d) = at-spot _ _ _ (locate-from-remove-arg c .locate .ensures s)
     (c .before .before .k2 .given .1) in (
-      c .before .before .before .before .before .before .before .pre .1,
+      start-from-remove-arg c .pre .1,
       record { formed = s; holds = h; height-is = t },
     )
 
@@ -52,7 +75,7 @@ returns c = (
   (
     (λ s. let (q, d) = at-apart (c .before .before .locate .ensures s) (c .enum-told .given .1) in
         words-gap s _ q),
-    c .before .before .before .before .before .pre .1,
+    start-from-enum-told c .pre .1,
   ),
 )
 
@@ -66,7 +89,7 @@ returns-2 c = (
   (
     (λ s. let (t, q, b, le, d) = at-vacant _ _ _ (c .before .before .locate .ensures s) (c .enum-told2 .given .1) in
         words-gap s _ q),
-    c .before .before .before .before .before .pre .1,
+    start-from-enum-told2 c .pre .1,
   ),
 )
 
@@ -80,7 +103,7 @@ returns-3 c = (
   (
     (λ s. let (z, q) = at-head _ (c .before .before .before .locate .ensures s) (c .before .k .given .1) in
         words-head s _ _ q z),
-    in-use-head (c .before .before .before .before .before .before .pre .1),
+    in-use-head (start-from-known-told c .pre .1),
   ),
 )
 
@@ -90,12 +113,12 @@ same-length-4 c = search needs
 returns-4 : tie.Need-returns-4
 returns-4 c = (
   (λ s. let (q, h, t, le, d) = at-spot _ _ _
-      (c .before .before .before .before .before .before .before .locate .ensures s)
-      (c .before .before .before .before .before .k2 .given .1) in
+      (locate-from-slice-known2 c .locate .ensures s)
+      (k2-from-slice-known2 c .k2 .given .1) in
       ap covered (sym q)),
   (
-    (λ s. let (q, h, t, le, d) = at-spot _ _ _ (c .before .before .before .before .before .before .before .locate
-        .ensures s) (c .before .before .before .before .before .k2 .given .1) in
+    (λ s. let (q, h, t, le, d) = at-spot _ _ _ (locate-from-slice-known2 c .locate
+        .ensures s) (k2-from-slice-known2 c .k2 .given .1) in
         c .before .before .remove .ensures .1 s h t),
     c .before .before .remove .ensures .0,
   ),

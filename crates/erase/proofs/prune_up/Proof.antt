@@ -1,3 +1,4 @@
+-- `prune_up`: frees node first, which lost the entry that covered i, and those over it, as far as they are empty.
 use Prim.Native.Nat.{ℕ, suc, _-_, _/_, _<_, _≤_}
 use mathlib.Core.Path.{_≡_, refl, sym, _∙_}
 use mathlib.Core.List.{List}
@@ -6,17 +7,18 @@ use native.Mathlib.Numerals.{add-one}
 use lib.ListN.{length}
 use borrow.Author.Tests.{not-true, not-false}
 use Rattle.tree.specs.Tree.{slots, topTier}
-use Rattle.layout.specs.Words.{place, lastField, maxNodes}
+use Rattle.layout.specs.Words.{maxNodes, lastPlace}
 use Rattle.layout.specs.WellFormed.{WellFormed}
-use Rattle.erase.specs.Freed.{Spares}
 use Rattle.erase.specs.Leaving.{Cut, Cutting}
 use Rattle.erase.proofs.LeavingLaws.{cut-fits, cut-empty, cut-filled, cut-done, cut-top, cut-next, over-fits}
-use Rattle.erase.proofs.FreedLaws.{spares-same, spares-then, freed-spares, unlinked-spares}
+use Rattle.erase.proofs.FreedLaws.{freed-spares, unlinked-spares}
 use Rattle.erase.proofs.prune_up.Statement.{statement}
 use Rattle.erase.proofs.prune_up.Tie as tie
+use Rattle.layout.specs.Spares.{Spares}
+use Rattle.layout.proofs.SparesLaws.{spares-same, spares-then}
 
 record Bounds (pool₀ pool : List ℕ) (n v : ℕ) : Type 0 where
-  node-in : place n lastField < length pool
+  node-in : lastPlace n < length pool
   node-lt : n < maxNodes
   tier-lt : v < topTier
   same : length pool ≡ length pool₀
@@ -33,11 +35,48 @@ Inv-loop pool₀ i first tier low n₀ v₀ floor₀ pool n v floor =
 abbrev μ-loop : tie.MeasureT-loop
 μ-loop pool₀ i first tier low n₀ v₀ floor₀ pool n v floor = topTier - v
 
+-- THE PLACES IN THE CODE, each from one after it
+abbrev loop-from-owner-of-arg : tie.After-owner-of-arg Inv-loop μ-loop → tie.At-loop Inv-loop μ-loop
+loop-from-owner-of-arg c = c .before .before .before .before .before
+
+abbrev loop-from-free-head-arg : tie.After-free-head-arg Inv-loop μ-loop → tie.At-loop Inv-loop μ-loop
+loop-from-free-head-arg c = c .before .before .before .before .before .before .before .before
+
+abbrev else1-from-unlink-arg : tie.After-unlink-arg Inv-loop μ-loop → tie.Else1 Inv-loop μ-loop
+else1-from-unlink-arg c = c .before .before .before .before .before
+
+abbrev vacant-from-unlink-arg : tie.After-unlink-arg Inv-loop μ-loop → tie.After-vacant Inv-loop μ-loop
+vacant-from-unlink-arg c = else1-from-unlink-arg c .before
+
+abbrev loop-from-unlink-arg : tie.After-unlink-arg Inv-loop μ-loop → tie.At-loop Inv-loop μ-loop
+loop-from-unlink-arg c = vacant-from-unlink-arg c .before .before
+
+abbrev then2-from-slice-known2 : tie.After-slice-known2 Inv-loop μ-loop → tie.Then2 Inv-loop μ-loop
+then2-from-slice-known2 c = c .before .before .before .before
+
+abbrev owner-of-from-slice-known2 : tie.After-slice-known2 Inv-loop μ-loop → tie.After-owner-of Inv-loop μ-loop
+owner-of-from-slice-known2 c = then2-from-slice-known2 c .before
+
+abbrev lesser-from-slice-known2 : tie.After-slice-known2 Inv-loop μ-loop → tie.After-lesser Inv-loop μ-loop
+lesser-from-slice-known2 c = owner-of-from-slice-known2 c .before .before
+
+abbrev else1-from-slice-known2 : tie.After-slice-known2 Inv-loop μ-loop → tie.Else1 Inv-loop μ-loop
+else1-from-slice-known2 c = lesser-from-slice-known2 c .before
+
+abbrev vacant-from-slice-known2 : tie.After-slice-known2 Inv-loop μ-loop → tie.After-vacant Inv-loop μ-loop
+vacant-from-slice-known2 c = else1-from-slice-known2 c .before
+
+abbrev loop-from-slice-known2 : tie.After-slice-known2 Inv-loop μ-loop → tie.At-loop Inv-loop μ-loop
+loop-from-slice-known2 c = vacant-from-slice-known2 c .before .before
+
+abbrev loop-from-slice-known3 : tie.After-slice-known3 Inv-loop μ-loop → tie.At-loop Inv-loop μ-loop
+loop-from-slice-known3 c = c .before .before .before .before .before .before .before .before .before .before .before
+
 loop-holds : tie.Need-loop-holds Inv-loop μ-loop
 loop-holds c = (bounds (c .before .pre) refl, c .before .pre, omega arith, spares-same _ _, λ ws s k. k)
 
 vacant-requires : tie.Need-vacant-requires Inv-loop μ-loop
-vacant-requires c κs = c .before .loop .inv .0 .node-in
+vacant-requires c κs = (c .before .loop .inv .0 .node-in, (omega arith, omega arith))
 
 same-length : tie.Need-same-length Inv-loop μ-loop
 same-length c = c .before .before .before .loop .inv .0 .same
@@ -52,33 +91,32 @@ returns c = let w = c .before .before .before .loop .inv in (
   ),
 )
 
-least-requires : tie.Need-least-requires Inv-loop μ-loop
-least-requires c κs = tt
+lesser-requires : tie.Need-lesser-requires Inv-loop μ-loop
+lesser-requires c κs = tt
 
-field-requires : tie.Need-field-requires Inv-loop μ-loop
-field-requires c κs = omega (arith, c .before .before .before .before .before .loop .inv .0 .node-in)
+owner-of-requires : tie.Need-owner-of-requires Inv-loop μ-loop
+owner-of-requires c κs = omega (arith, loop-from-owner-of-arg c .loop .inv .0 .node-in)
 
 free-head-requires : tie.Need-free-head-requires Inv-loop μ-loop
-free-head-requires c κs = c .before .before .before .before .before .before .before .before .loop .inv .0 .node-in
+free-head-requires c κs = loop-from-free-head-arg c .loop .inv .0 .node-in
 
 same-length-2 : tie.Need-same-length-2 Inv-loop μ-loop
-same-length-2 c = c .before .before .free-head .kept .0 ∙ c .before .before .before .before .before .before .before
-    .before .before .before .before .loop .inv .0 .same
+same-length-2 c = c .before .before .free-head .kept .0 ∙ loop-from-slice-known2 c .loop .inv .0 .same
 
 returns-2 : tie.Need-returns-2 Inv-loop μ-loop
-returns-2 c = let w = c .before .before .before .before .before .before .before .before .before .before .before .loop
+returns-2 c = let w = loop-from-slice-known2 c .loop
     .inv in
     let d = c .before .before .free-head .ensures in
-    let e = c .before .before .before .before .before .before .before .least .ensures in
+    let e = lesser-from-slice-known2 c .lesser .ensures in
     let le = w .2 in (
       omega arith,
       (
         spares-then (omega arith) (w .3) (freed-spares d _ (omega arith)),
         λ ws s k. let k′ = w .4 ws s k in
-            cut-top s k′ (cut-empty s k′ (c .before .before .before .before .before .before .before .before .before
-            .vacant .ensures .0 (not-false _ (c .before .before .before .before .before .before .before .before
+            cut-top s k′ (cut-empty s k′ (vacant-from-slice-known2 c
+            .vacant .ensures .0 (not-false _ (else1-from-slice-known2 c
             .if1 .left))))
-            (sym (c .before .before .before .before .before .field .ensures) ∙ c .before .before .before .before .if2
+            (sym (owner-of-from-slice-known2 c .owner-of .ensures) ∙ then2-from-slice-known2 c .if2
             .taken) (c .before .before .free-head .kept .0) (d .gone) (d .head) (d .rest),
       ),
     )
@@ -90,13 +128,13 @@ sub-unlink : tie.Need-sub-unlink Inv-loop μ-loop
 sub-unlink c = omega arith
 
 unlink-requires : tie.Need-unlink-requires Inv-loop μ-loop
-unlink-requires c κs = let w = c .before .before .before .before .before .before .before .before .loop .inv in
+unlink-requires c κs = let w = loop-from-unlink-arg c .loop .inv in
     let k = w .1 in
-    let g = cut-empty (k .formed) (k .state) (c .before .before .before .before .before .before .vacant .ensures .0
-    (not-false _ (c .before .before .before .before .before .if1 .left))) in (
+    let g = cut-empty (k .formed) (k .state) (vacant-from-unlink-arg c .vacant .ensures .0
+    (not-false _ (else1-from-unlink-arg c .if1 .left))) in (
       w .0 .node-in,
       (
-        over-fits (k .formed) (k .state) g (c .before .before .field .result) (c .before .before .field .ensures)
+        over-fits (k .formed) (k .state) g (c .before .before .owner-of .result) (c .before .before .owner-of .ensures)
             (c .before .if2 .left) .0,
         omega arith,
       ),
@@ -105,7 +143,7 @@ unlink-requires c κs = let w = c .before .before .before .before .before .befor
 add-v : tie.Need-add-v Inv-loop μ-loop
 add-v c = omega (
   arith,
-  c .before .before .before .before .before .before .before .before .before .before .before
+  loop-from-slice-known3 c
       .loop .inv .0 .tier-lt,
 )
 
@@ -117,14 +155,14 @@ step-cut : (c : tie.After-slice-known3 Inv-loop μ-loop) (ws : List ℕ) (s : We
     (c .before .before .before .before .before .before .before .before .before .before .before .loop .pool) →
     Cut s (c .before .before .before .before .before .before .before .before .before .before .before .before .before
     .args .i) (suc (c .before .before .before .before .before .before .before .before .before .before .before
-    .loop .v)) ((c .before .before .before .before .before .field .result - 1) / slots)
+    .loop .v)) ((c .before .before .before .before .before .owner-of .result - 1) / slots)
     (c .before .before .unlink .last .0)
 step-cut c ws s k =
     let d = c .before .before .unlink .ensures in
     let g = cut-empty s k (c .before .before .before .before .before .before .before .before .before .vacant .ensures
     .0 (not-false _ (c .before .before .before .before .before .before .before .before .if1 .left))) in
-    let p = c .before .before .before .before .before .field .result in
-    let r = c .before .before .before .before .before .field .ensures in
+    let p = c .before .before .before .before .before .owner-of .result in
+    let r = c .before .before .before .before .before .owner-of .ensures in
     let ne = c .before .before .before .before .if2 .left in
     cut-next s k g p r ne (c .before .before .unlink .kept .0) (d .gone) (d .cleared (over-fits s k g p r ne .1))
     (d .rest)
@@ -141,18 +179,18 @@ next : (c : tie.After-slice-known3 Inv-loop μ-loop) →
     .first) (c .before .before .before .before .before .before .before .before .before .before .before .before
     .before .args .tier) (c .before .before .before .before .before .before .before .before .before .before
     .before .before .before .args .low) (c .before .before .unlink .last .0)
-    ((c .before .before .before .before .before .field .result - 1) / slots)
+    ((c .before .before .before .before .before .owner-of .result - 1) / slots)
     (suc (c .before .before .before .before .before .before .before .before .before .before .before .loop .v))
-    (c .before .before .before .before .before .before .before .least .result)
+    (c .before .before .before .before .before .before .before .lesser .result)
 next c =
     let w = c .before .before .before .before .before .before .before .before .before .before .before .loop .inv in
     let k = w .1 in
     let k′ : Cutting (c .before .before .before .before .before .before .before .before .before .before .before
     .before .before .args .i) (suc (c .before .before .before .before .before .before .before .before .before
-    .before .before .loop .v)) ((c .before .before .before .before .before .field .result - 1) / slots)
+    .before .before .loop .v)) ((c .before .before .before .before .before .owner-of .result - 1) / slots)
     (c .before .before .unlink .last .0) =
     record { before = k .before; formed = k .formed; state = step-cut c (k .before) (k .formed) (k .state) } in
-    let e = c .before .before .before .before .before .before .before .least .ensures in
+    let e = c .before .before .before .before .before .before .before .lesser .ensures in
     let le = w .2 in (
       bounds k′ (c .before .before .unlink .kept .0 ∙ w .0 .same),
       k′,
@@ -166,8 +204,7 @@ loop-less : tie.Need-loop-less Inv-loop μ-loop
 loop-less c = omega (
   arith,
   next c .0 .tier-lt,
-  c .before .before .before .before .before .before .before .before
-      .before .before .before .loop .inv .0 .tier-lt,
+  loop-from-slice-known3 c .loop .inv .0 .tier-lt,
 )
 
 loop-again : tie.Need-loop-again Inv-loop μ-loop
@@ -183,8 +220,8 @@ prune-up-spec =
     vacant-requires
     same-length
     returns
-    least-requires
-    field-requires
+    lesser-requires
+    owner-of-requires
     free-head-requires
     same-length-2
     returns-2

@@ -1,10 +1,18 @@
+-- `raise`: frees the head n, and makes node m below it, whose word is x, the head.
 use Rattle.erase.proofs.FreedLaws.{raised}
 use borrow.Author.Needs.{needs}
 use Rattle.erase.proofs.raise.Statement.{statement}
 use Rattle.erase.proofs.raise.Tie as tie
 
-put-requires : tie.Need-put-requires
-put-requires c κs = search needs
+-- THE PLACES IN THE CODE, each from one after it
+abbrev put-owner-from-slice-known3 : tie.After-slice-known3 → tie.After-put-owner
+put-owner-from-slice-known3 c = c .before .before .before .before .before .before
+
+abbrev start-from-slice-known3 : tie.After-slice-known3 → tie.Start
+start-from-slice-known3 c = put-owner-from-slice-known3 c .before .before .before
+
+put-owner-requires : tie.Need-put-owner-requires
+put-owner-requires c κs = search needs
 
 free-head-requires : tie.Need-free-head-requires
 free-head-requires c κs = search needs
@@ -13,8 +21,8 @@ same-length : tie.Need-same-length
 same-length c = search needs
 
 returns : tie.Need-returns
-returns c = raised _ _ _ (c .before .before .before .before .before .before .before .before .before .pre .1)
-    (c .before .before .before .before .before .before .put .ensures) (c .before .before .free-head .ensures)
+returns c = raised _ _ _ (start-from-slice-known3 c .pre .1)
+    (put-owner-from-slice-known3 c .put-owner .ensures) (c .before .before .free-head .ensures)
 
 pub raise-spec : {M : Type 1} → statement M
-raise-spec = tie.close (tie.spec put-requires free-head-requires same-length returns)
+raise-spec = tie.close (tie.spec put-owner-requires free-head-requires same-length returns)

@@ -1,3 +1,4 @@
+-- `shrink`: shrinks the head, of tier top, to what the list needs.
 use borrow.Author.Needs.{needs}
 use Prim.Native.Nat.{ℕ, _≤_}
 use mathlib.Core.Path.{_≡_, refl, _∙_}
@@ -8,12 +9,12 @@ use borrow.Author.Tests.{not-true, not-false}
 use Rattle.blocks.proofs.BoolLaws.{clash}
 use Rattle.model.specs.declared.Entry.{Entry}
 use Rattle.layout.specs.Places.{Places}
-use Rattle.erase.specs.Freed.{Spares}
 use Rattle.erase.specs.Tall.{Tall, Tower}
 use Rattle.erase.proofs.LowerLaws.{tall-flat, top-child, top-empty, top-held, top-sibling}
-use Rattle.erase.proofs.FreedLaws.{spares-same, spares-then}
 use Rattle.erase.proofs.shrink.Statement.{statement}
 use Rattle.erase.proofs.shrink.Tie as tie
+use Rattle.layout.specs.Spares.{Spares}
+use Rattle.layout.proofs.SparesLaws.{spares-same, spares-then}
 
 abbrev Inv-loop : tie.InvT-loop
 Inv-loop pool₀ top low h₀ floor₀ pool h floor =
@@ -22,6 +23,61 @@ Inv-loop pool₀ top low h₀ floor₀ pool h floor =
 
 abbrev μ-loop : tie.MeasureT-loop
 μ-loop pool₀ top low h₀ floor₀ pool h floor = h
+
+-- THE PLACES IN THE CODE, each from one after it
+abbrev in-loop-from-enum-told : tie.After-enum-told Inv-loop μ-loop → tie.In-loop Inv-loop μ-loop
+in-loop-from-enum-told c = c .before .before .before .before
+
+abbrev loop-from-enum-told : tie.After-enum-told Inv-loop μ-loop → tie.At-loop Inv-loop μ-loop
+loop-from-enum-told c = in-loop-from-enum-told c .before
+
+abbrev in-loop-from-enum-told2 : tie.After-enum-told2 Inv-loop μ-loop → tie.In-loop Inv-loop μ-loop
+in-loop-from-enum-told2 c = c .before .before .before .before
+
+abbrev loop-from-enum-told2 : tie.After-enum-told2 Inv-loop μ-loop → tie.At-loop Inv-loop μ-loop
+loop-from-enum-told2 c = in-loop-from-enum-told2 c .before
+
+abbrev in-loop-from-enum-told3 : tie.After-enum-told3 Inv-loop μ-loop → tie.In-loop Inv-loop μ-loop
+in-loop-from-enum-told3 c = c .before .before .before .before
+
+abbrev loop-from-enum-told3 : tie.After-enum-told3 Inv-loop μ-loop → tie.At-loop Inv-loop μ-loop
+loop-from-enum-told3 c = in-loop-from-enum-told3 c .before
+
+abbrev read-slot-from-drop-head-arg : tie.After-drop-head-arg Inv-loop μ-loop → tie.After-read-slot Inv-loop μ-loop
+read-slot-from-drop-head-arg c = c .before .before .before .before
+
+abbrev in-loop-from-drop-head-arg : tie.After-drop-head-arg Inv-loop μ-loop → tie.In-loop Inv-loop μ-loop
+in-loop-from-drop-head-arg c = read-slot-from-drop-head-arg c .before .before
+
+abbrev loop-from-drop-head-arg : tie.After-drop-head-arg Inv-loop μ-loop → tie.At-loop Inv-loop μ-loop
+loop-from-drop-head-arg c = in-loop-from-drop-head-arg c .before
+
+abbrev k-from-then1 : tie.Then1 Inv-loop μ-loop → tie.After-k Inv-loop μ-loop
+k-from-then1 c = c .before .before .before .before .before .before
+
+abbrev read-slot-from-then1 : tie.Then1 Inv-loop μ-loop → tie.After-read-slot Inv-loop μ-loop
+read-slot-from-then1 c = k-from-then1 c .before .before
+
+abbrev in-loop-from-then1 : tie.Then1 Inv-loop μ-loop → tie.In-loop Inv-loop μ-loop
+in-loop-from-then1 c = read-slot-from-then1 c .before .before
+
+abbrev loop-from-then1 : tie.Then1 Inv-loop μ-loop → tie.At-loop Inv-loop μ-loop
+loop-from-then1 c = in-loop-from-then1 c .before
+
+abbrev drop-head-from-lesser : tie.After-lesser Inv-loop μ-loop → tie.After-drop-head Inv-loop μ-loop
+drop-head-from-lesser c = c .before .before .before .before
+
+abbrev k-from-lesser : tie.After-lesser Inv-loop μ-loop → tie.After-k Inv-loop μ-loop
+k-from-lesser c = drop-head-from-lesser c .before .before .before
+
+abbrev read-slot-from-lesser : tie.After-lesser Inv-loop μ-loop → tie.After-read-slot Inv-loop μ-loop
+read-slot-from-lesser c = k-from-lesser c .before .before
+
+abbrev in-loop-from-lesser : tie.After-lesser Inv-loop μ-loop → tie.In-loop Inv-loop μ-loop
+in-loop-from-lesser c = read-slot-from-lesser c .before .before
+
+abbrev loop-from-lesser : tie.After-lesser Inv-loop μ-loop → tie.At-loop Inv-loop μ-loop
+loop-from-lesser c = in-loop-from-lesser c .before
 
 loop-holds : tie.Need-loop-holds Inv-loop μ-loop
 loop-holds c = (c .before .pre, refl, omega arith, spares-same _ _, λ k l os w. w)
@@ -36,93 +92,92 @@ enum-known-k : tie.Need-enum-known-k Inv-loop μ-loop
 enum-known-k c = search needs
 
 drop-head-requires : tie.Need-drop-head-requires Inv-loop μ-loop
-drop-head-requires c κs = let T = c .before .before .before .before .before .before .before .loop .inv .0 in
-    let h = top-child (T .tall) (c .before .before .before .before .before .before .loop-test .taken) refl
-    (c .before .before .before .before .read-slot .ensures) _ (c .before .before .k .given .1) in (
-      c .before .before .before .before .before .before .loop-test .taken,
+drop-head-requires c κs = let T = loop-from-drop-head-arg c .loop .inv .0 in
+    let h = top-child (T .tall) (in-loop-from-drop-head-arg c .loop-test .taken) refl
+    (read-slot-from-drop-head-arg c .read-slot .ensures) _ (c .before .before .k .given .1) in (
+      in-loop-from-drop-head-arg c .loop-test .taken,
       record { tower = T; there = h .0; number = h .1 },
     )
 
 same-length : tie.Need-same-length Inv-loop μ-loop
-same-length c = c .before .before .before .drop-head .kept .0 ∙ c .before .before .before .before .before .before
-    .before .before .before .before .before .loop .inv .1
+same-length c = c .before .before .before .drop-head .kept .0 ∙ loop-from-then1 c .loop .inv .1
 
 returns : tie.Need-returns Inv-loop μ-loop
 returns c = let f = not-true _ (c .if1 .taken) in
-    let w = c .before .before .before .before .before .before .before .before .before .before .before .loop .inv in (
+    let w = loop-from-then1 c .loop .inv in (
       w .2,
       (
         spares-then (omega arith) (w .3) (c .before .before .before .drop-head .ensures .1 _
             (λ e. absurd (clash e f))),
         λ k l os t.
             let t′ = w .4 k l os t in
-            let h = top-child t′ (c .before .before .before .before .before .before .before .before .before .before
-            .loop-test .taken) refl (c .before .before .before .before .before .before .before .before .read-slot
-            .ensures) _ (c .before .before .before .before .before .before .k .given .1) in
+            let h = top-child t′ (in-loop-from-then1 c
+            .loop-test .taken) refl (read-slot-from-then1 c .read-slot
+            .ensures) _ (k-from-then1 c .k .given .1) in
             c .before .before .before .drop-head .ensures .0 k l os t′ (h .0) (h .1) .no f,
       ),
     )
 
-least-requires : tie.Need-least-requires Inv-loop μ-loop
-least-requires c κs = search needs
+lesser-requires : tie.Need-lesser-requires Inv-loop μ-loop
+lesser-requires c κs = search needs
 
 sub-h : tie.Need-sub-h Inv-loop μ-loop
 sub-h c = omega (
   arith,
-  c .before .before .before .before .before .before .before .before .before .before .before
+  in-loop-from-lesser c
       .loop-test .taken,
 )
 
 loop-less : tie.Need-loop-less Inv-loop μ-loop
 loop-less c = omega (
   arith,
-  c .before .before .before .before .before .before .before .before .before .before .before
+  in-loop-from-lesser c
       .loop-test .taken,
 )
 
 loop-again : tie.Need-loop-again Inv-loop μ-loop
 loop-again c = let f = not-false _ (c .before .if1 .left) in
-    let w = c .before .before .before .before .before .before .before .before .before .before .before .before .loop
+    let w = loop-from-lesser c .loop
     .inv in
     let T = w .0 in
-    let e = c .least .ensures in
+    let e = c .lesser .ensures in
     let le = w .2 in
-    let pos = c .before .before .before .before .before .before .before .before .before .before .before .loop-test
+    let pos = in-loop-from-lesser c .loop-test
     .taken in
-    let r = c .before .before .before .before .before .before .before .before .before .read-slot .ensures in
-    let t₀ = top-child (T .tall) pos refl r _ (c .before .before .before .before .before .before .before .k .given .1)
+    let r = read-slot-from-lesser c .read-slot .ensures in
+    let t₀ = top-child (T .tall) pos refl r _ (k-from-lesser c .k .given .1)
     in (
       record {
         n = T .n;
         list = T .list;
         places = T .places;
-        tall = c .before .before .before .before .drop-head .ensures .0 (T .n) (T .list) (T .places) (T .tall) (t₀ .0)
+        tall = drop-head-from-lesser c .drop-head .ensures .0 (T .n) (T .list) (T .places) (T .tall) (t₀ .0)
             (t₀ .1) .yes f;
       },
-      c .before .before .before .before .drop-head .kept .0 ∙ w .1,
+      drop-head-from-lesser c .drop-head .kept .0 ∙ w .1,
       omega arith,
-      spares-then (omega arith) (w .3) (c .before .before .before .before .drop-head .ensures .1 _
+      spares-then (omega arith) (w .3) (drop-head-from-lesser c .drop-head .ensures .1 _
           (λ _. omega arith)),
       λ k l os t.
           let t′ = w .4 k l os t in
-          let h = top-child t′ pos refl r _ (c .before .before .before .before .before .before .before .k .given .1)
+          let h = top-child t′ pos refl r _ (k-from-lesser c .k .given .1)
           in
-          c .before .before .before .before .drop-head .ensures .0 k l os t′ (h .0) (h .1) .yes f,
+          drop-head-from-lesser c .drop-head .ensures .0 k l os t′ (h .0) (h .1) .yes f,
     )
 
 enum-told : tie.Need-enum-told Inv-loop μ-loop
 enum-told c = search needs
 
 same-length-2 : tie.Need-same-length-2 Inv-loop μ-loop
-same-length-2 c = c .before .before .before .before .before .loop .inv .1
+same-length-2 c = loop-from-enum-told c .loop .inv .1
 
 returns-2 : tie.Need-returns-2 Inv-loop μ-loop
-returns-2 c = let w = c .before .before .before .before .before .loop .inv in (
+returns-2 c = let w = loop-from-enum-told c .loop .inv in (
   w .2,
   (
     w .3,
     λ k l os t.
-        absurd (top-held (w .4 k l os t) (c .before .before .before .before .loop-test .taken) refl
+        absurd (top-held (w .4 k l os t) (in-loop-from-enum-told c .loop-test .taken) refl
         (c .before .before .read-slot .ensures) (c .enum-told .given .1)),
   ),
 )
@@ -131,15 +186,15 @@ enum-told-2 : tie.Need-enum-told-2 Inv-loop μ-loop
 enum-told-2 c = search needs
 
 same-length-3 : tie.Need-same-length-3 Inv-loop μ-loop
-same-length-3 c = c .before .before .before .before .before .loop .inv .1
+same-length-3 c = loop-from-enum-told2 c .loop .inv .1
 
 returns-3 : tie.Need-returns-3 Inv-loop μ-loop
-returns-3 c = let w = c .before .before .before .before .before .loop .inv in (
+returns-3 c = let w = loop-from-enum-told2 c .loop .inv in (
   w .2,
   (
     w .3,
     λ k l os t.
-        top-empty (w .4 k l os t) (c .before .before .before .before .loop-test .taken) refl
+        top-empty (w .4 k l os t) (in-loop-from-enum-told2 c .loop-test .taken) refl
         (c .before .before .read-slot .ensures) (c .enum-told2 .given .1),
   ),
 )
@@ -148,15 +203,15 @@ enum-told-3 : tie.Need-enum-told-3 Inv-loop μ-loop
 enum-told-3 c = search needs
 
 same-length-4 : tie.Need-same-length-4 Inv-loop μ-loop
-same-length-4 c = c .before .before .before .before .before .loop .inv .1
+same-length-4 c = loop-from-enum-told3 c .loop .inv .1
 
 returns-4 : tie.Need-returns-4 Inv-loop μ-loop
-returns-4 c = let w = c .before .before .before .before .before .loop .inv in (
+returns-4 c = let w = loop-from-enum-told3 c .loop .inv in (
   w .2,
   (
     w .3,
     λ k l os t.
-        absurd (top-sibling (w .4 k l os t) (c .before .before .before .before .loop-test .taken) refl
+        absurd (top-sibling (w .4 k l os t) (in-loop-from-enum-told3 c .loop-test .taken) refl
         (c .before .before .read-slot .ensures) _
         (c .enum-told3 .given .1)),
   ),
@@ -182,7 +237,7 @@ shrink-spec =
     drop-head-requires
     same-length
     returns
-    least-requires
+    lesser-requires
     sub-h
     loop-less
     loop-again

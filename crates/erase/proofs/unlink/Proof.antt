@@ -1,24 +1,29 @@
+-- `unlink`: frees node n, and empties slot o of node m, which leads to it.
 use Rattle.erase.proofs.FreedLaws.{unlinked}
 use borrow.Author.Needs.{needs}
 use Rattle.erase.proofs.unlink.Statement.{statement}
 use Rattle.erase.proofs.unlink.Tie as tie
 
-add-put : tie.Need-add-put
-add-put c = search needs
+-- THE PLACES IN THE CODE, each from one after it
+abbrev put-slot-from-slice-known3 : tie.After-slice-known3 → tie.After-put-slot
+put-slot-from-slice-known3 c = c .before .before .before .before .before .before
 
-put-requires : tie.Need-put-requires
-put-requires c κs = search needs
+abbrev start-from-slice-known3 : tie.After-slice-known3 → tie.Start
+start-from-slice-known3 c = put-slot-from-slice-known3 c .before .before .before
 
-free-node-requires : tie.Need-free-node-requires
-free-node-requires c κs = search needs
+put-slot-requires : tie.Need-put-slot-requires
+put-slot-requires c κs = search needs
+
+clear-node-requires : tie.Need-clear-node-requires
+clear-node-requires c κs = search needs
 
 same-length : tie.Need-same-length
 same-length c = search needs
 
 returns : tie.Need-returns
-returns c = let p = c .before .before .before .before .before .before .before .before .before .pre in
-    unlinked _ _ _ (p .0) (p .1 .0) (p .1 .1) (c .before .before .before .before .before .before .put .ensures)
-    (c .before .before .free-node .ensures)
+returns c = let p = start-from-slice-known3 c .pre in
+    unlinked _ _ _ (p .0) (p .1 .0) (p .1 .1) (put-slot-from-slice-known3 c .put-slot .ensures)
+    (c .before .before .clear-node .ensures)
 
 pub unlink-spec : {M : Type 1} → statement M
-unlink-spec = tie.close (tie.spec add-put put-requires free-node-requires same-length returns)
+unlink-spec = tie.close (tie.spec put-slot-requires clear-node-requires same-length returns)

@@ -1,3 +1,4 @@
+-- `covered_reply`: the reply by what covers an index.
 use mathlib.Core.Path.{sym, ap, _∙_}
 use Rattle.execute.specs.Contracts.{coveredReply}
 use borrow.Author.Needs.{needs}

@@ -1,8 +1,34 @@
+-- `execute`: one command: its reply, and the number below which every node is in use.
 use Rattle.execute.proofs.ReplyLaws.{by-command, leaves-words}
 use Rattle.execute.proofs.ExecuteLaws.{load-list, find-list}
 use borrow.Author.Needs.{needs}
 use Rattle.execute.proofs.execute.Statement.{statement}
 use Rattle.execute.proofs.execute.Tie as tie
+
+-- THE PLACES IN THE CODE, each from one after it
+abbrev start-from-run-find : tie.After-run-find → tie.Start
+start-from-run-find c = c .before .before .before .before .before .before
+
+abbrev start-from-run-load : tie.After-run-load → tie.Start
+start-from-run-load c = c .before .before .before .before .before .before
+
+abbrev c-from-slice-known2 : tie.After-slice-known2 → tie.After-c
+c-from-slice-known2 c = c .before .before .before .before .before
+
+abbrev c3-from-slice-known3 : tie.After-slice-known3 → tie.After-c3
+c3-from-slice-known3 c = c .before .before .before .before .before
+
+abbrev c4-from-slice-known4 : tie.After-slice-known4 → tie.After-c4
+c4-from-slice-known4 c = c .before .before .before .before .before
+
+abbrev start-from-slice-known4 : tie.After-slice-known4 → tie.Start
+start-from-slice-known4 c = c4-from-slice-known4 c .before .before .before
+
+abbrev c5-from-slice-known5 : tie.After-slice-known5 → tie.After-c5
+c5-from-slice-known5 c = c .before .before .before .before .before
+
+abbrev start-from-slice-known5 : tie.After-slice-known5 → tie.Start
+start-from-slice-known5 c = c5-from-slice-known5 c .before .before .before
 
 enum-known-c : tie.Need-enum-known-c
 enum-known-c c = search needs
@@ -25,14 +51,14 @@ run-erase-requires c κs = search needs
 enum-known-c-4 : tie.Need-enum-known-c-4
 enum-known-c-4 c = search needs
 
-run-mark-requires : tie.Need-run-mark-requires
-run-mark-requires c κs = search needs
+run-remark-requires : tie.Need-run-remark-requires
+run-remark-requires c κs = search needs
 
 enum-known-c-5 : tie.Need-enum-known-c-5
 enum-known-c-5 c = search needs
 
-run-unmark-requires : tie.Need-run-unmark-requires
-run-unmark-requires c κs = search needs
+run-remark-requires-2 : tie.Need-run-remark-requires-2
+run-remark-requires-2 c κs = search needs
 
 enum-known-c-6 : tie.Need-enum-known-c-6
 enum-known-c-6 c = search needs
@@ -45,7 +71,7 @@ same-length c = search needs
 
 returns : tie.Need-returns
 returns c = (
-  (λ s. by-command s (c .before .before .before .before .before .c .given .1)
+  (λ s. by-command s (c-from-slice-known2 c .c .given .1)
       (c .before .before .run-store .ensures .0 s)),
   c .before .before .run-store .ensures .1,
 )
@@ -57,7 +83,7 @@ returns-2 : tie.Need-returns-2
 returns-2 c = (
   (λ s. by-command s (c .before .before .before .c2 .given .1)
       (leaves-words s _ (load-list (s .n) (s .list) _) (c .run-load .ensures s))),
-  c .before .before .before .before .before .before .pre .1,
+  start-from-run-load c .pre .1,
 )
 
 same-length-3 : tie.Need-same-length-3
@@ -65,7 +91,7 @@ same-length-3 c = search needs
 
 returns-3 : tie.Need-returns-3
 returns-3 c = (
-  (λ s. by-command s (c .before .before .before .before .before .c3 .given .1)
+  (λ s. by-command s (c3-from-slice-known3 c .c3 .given .1)
       (c .before .before .run-erase .ensures .0 s)),
   c .before .before .run-erase .ensures .1,
 )
@@ -75,9 +101,9 @@ same-length-4 c = search needs
 
 returns-4 : tie.Need-returns-4
 returns-4 c = (
-  (λ s. by-command s (c .before .before .before .before .before .c4 .given .1)
-      (c .before .before .run-mark .ensures .0 s)),
-  c .before .before .run-mark .ensures .1 _ (c .before .before .before .before .before .before .before .before .pre
+  (λ s. by-command s (c4-from-slice-known4 c .c4 .given .1)
+      (c .before .before .run-remark .ensures .0 s)),
+  c .before .before .run-remark .ensures .1 _ (start-from-slice-known4 c .pre
       .1),
 )
 
@@ -86,9 +112,9 @@ same-length-5 c = search needs
 
 returns-5 : tie.Need-returns-5
 returns-5 c = (
-  (λ s. by-command s (c .before .before .before .before .before .c5 .given .1)
-      (c .before .before .run-unmark .ensures .0 s)),
-  c .before .before .run-unmark .ensures .1 _ (c .before .before .before .before .before .before .before .before .pre
+  (λ s. by-command s (c5-from-slice-known5 c .c5 .given .1)
+      (c .before .before .run-remark2 .ensures .0 s)),
+  c .before .before .run-remark2 .ensures .1 _ (start-from-slice-known5 c .pre
       .1),
 )
 
@@ -99,7 +125,7 @@ returns-6 : tie.Need-returns-6
 returns-6 c = (
   (λ s. by-command s (c .before .before .before .c6 .given .1)
       (leaves-words s _ (find-list (s .n) (s .list) _ _ _ _) (c .run-find .ensures s))),
-  c .before .before .before .before .before .before .pre .1,
+  start-from-run-find c .pre .1,
 )
 
 pub execute-spec : {M : Type 1} → statement M
@@ -113,9 +139,9 @@ execute-spec =
     enum-known-c-3
     run-erase-requires
     enum-known-c-4
-    run-mark-requires
+    run-remark-requires
     enum-known-c-5
-    run-unmark-requires
+    run-remark-requires-2
     enum-known-c-6
     run-find-requires
     same-length

@@ -1,3 +1,4 @@
+-- `found_reply`: the reply by what a find came to.
 use mathlib.Core.Path.{sym, ap, _∙_}
 use Rattle.execute.specs.Execute.{finding}
 use borrow.Author.Needs.{needs}

@@ -1,3 +1,4 @@
+-- `is_storable`: an entry's word (R6).
 use borrow.Author.Tests.{ne-eqb}
 use Rattle.execute.proofs.is_storable.Statement.{statement}
 use Rattle.execute.proofs.is_storable.Tie as tie

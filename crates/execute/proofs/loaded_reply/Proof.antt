@@ -1,3 +1,4 @@
+-- `loaded_reply`: the reply by what a load came to.
 use mathlib.Core.Path.{sym, ap, _∙_}
 use Rattle.execute.specs.Contracts.{loadedReply}
 use borrow.Author.Needs.{needs}

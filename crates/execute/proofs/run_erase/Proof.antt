@@ -1,3 +1,4 @@
+-- `run_erase`: an erase, its reply and the words.
 use mathlib.Core.Path.{ap, _∙_}
 use Rattle.execute.specs.Contracts.{coveredReply}
 use Rattle.execute.proofs.ReplyLaws.{erases}

@@ -1,9 +1,17 @@
+-- `run_find`: a find, its reply; the words stay.
 use mathlib.Core.Path.{sym, ap, _∙_}
 use Rattle.execute.specs.Execute.{Executed, finding}
 use Rattle.execute.proofs.ReplyLaws.{find-mark, find-first, find-budget, find-runs}
 use borrow.Author.Needs.{needs}
 use Rattle.execute.proofs.run_find.Statement.{statement}
 use Rattle.execute.proofs.run_find.Tie as tie
+
+-- THE PLACES IN THE CODE, each from one after it
+abbrev start-from-else3 : tie.Else3 → tie.Start
+start-from-else3 c = c .before .before .before .before
+
+abbrev else1-from-found-reply : tie.After-found-reply → tie.Else1
+else1-from-found-reply c = c .before .before .before .before
 
 answered-requires : tie.Need-answered-requires
 answered-requires c κs = search needs
@@ -30,7 +38,7 @@ returns-3 c = λ s. c .answered3 .ensures
     (c .before .if3 .taken)))
 
 find-requires : tie.Need-find-requires
-find-requires c κs = (c .before .before .before .before .pre, c .before .before .if1 .left)
+find-requires c κs = (start-from-else3 c .pre, c .before .before .if1 .left)
 
 found-reply-requires : tie.Need-found-reply-requires
 found-reply-requires c κs = search needs
@@ -38,7 +46,7 @@ found-reply-requires c κs = search needs
 returns-4 : tie.Need-returns-4
 returns-4 c = λ s. c .found-reply .ensures ∙ ap (finding 134) (c .before .find .ensures s)
     ∙ sym (ap (λ (x : Executed). x .reply)
-    (find-runs (s .n) (s .list) _ _ _ _ (c .before .before .before .before .if1 .left)
+    (find-runs (s .n) (s .list) _ _ _ _ (else1-from-found-reply c .if1 .left)
     (c .before .before .before .if2 .left) (c .before .before .if3 .left)))
 
 pub run-find-spec : {M : Type 1} → statement M

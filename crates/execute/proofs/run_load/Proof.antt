@@ -1,3 +1,4 @@
+-- `run_load`: a load, its reply; the words stay.
 use mathlib.Core.Path.{sym, ap, _∙_}
 use Rattle.execute.specs.Execute.{Executed}
 use Rattle.execute.specs.Contracts.{loadedReply}

@@ -1,3 +1,4 @@
+-- `run_store`: a store, its tests in order, its reply and the words.
 use mathlib.Core.Path.{sym, subst, _∙_}
 use lib.Dec.{T}
 use Rattle.batch.specs.declared.Command.the-variants.{Store}
@@ -6,6 +7,22 @@ use Rattle.blocks.proofs.BoolLaws.{not-true, not-false}
 use borrow.Author.Needs.{needs}
 use Rattle.execute.proofs.run_store.Statement.{statement}
 use Rattle.execute.proofs.run_store.Tie as tie
+
+-- THE PLACES IN THE CODE, each from one after it
+abbrev start-from-answered2 : tie.After-answered2 → tie.Start
+start-from-answered2 c = c .before .before .before .before .before
+
+abbrev start-from-store-arg : tie.After-store-arg → tie.Start
+start-from-store-arg c = c .before .before .before .before .before
+
+abbrev else2-from-stored-reply : tie.After-stored-reply → tie.Else2
+else2-from-stored-reply c = c .before .before .before .before .before
+
+abbrev is-storable-from-stored-reply : tie.After-stored-reply → tie.After-is-storable
+is-storable-from-stored-reply c = else2-from-stored-reply c .before
+
+abbrev else1-from-stored-reply : tie.After-stored-reply → tie.Else1
+else1-from-stored-reply c = is-storable-from-stored-reply c .before
 
 answered-requires : tie.Need-answered-requires
 answered-requires c κs = search needs
@@ -29,17 +46,17 @@ returns-2 c = (
       (store-word (s .n) (s .list) _ _ _ (c .before .before .before .if1 .left)
       (sym (c .before .before .is-storable .ensures) ∙ not-true _ (c .before .if2 .taken)))
       (c .answered2 .ensures)),
-  c .before .before .before .before .before .pre .1,
+  start-from-answered2 c .pre .1,
 )
 
 store-requires : tie.Need-store-requires
 store-requires c κs = (
-  c .before .before .before .before .before .pre .0,
+  start-from-store-arg c .pre .0,
   (
     c .before .before .before .if1 .left,
     (
       subst T (sym (sym (c .before .before .is-storable .ensures) ∙ not-false _ (c .before .if2 .left))) tt,
-      c .before .before .before .before .before .pre .1,
+      start-from-store-arg c .pre .1,
     ),
   ),
 )
@@ -52,9 +69,9 @@ same-length c = search needs
 
 returns-3 : tie.Need-returns-3
 returns-3 c = (
-  (λ s. stores s _ _ _ (c .before .before .before .before .before .before .before .if1 .left)
-      (sym (c .before .before .before .before .before .before .is-storable .ensures) ∙ not-false _
-      (c .before .before .before .before .before .if2 .left))
+  (λ s. stores s _ _ _ (else1-from-stored-reply c .if1 .left)
+      (sym (is-storable-from-stored-reply c .is-storable .ensures) ∙ not-false _
+      (else2-from-stored-reply c .if2 .left))
       (c .before .before .before .store .ensures .0 s) (c .stored-reply .ensures)),
   c .before .before .before .store .ensures .1,
 )

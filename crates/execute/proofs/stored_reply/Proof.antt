@@ -1,3 +1,4 @@
+-- `stored_reply`: the reply by what a store came to.
 use mathlib.Core.Path.{sym, ap, _∙_}
 use Rattle.execute.specs.Contracts.{storedReply}
 use borrow.Author.Needs.{needs}

@@ -1,3 +1,4 @@
+-- `fill`: x at place a and the next, n in all.
 use Prim.Native.Nat.{ℕ, suc, _+_, _-_, _≤_}
 use mathlib.Core.Path.{_≡_, refl}
 use native.Mathlib.Omega.{arith}

@@ -1,3 +1,4 @@
+-- `pow2`: 2 to the power j.
 use borrow.Author.Needs.{needs}
 use lib.Pow.{pow-lt}
 use native.Mathlib.Nat.{mod-eq-of-lt, one-mul}

@@ -1,3 +1,4 @@
+-- `read_slot`: what the word of a slot says, case by case.
 use mathlib.Core.Path.{sym, ap, _∙_}
 use native.Mathlib.Omega.{arith}
 use Rattle.layout.specs.Pool.{slotOf}

@@ -1,3 +1,4 @@
+-- `sibling_bit`: 1 for the word of a sibling slot, else 0.
 use mathlib.Core.Path.{sym}
 use native.Mathlib.Omega.{arith}
 use Rattle.layout.proofs.SlotWordLaws.{sibling-bit-0, sibling-bit-1}

@@ -1,4 +1,6 @@
-use Prim.Native.Nat.{ℕ, suc, _+_, _-_, _/_, _%_}
+-- `climb`: mark m of the entry that stands at a spot, and of each slot that leads to it, by owner words as long as
+-- one changes: a slot above keeps the mark while any slot of the node below has it.
+use Prim.Native.Nat.{ℕ, suc, _-_, _/_, _%_}
 use mathlib.Core.Path.{_≡_, sym, ap, _∙_}
 use mathlib.Core.List.{List}
 use mathlib.Core.Bool.{not}
@@ -9,7 +11,7 @@ use lib.ListN.{getD, set}
 use lib.Seq.{getD-set-same}
 use Rattle.blocks.specs.Blocks.{setBit}
 use Rattle.tree.specs.Tree.{slots, topTier}
-use Rattle.layout.specs.Words.{place, markField}
+use Rattle.layout.specs.Words.{markPlace}
 use Rattle.layout.specs.WellFormed.{WellFormed, num}
 use Rattle.lookup.specs.Views.{Holds}
 use Rattle.marks.proofs.HybridLaws.{
@@ -32,6 +34,37 @@ Inv-loop pool₀ i m on n₀ v₀ o₀ b₀ pool n v o b =
 abbrev μ-loop : tie.MeasureT-loop
 μ-loop pool₀ i m on n₀ v₀ o₀ b₀ pool n v o b = topTier - v
 
+-- THE PLACES IN THE CODE, each from one after it
+abbrev loop-from-then1 : tie.Then1 Inv-loop μ-loop → tie.At-loop Inv-loop μ-loop
+loop-from-then1 c = c .before .before .before .before
+
+abbrev start-from-then1 : tie.Then1 Inv-loop μ-loop → tie.Start Inv-loop μ-loop
+start-from-then1 c = loop-from-then1 c .before .before
+
+abbrev loop-from-put-mark-word : tie.After-put-mark-word Inv-loop μ-loop → tie.At-loop Inv-loop μ-loop
+loop-from-put-mark-word c = c .before .before .before .before .before .before
+
+abbrev start-from-put-mark-word : tie.After-put-mark-word Inv-loop μ-loop → tie.Start Inv-loop μ-loop
+start-from-put-mark-word c = loop-from-put-mark-word c .before .before
+
+abbrev put-mark-word-from-owner-of-arg : tie.After-owner-of-arg Inv-loop μ-loop → tie.After-put-mark-word Inv-loop μ-loop
+put-mark-word-from-owner-of-arg c = c .before .before .before .before
+
+abbrev put-mark-word-from-mark-anchor-arg : tie.After-mark-anchor-arg Inv-loop μ-loop → tie.After-put-mark-word Inv-loop μ-loop
+put-mark-word-from-mark-anchor-arg c = c .before .before .before .before .before .before .before
+
+abbrev then2-from-slice-known3 : tie.After-slice-known3 Inv-loop μ-loop → tie.Then2 Inv-loop μ-loop
+then2-from-slice-known3 c = c .before .before .before .before
+
+abbrev owner-of-from-slice-known3 : tie.After-slice-known3 Inv-loop μ-loop → tie.After-owner-of Inv-loop μ-loop
+owner-of-from-slice-known3 c = then2-from-slice-known3 c .before
+
+abbrev owner-of-arg-from-slice-known3 : tie.After-slice-known3 Inv-loop μ-loop → tie.After-owner-of-arg Inv-loop μ-loop
+owner-of-arg-from-slice-known3 c = owner-of-from-slice-known3 c .before
+
+abbrev put-mark-word-from-slice-known3 : tie.After-slice-known3 Inv-loop μ-loop → tie.After-put-mark-word Inv-loop μ-loop
+put-mark-word-from-slice-known3 c = owner-of-arg-from-slice-known3 c .before .before .before .before
+
 loop-holds : tie.Need-loop-holds Inv-loop μ-loop
 loop-holds c = let h = c .before .pre .1 in
     let m< = c .before .pre .0 in (
@@ -39,37 +72,31 @@ loop-holds c = let h = c .before .pre .1 in
       λ s k. climb-start s m< k,
     )
 
-add-field : tie.Need-add-field Inv-loop μ-loop
-add-field c = omega arith
-
-field-requires : tie.Need-field-requires Inv-loop μ-loop
-field-requires c κs = omega arith
+mark-word-requires : tie.Need-mark-word-requires Inv-loop μ-loop
+mark-word-requires c κs = omega arith
 
 with-bit-requires : tie.Need-with-bit-requires Inv-loop μ-loop
 with-bit-requires c κs = omega arith
 
 same-length : tie.Need-same-length Inv-loop μ-loop
-same-length c = c .before .before .before .before .loop .inv .0 .same
+same-length c = loop-from-then1 c .loop .inv .0 .same
 
 returns : tie.Need-returns Inv-loop μ-loop
 returns c = λ s h.
-    climb-stop s (c .before .before .before .before .before .before .pre .0)
-    (c .before .before .before .before .loop .inv .1 s h)
-    (sym (c .before .with-bit .ensures ∙ ap (setBit (c .before .before .before .before .loop .o)
-    (c .before .before .before .before .loop .b)) (c .before .before .field .ensures)) ∙
-    (c .if1 .taken ∙ c .before .before .field .ensures))
+    climb-stop s (start-from-then1 c .pre .0)
+    (loop-from-then1 c .loop .inv .1 s h)
+    (sym (c .before .with-bit .ensures ∙ ap (setBit (loop-from-then1 c .loop .o)
+    (loop-from-then1 c .loop .b)) (c .before .before .mark-word .ensures)) ∙
+    (c .if1 .taken ∙ c .before .before .mark-word .ensures))
 
-add-put : tie.Need-add-put Inv-loop μ-loop
-add-put c = omega arith
-
-put-requires : tie.Need-put-requires Inv-loop μ-loop
-put-requires c κs = omega arith
+put-mark-word-requires : tie.Need-put-mark-word-requires Inv-loop μ-loop
+put-mark-word-requires c κs = omega arith
 
 nonzero-requires : tie.Need-nonzero-requires Inv-loop μ-loop
 nonzero-requires c κs = tt
 
-field-requires-2 : tie.Need-field-requires-2 Inv-loop μ-loop
-field-requires-2 c κs = let k = c .before .before .before .before .put .kept .0 in omega arith
+owner-of-requires : tie.Need-owner-of-requires Inv-loop μ-loop
+owner-of-requires c κs = let k = put-mark-word-from-owner-of-arg c .put-mark-word .kept .0 in omega arith
 
 sub-n : tie.Need-sub-n Inv-loop μ-loop
 sub-n c = omega arith
@@ -81,33 +108,32 @@ add-v : tie.Need-add-v Inv-loop μ-loop
 add-v c = omega arith
 
 -- where the mark word stands
-abbrev word-at : tie.After-field-arg2 Inv-loop μ-loop → ℕ
-word-at c = place (c .before .before .before .before .before .before .before .before .before .before .loop .n)
-    (markField + c .before .before .before .before .before .before .before .before .before .before .before .before
+abbrev word-at : tie.After-owner-of-arg Inv-loop μ-loop → ℕ
+word-at c = markPlace (c .before .before .before .before .before .before .before .before .before .before .loop .n) (c .before .before .before .before .before .before .before .before .before .before .before .before
     .args .m)
 
 -- the mark word after the store, and the bit that goes up
-stored : (c : tie.After-field-arg2 Inv-loop μ-loop) → c .before .before .before .before .put .last .0 ≡
+stored : (c : tie.After-owner-of-arg Inv-loop μ-loop) → c .before .before .before .before .put-mark-word .last .0 ≡
     set (c .before .before .before .before .before .before .before .before .before .before .loop .pool) (word-at c)
     (setBit (c .before .before .before .before .before .before .before .before .before .before .loop .o)
     (c .before .before .before .before .before .before .before .before .before .before .loop .b)
     (getD (c .before .before .before .before .before .before .before .before .before .before .loop .pool)
     (word-at c) 0))
 stored c =
-    c .before .before .before .before .put .ensures ∙
+    c .before .before .before .before .put-mark-word .ensures ∙
     ap (set (c .before .before .before .before .before .before .before .before .before .before .loop .pool)
     (word-at c))
     (c .before .before .before .before .before .before .before .with-bit .ensures ∙ ap
     (setBit (c .before .before .before .before .before .before .before .before .before .before .loop .o)
     (c .before .before .before .before .before .before .before .before .before .before .loop .b))
-    (c .before .before .before .before .before .before .before .before .field .ensures))
+    (c .before .before .before .before .before .before .before .before .mark-word .ensures))
 
-bit-of : (c : tie.After-field-arg2 Inv-loop μ-loop) →
-    c .before .nonzero .result ≡ not (eqb (getD (c .before .before .before .before .put .last .0) (word-at c) 0) 0)
+bit-of : (c : tie.After-owner-of-arg Inv-loop μ-loop) →
+    c .before .nonzero .result ≡ not (eqb (getD (c .before .before .before .before .put-mark-word .last .0) (word-at c) 0) 0)
 bit-of c =
-    let e : getD (c .before .before .before .before .put .last .0) (word-at c) 0 ≡ c .before .before .before .before
+    let e : getD (c .before .before .before .before .put-mark-word .last .0) (word-at c) 0 ≡ c .before .before .before .before
     .before .before .before .with-bit .result =
-    ap (λ (w : List ℕ). getD w (word-at c) 0) (c .before .before .before .before .put .ensures) ∙
+    ap (λ (w : List ℕ). getD w (word-at c) 0) (c .before .before .before .before .put-mark-word .ensures) ∙
     getD-set-same (c .before .before .before .before .before .before .before .before .before .before .loop .pool)
     (word-at c) (c .before .before .before .before .before .before .before .with-bit .result) 0
     (omega (
@@ -132,21 +158,21 @@ next : (c : tie.Else2 Inv-loop μ-loop) (s : WellFormed
     .before .before .before .before .before .before .args .on)
     (suc (c .before .before .before .before .before .before .before .before .before .before .before .before .loop
     .v))
-    ((c .before .field2 .result - 1) / slots) ((c .before .field2 .result - 1) % slots)
-    (c .before .before .before .nonzero .result) (c .before .before .before .before .before .before .put .last .0)
+    ((c .before .owner-of .result - 1) / slots) ((c .before .owner-of .result - 1) % slots)
+    (c .before .before .before .nonzero .result) (c .before .before .before .before .before .before .put-mark-word .last .0)
 next c s h =
     climb-next s (c .before .before .before .before .before .before .before .before .before .before .before .before
     .before .before .pre .0) (c .before .before .before .before .before .before .before .before .before .before
     .before .before .loop .inv .1 s h) (stored (c .before .before)) (bit-of (c .before .before))
-    (c .before .field2 .ensures)
+    (c .before .owner-of .ensures)
     (c .if2 .left)
 
 bounds : (c : tie.Else2 Inv-loop μ-loop) →
     Bounds (c .before .before .before .before .before .before .before .before .before .before .before .before .before
-    .before .args .pool .now) (c .before .before .before .before .before .before .put .last .0)
-    ((c .before .field2 .result - 1) / slots) (suc
+    .before .args .pool .now) (c .before .before .before .before .before .before .put-mark-word .last .0)
+    ((c .before .owner-of .result - 1) / slots) (suc
     (c .before .before .before .before .before .before .before .before .before .before .before .before .loop .v))
-    ((c .before .field2 .result - 1) % slots)
+    ((c .before .owner-of .result - 1) % slots)
 bounds c = let h = c .before .before .before .before .before .before .before .before .before .before .before .before
     .before .before .pre .1 in climb-bounds (h .formed)
     (c .before .before .before .before .before .before .before .before .before .before .before .before .before .before
@@ -159,28 +185,23 @@ loop-again : tie.Need-loop-again Inv-loop μ-loop
 loop-again c = rw add-one (bounds c, λ s h. next c s h)
 
 mark-anchor-requires : tie.Need-mark-anchor-requires Inv-loop μ-loop
-mark-anchor-requires c κs = let k = c .before .before .before .before .before .before .before .put .kept .0 in (
+mark-anchor-requires c κs = let k = put-mark-word-from-mark-anchor-arg c .put-mark-word .kept .0 in (
   omega arith,
-  c .before .before .before .before .before .before .before .before .before .before .before .before
-      .before .before .before .pre .0,
+  start-from-put-mark-word (put-mark-word-from-mark-anchor-arg c) .pre .0,
 )
 
 same-length-2 : tie.Need-same-length-2 Inv-loop μ-loop
 same-length-2 c = c .before .before .mark-anchor .kept .0 ∙
-    (c .before .before .before .before .before .before .before .before .before .before .put .kept .0 ∙ c .before
-    .before .before .before .before .before .before .before .before .before .before .before .before .before .before
-    .before .loop .inv .0 .same)
+    (put-mark-word-from-slice-known3 c .put-mark-word .kept .0 ∙ loop-from-put-mark-word (put-mark-word-from-slice-known3 c) .loop .inv .0 .same)
 
 returns-2 : tie.Need-returns-2 Inv-loop μ-loop
 returns-2 c = λ s h.
     c .before .before .mark-anchor .ensures ∙
-    climb-end s (c .before .before .before .before .before .before .before .before .before .before .before .before
-    .before .before .before .before .before .before .pre .0)
-    (c .before .before .before .before .before .before .before .before .before .before .before .before .before
-    .before .before .before .loop .inv .1 s h) (stored (c .before .before .before .before .before .before))
-    (bit-of (c .before .before .before .before .before .before))
-    (c .before .before .before .before .before .field2 .ensures)
-    (c .before .before .before .before .if2 .taken)
+    climb-end s (start-from-put-mark-word (put-mark-word-from-slice-known3 c) .pre .0)
+    (loop-from-put-mark-word (put-mark-word-from-slice-known3 c) .loop .inv .1 s h) (stored (owner-of-arg-from-slice-known3 c))
+    (bit-of (owner-of-arg-from-slice-known3 c))
+    (owner-of-from-slice-known3 c .owner-of .ensures)
+    (then2-from-slice-known3 c .if2 .taken)
 
 pub climb-spec : {M : Type 1} → statement M
 climb-spec =
@@ -189,15 +210,13 @@ climb-spec =
     Inv-loop
     μ-loop
     loop-holds
-    add-field
-    field-requires
+    mark-word-requires
     with-bit-requires
     same-length
     returns
-    add-put
-    put-requires
+    put-mark-word-requires
     nonzero-requires
-    field-requires-2
+    owner-of-requires
     sub-n
     sub-o
     add-v

@@ -1,3 +1,4 @@
+-- `mark_anchor`: mark m of the anchor, set or cleared.
 use mathlib.Core.Path.{refl}
 use borrow.Author.Needs.{needs}
 use Rattle.marks.proofs.mark_anchor.Statement.{statement}

@@ -1,3 +1,4 @@
+-- `remarked`: the entry with mark m set or cleared.
 use mathlib.Core.Path.{refl}
 use borrow.Author.Needs.{needs}
 use Rattle.marks.proofs.remarked.Statement.{statement}

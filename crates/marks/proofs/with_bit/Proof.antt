@@ -1,3 +1,4 @@
+-- `with_bit`: w with bit j set or cleared.
 use mathlib.Core.Path.{_≡_, sym, _∙_}
 use mathlib.Core.Bool.{true, false}
 use native.Mathlib.Omega.{arith}

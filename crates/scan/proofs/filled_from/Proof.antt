@@ -1,3 +1,4 @@
+-- `filled_from`: a word whose bit j says whether slot from + j of node n is filled, for 16 slots.
 use Prim.Native.Nat.{ℕ, _-_, _≤_}
 use mathlib.Core.Path.{_∙_, ap}
 use native.Mathlib.Omega.{arith}
@@ -20,23 +21,20 @@ loop-holds c = told-start _ _ _
 mul-f : tie.Need-mul-f Inv-loop μ-loop
 mul-f c = omega (arith, told-small _ _ _ _ _ (c .before .loop .inv) (omega arith))
 
-sub-field : tie.Need-sub-field Inv-loop μ-loop
-sub-field c = omega arith
+sub-slot-word : tie.Need-sub-slot-word Inv-loop μ-loop
+sub-slot-word c = omega arith
 
-add-field : tie.Need-add-field Inv-loop μ-loop
-add-field c = omega arith
+add-slot-word : tie.Need-add-slot-word Inv-loop μ-loop
+add-slot-word c = omega arith
 
-add-field-2 : tie.Need-add-field-2 Inv-loop μ-loop
-add-field-2 c = omega arith
-
-field-requires : tie.Need-field-requires Inv-loop μ-loop
-field-requires c κs = omega arith
+slot-word-requires : tie.Need-slot-word-requires Inv-loop μ-loop
+slot-word-requires c κs = omega arith
 
 is-zero-requires : tie.Need-is-zero-requires Inv-loop μ-loop
 is-zero-requires c κs = omega arith
 
 sub-f : tie.Need-sub-f Inv-loop μ-loop
-sub-f c = let b : c .is-zero .result ≤ 1 = zero-one (c .before .field .result) _ (c .is-zero .ensures) in
+sub-f c = let b : c .is-zero .result ≤ 1 = zero-one (c .before .slot-word .result) _ (c .is-zero .ensures) in
     omega (arith, b, c .before .before .before .loop .inv .some)
 
 add-t : tie.Need-add-t Inv-loop μ-loop
@@ -47,7 +45,7 @@ loop-less c = omega arith
 
 loop-again : tie.Need-loop-again Inv-loop μ-loop
 loop-again c = told-next _ _ _ _ _ _ (c .before .before .before .loop .inv) (omega arith)
-    (c .is-zero .ensures ∙ ap (λ (w : ℕ). pick (eqb w 0) 1 0) (c .before .field .ensures))
+    (c .is-zero .ensures ∙ ap (λ (w : ℕ). pick (eqb w 0) 1 0) (c .before .slot-word .ensures))
 
 sub-result : tie.Need-sub-result Inv-loop μ-loop
 sub-result c = omega (arith, c .before .loop .inv .some)
@@ -63,10 +61,9 @@ filled-from-spec =
     μ-loop
     loop-holds
     mul-f
-    sub-field
-    add-field
-    add-field-2
-    field-requires
+    sub-slot-word
+    add-slot-word
+    slot-word-requires
     is-zero-requires
     sub-f
     add-t

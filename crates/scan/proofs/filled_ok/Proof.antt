@@ -1,3 +1,4 @@
+-- `filled_ok`: whether the slots of node n are as they must be, from one filled slot to the next.
 use native.Mathlib.Omega.{arith}
 use Prim.Native.Nat.{_-_}
 use Rattle.tree.specs.Tree.{slots}
@@ -13,6 +14,40 @@ Inv-loop pool n v m f j₀ j = Gone (poolOf pool) n v j
 
 abbrev μ-loop : tie.MeasureT-loop
 μ-loop pool n v m f j₀ j = slots - j
+
+-- THE PLACES IN THE CODE, each from one after it
+abbrev start-from-else1 : tie.Else1 Inv-loop μ-loop → tie.Start Inv-loop μ-loop
+start-from-else1 c = c .before .before .before .before
+
+abbrev else1-from-else2 : tie.Else2 Inv-loop μ-loop → tie.Else1 Inv-loop μ-loop
+else1-from-else2 c = c .before .before .before .before
+
+abbrev filled-slots-from-else2 : tie.Else2 Inv-loop μ-loop → tie.After-filled-slots Inv-loop μ-loop
+filled-slots-from-else2 c = else1-from-else2 c .before
+
+abbrev all-marks-from-else2 : tie.Else2 Inv-loop μ-loop → tie.After-all-marks Inv-loop μ-loop
+all-marks-from-else2 c = filled-slots-from-else2 c .before
+
+abbrev else1-from-then2 : tie.Then2 Inv-loop μ-loop → tie.Else1 Inv-loop μ-loop
+else1-from-then2 c = c .before .before .before .before
+
+abbrev filled-slots-from-then2 : tie.Then2 Inv-loop μ-loop → tie.After-filled-slots Inv-loop μ-loop
+filled-slots-from-then2 c = else1-from-then2 c .before
+
+abbrev all-marks-from-then2 : tie.Then2 Inv-loop μ-loop → tie.After-all-marks Inv-loop μ-loop
+all-marks-from-then2 c = filled-slots-from-then2 c .before
+
+abbrev loop-from-else3 : tie.Else3 Inv-loop μ-loop → tie.At-loop Inv-loop μ-loop
+loop-from-else3 c = c .before .before .before .before .before
+
+abbrev else1-from-else3 : tie.Else3 Inv-loop μ-loop → tie.Else1 Inv-loop μ-loop
+else1-from-else3 c = loop-from-else3 c .before
+
+abbrev filled-slots-from-else3 : tie.Else3 Inv-loop μ-loop → tie.After-filled-slots Inv-loop μ-loop
+filled-slots-from-else3 c = else1-from-else3 c .before
+
+abbrev all-marks-from-else3 : tie.Else3 Inv-loop μ-loop → tie.After-all-marks Inv-loop μ-loop
+all-marks-from-else3 c = filled-slots-from-else3 c .before
 
 all-marks-requires : tie.Need-all-marks-requires Inv-loop μ-loop
 all-marks-requires c κs = omega arith
@@ -31,14 +66,14 @@ next-marked-requires : tie.Need-next-marked-requires Inv-loop μ-loop
 next-marked-requires c κs = omega arith
 
 returns-2 : tie.Need-returns-2 Inv-loop μ-loop
-returns-2 c = let g = gone-past _ _ _ _ _ (c .before .before .before .before .before .filled-slots .ensures) (c .before .before .before .before .before .before .all-marks .ensures) _ _ (c .before .before .before .loop .inv)
-    (among-clear _ _ (omega arith) (c .before .before .before .before .if1 .left)) (c .before .next-marked .ensures) in
+returns-2 c = let g = gone-past _ _ _ _ _ (filled-slots-from-then2 c .filled-slots .ensures) (all-marks-from-then2 c .all-marks .ensures) _ _ (c .before .before .before .loop .inv)
+    (among-clear _ _ (omega arith) (else1-from-then2 c .if1 .left)) (c .before .next-marked .ensures) in
     yes! (λ j lt. g .ok j (omega arith))
 
 step-requires : tie.Need-step-requires Inv-loop μ-loop
-step-requires c κs = let g = gone-past _ _ _ _ _ (c .before .before .before .before .before .filled-slots .ensures) (c .before .before .before .before .before .before .all-marks .ensures) _ _ (c .before .before .before .loop .inv)
-    (among-clear _ _ (omega arith) (c .before .before .before .before .if1 .left)) (c .before .next-marked .ensures) in
-    (c .before .before .before .before .before .before .before .before .pre .0, ((omega (arith, g .inside), omega arith), (c .before .before .before .before .before .before .all-marks .ensures, g .past)))
+step-requires c κs = let g = gone-past _ _ _ _ _ (filled-slots-from-else2 c .filled-slots .ensures) (all-marks-from-else2 c .all-marks .ensures) _ _ (c .before .before .before .loop .inv)
+    (among-clear _ _ (omega arith) (else1-from-else2 c .if1 .left)) (c .before .next-marked .ensures) in
+    (start-from-else1 (else1-from-else2 c) .pre .0, ((omega (arith, g .inside), omega arith), (all-marks-from-else2 c .all-marks .ensures, g .past)))
 
 returns-3 : tie.Need-returns-3 Inv-loop μ-loop
 returns-3 c = no! (c .before .step .ensures .bad (c .if3 .taken))
@@ -50,8 +85,8 @@ loop-less : tie.Need-loop-less Inv-loop μ-loop
 loop-less c = omega (arith, c .before .step .ensures .inside, c .before .before .before .next-marked .ensures .past)
 
 loop-again : tie.Need-loop-again Inv-loop μ-loop
-loop-again c = let g = gone-past _ _ _ _ _ (c .before .before .before .before .before .before .before .filled-slots .ensures) (c .before .before .before .before .before .before .before .before .all-marks .ensures) _ _ (c .before .before .before .before .before .loop .inv)
-    (among-clear _ _ (omega arith) (c .before .before .before .before .before .before .if1 .left)) (c .before .before .before .next-marked .ensures) in
+loop-again c = let g = gone-past _ _ _ _ _ (filled-slots-from-else3 c .filled-slots .ensures) (all-marks-from-else3 c .all-marks .ensures) _ _ (loop-from-else3 c .loop .inv)
+    (among-clear _ _ (omega arith) (else1-from-else3 c .if1 .left)) (c .before .before .before .next-marked .ensures) in
     gone-on _ _ _ _ _ g (c .before .step .ensures) (c .if3 .left)
 
 returns-4 : tie.Need-returns-4 Inv-loop μ-loop

@@ -1,3 +1,4 @@
+-- `filled_slots`: a word whose bit j says whether slot j of node n is filled.
 use native.Mathlib.Omega.{arith}
 use Rattle.scan.proofs.FilledLaws.{joined}
 use Rattle.scan.proofs.filled_slots.Statement.{statement}

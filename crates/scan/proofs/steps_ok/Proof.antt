@@ -1,3 +1,4 @@
+-- `steps_ok`: whether the slots of node n are as they must be, from step to step.
 use native.Mathlib.Omega.{arith}
 use Prim.Native.Nat.{_-_}
 use Rattle.tree.specs.Tree.{slots}
@@ -13,6 +14,10 @@ Inv-loop pool n v m j₀ j = Gone (poolOf pool) n v j
 abbrev μ-loop : tie.MeasureT-loop
 μ-loop pool n v m j₀ j = slots - j
 
+-- THE PLACES IN THE CODE, each from one after it
+abbrev start-from-in-loop : tie.In-loop Inv-loop μ-loop → tie.Start Inv-loop μ-loop
+start-from-in-loop c = c .before .before .before .before
+
 all-marks-requires : tie.Need-all-marks-requires Inv-loop μ-loop
 all-marks-requires c κs = omega arith
 
@@ -20,7 +25,7 @@ loop-holds : tie.Need-loop-holds Inv-loop μ-loop
 loop-holds c = gone-start _ _ _
 
 step-requires : tie.Need-step-requires Inv-loop μ-loop
-step-requires c κs = (c .before .before .before .before .pre .0, ((omega arith, omega arith), (c .before .before .all-marks .ensures, c .before .loop .inv .past)))
+step-requires c κs = (start-from-in-loop c .pre .0, ((omega arith, omega arith), (c .before .before .all-marks .ensures, c .before .loop .inv .past)))
 
 returns : tie.Need-returns Inv-loop μ-loop
 returns c = no! (c .before .step .ensures .bad (c .if1 .taken))

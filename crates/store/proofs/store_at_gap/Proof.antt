@@ -1,76 +1,116 @@
-use Prim.Native.Nat.{_/_}
-use mathlib.Core.Path.{_≡_}
+-- The slots alone by the laws of AtGap, or one of the other ways.
+use Prim.Native.Nat.{ℕ, _+_, _/_, _<_}
+use mathlib.Core.Path.{_≡_, ap, subst, _∙_}
 use native.Mathlib.Omega.{arith}
+use lib.ListN.{length, getD}
 use Rattle.blocks.proofs.BoolLaws.{not-false}
+use Rattle.tree.specs.Tree.{slotBits}
+use Rattle.layout.specs.Words.{lastPlace, slotPlace}
 use Rattle.lookup.proofs.WordLaws.{node-fits}
+use Rattle.write.specs.declared.Seat.{Seat}
+use Rattle.write.specs.Writes.{entered}
 use Rattle.store.proofs.AtGap.{slots-done, slots-used}
 use borrow.Author.Needs.{needs}
 use Rattle.store.proofs.store_at_gap.Statement.{statement}
 use Rattle.store.proofs.store_at_gap.Tie as tie
 
+-- THE PLACES IN THE CODE, each from one after it
+abbrev start : tie.Else2 → tie.Start
+start c = c .before .before .before .before
+
+abbrev seat : tie.After-vacant → tie.After-seat-of
+seat c = c .before .before .before
+
+abbrev asked : tie.After-enter → tie.After-vacant
+asked c = c .before .before .before
+
+abbrev entered-at : tie.After-slice-known5 → tie.After-enter
+entered-at c = c .before .before
+
+abbrev start-below : tie.After-store-below-arg → tie.Start
+start-below c = c .before .before .before .before
+
+abbrev below : tie.After-slice-known2 → tie.After-store-below
+below c = c .before .before
+
+abbrev start-new : tie.After-store-new-arg → tie.Start
+start-new c = c .before .before .before .before .before
+
+abbrev new : tie.After-slice-known3 → tie.After-store-new
+new c = c .before .before
+
+abbrev new-2 : tie.After-slice-known4 → tie.After-store-new2
+new-2 c = c .before .before
+
+-- the entry's node is one of the pool's
+node-ok : (c : tie.After-seat-of) → lastPlace (c .seat-of .result .node) < length (start (c .before) .args .pool .now)
+node-ok c = let p = start (c .before) .pre in omega (
+  arith,
+  ap (λ (e : Seat). e .node) (c .seat-of .ensures .0),
+  node-fits (p .0) (p .1 .1 .1 (p .0) .at-node) .0,
+)
+
 store-below-requires : tie.Need-store-below-requires
-store-below-requires c κs = search needs
+store-below-requires c κs = let p = start-below c .pre in
+    (p .0, (p .1 .0, ((c .before .if1 .taken, p .1 .1 .0), p .1 .1 .1)))
 
 same-length : tie.Need-same-length
 same-length c = search needs
 
 returns : tie.Need-returns
-returns c = search needs
+returns c = below c .store-below .ensures
 
 store-new-requires : tie.Need-store-new-requires
-store-new-requires c κs = let p = c .before .before .before .before .pre in (p .0, (p .1 .0, λ s. p .1 .1 .1 s .new))
+store-new-requires c κs = let p = start-new c .pre in (p .0, (p .1 .0, λ s. p .1 .1 .1 s .new))
 
 same-length-2 : tie.Need-same-length-2
 same-length-2 c = search needs
 
 returns-2 : tie.Need-returns-2
-returns-2 c = search needs
+returns-2 c = new c .store-new .ensures
 
-span-of-requires : tie.Need-span-of-requires
-span-of-requires c κs = search needs
+seat-of-requires : tie.Need-seat-of-requires
+seat-of-requires c κs = start c .pre .1 .0 .0 .order-le
 
-offset-of-requires : tie.Need-offset-of-requires
-offset-of-requires c κs = search needs
+add-vacant : tie.Need-add-vacant
+add-vacant c = omega (arith, c .before .before .seat-of .ensures .1 .0)
 
-all-empty-requires : tie.Need-all-empty-requires
-all-empty-requires c κs = let p = c .before .before .before .before .before .before .pre in (
-  node-fits (p .0) (p .1 .1 .1 (p .0) .at-node) .0,
-  omega (arith, c .before .offset-of .ensures .1, c .before .before .span-of .ensures .0),
-)
+vacant-requires : tie.Need-vacant-requires
+vacant-requires c κs = let x = c .before .before in (node-ok x, (omega arith, omega (arith, x .seat-of .ensures .1 .0)))
 
 store-new-requires-2 : tie.Need-store-new-requires-2
-store-new-requires-2 c κs = let p = c .before .before .before .before .before .before .before .before .before .pre in (p .0, (p .1 .0, λ s. p .1 .1 .1 s .new))
+store-new-requires-2 c κs = let p = start (seat (c .before .before) .before) .pre in (p .0, (p .1 .0, λ s. p .1 .1 .1 s .new))
 
 same-length-3 : tie.Need-same-length-3
 same-length-3 c = search needs
 
 returns-3 : tie.Need-returns-3
-returns-3 c = search needs
+returns-3 c = new-2 c .store-new2 .ensures
 
 enter-requires : tie.Need-enter-requires
-enter-requires c κs = let p = c .before .before .before .before .before .before .before .before .before .pre in (
-  node-fits (p .0) (p .1 .1 .1 (p .0) .at-node) .0,
-  (omega (arith, c .before .before .before .before .offset-of .ensures .1, c .before .before .before .before .before .span-of .ensures .0), omega (arith, c .before .before .before .before .before .span-of .ensures .1)),
-)
+enter-requires c κs = let x = seat (c .before .before) in
+    (node-ok x, (x .seat-of .ensures .1 .0, x .seat-of .ensures .1 .1))
 
 entry-of-requires : tie.Need-entry-of-requires
-entry-of-requires c κs = search needs
+entry-of-requires c κs = start (seat (asked (entered-at c)) .before) .pre .1 .0 .0 .order-le
 
 same-length-4 : tie.Need-same-length-4
 same-length-4 c = search needs
 
 returns-4 : tie.Need-returns-4
-returns-4 c = let a = c .before .before .before .before .before .before .before .before .before .before .before .before .before .args in let p = c .before .before .before .before .before .before .before .before .before .before .before .before .before .pre in
-    let f = c .before .before .before .before .before .before .before .before .before .before .before .before .before .fits in
-    let tier-is : a .order / 6 ≡ a .u = omega (arith, c .before .before .before .before .before .before .before .before .before .before .if2 .left, c .before .before .before .before .before .before .before .before .before .before .before .if1 .left) in
-    let o-is = c .before .before .before .before .before .before .before .before .offset-of .ensures .0 in
-    let c-is = c .before .before .before .before .before .before .before .before .before .span-of .ensures .0 in
-    let empty = c .before .before .before .before .before .before .all-empty .ensures (not-false _ (c .before .before .before .before .before .if3 .left)) in
-    let entered = c .before .before .before .enter .ensures in (
-      λ s. slots-done s (a .index) (a .order) (a .word) (a .u) (a .a) _ _ (f .index .fits) (p .1 .0 .0) (p .1 .1 .1 s)
-          tier-is o-is c-is empty (c .entry-of .ensures) entered,
-      slots-used (p .0) (a .index) (a .order) (a .word) (a .u) (a .a) _ _ (f .index .fits) (p .1 .0 .0) (p .1 .1 .1 (p .0))
-          tier-is o-is c-is empty (p .1 .0 .1) (f .word .fits) (p .1 .0 .2) entered,
+returns-4 c = let n = entered-at (c .before) in let y = asked n in let x = seat y in let z = start (x .before) in
+    let a = z .args in let p = z .pre in
+    let t = a .target in let g = p .1 .0 .0 in let q = x .seat-of .ensures .0 in
+    let tier-is : t .order / slotBits ≡ a .u = omega (arith, x .before .before .if1 .left, x .before .if2 .left) in
+    let r : Seat = x .seat-of .result in
+    let none = subst (λ (e : Seat). (j : ℕ) → j < e .count → getD (a .pool .now) (slotPlace (e .node) (e .slot + j)) 0 ≡ 0) q
+    (λ j lt. y .vacant .ensures .0 (not-false _ (n .before .before .if3 .left)) (r .slot + j) (omega arith) (omega arith)) in
+    let words = n .enter .ensures ∙ ap (λ (e : Seat). entered (a .pool .now) (e .node) (e .slot) (e .count)
+    (t .word)) q in (
+      λ s. slots-done s (t .index) (t .order) (t .word) (a .u) (a .a) (g .index-fits) (g .order-le) (p .1 .1 .1 s) tier-is
+          none (c .entry-of .ensures) words,
+      slots-used (p .0) (t .index) (t .order) (t .word) (a .u) (a .a) (g .index-fits) (g .order-le) (p .1 .1 .1 (p .0))
+          tier-is none (g .is-entry) (g .word-fits) (p .1 .0 .1) words,
     )
 
 pub store-at-gap-spec : {M : Type 1} → statement M
@@ -83,9 +123,9 @@ store-at-gap-spec =
     store-new-requires
     same-length-2
     returns-2
-    span-of-requires
-    offset-of-requires
-    all-empty-requires
+    seat-of-requires
+    add-vacant
+    vacant-requires
     store-new-requires-2
     same-length-3
     returns-3

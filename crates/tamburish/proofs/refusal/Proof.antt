@@ -1,3 +1,4 @@
+-- `refusal`: the record of a refused call.
 use mathlib.Core.Path.{refl}
 use native.Mathlib.Omega.{arith}
 use lib.ListN.{length-set}

@@ -1,3 +1,4 @@
+-- `respond`: initialises the pool and runs the batch on it.
 use native.Mathlib.Omega.{arith}
 use borrow.Author.Needs.{needs}
 use Rattle.tamburish.proofs.ProgramLaws.{has-room, did, said}

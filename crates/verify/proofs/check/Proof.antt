@@ -1,3 +1,4 @@
+-- `check`: 0 if some list of entries prescribes the words, with its nodes at some numbers.
 use native.Mathlib.Omega.{arith}
 use borrow.Author.Tests.{not-true, not-false}
 use borrow.Author.Needs.{needs}
@@ -6,6 +7,22 @@ use Rattle.verify.proofs.VerdictLaws.{bad-count, bad-spare, bad-node, b
 use Rattle.verify.proofs.AnswerLaws.{answered}
 use Rattle.verify.proofs.check.Statement.{statement}
 use Rattle.verify.proofs.check.Tie as tie
+
+-- THE PLACES IN THE CODE, each from one after it
+abbrev else1-from-else3 : tie.Else3 → tie.Else1
+else1-from-else3 c = c .before .before .before .before
+
+abbrev else1-from-then3 : tie.Then3 → tie.Else1
+else1-from-then3 c = c .before .before .before .before
+
+abbrev else1-from-else4 : tie.Else4 → tie.Else1
+else1-from-else4 c = c .before .before .before .before .before .before
+
+abbrev else1-from-then4 : tie.Then4 → tie.Else1
+else1-from-then4 c = c .before .before .before .before .before .before
+
+abbrev else1-from-then5 : tie.Then5 → tie.Else1
+else1-from-then5 c = c .before .before .before .before .before .before .before .before
 
 nodes-in-requires : tie.Need-nodes-in-requires
 nodes-in-requires c κs = search needs
@@ -32,35 +49,35 @@ shared-slice-read-if3 c =
 
 returns-3 : tie.Need-returns-3
 returns-3 c =
-    let c4 = c .before .before .before .before in
+    let c4 = else1-from-then3 c in
     let c5 = c4 .before in
     let s = c5 .nodes-in .ensures .sized (c4 .if1 .left) in
     answered _ 2 (bad-spare _ _ s (c .if3 .taken))
 
 nodes-ok-requires : tie.Need-nodes-ok-requires
 nodes-ok-requires c κs =
-    let c4 = c .before .before .before .before in
+    let c4 = else1-from-else3 c in
     let c5 = c4 .before in
     let s = c5 .nodes-in .ensures .sized (c4 .if1 .left) in
     omega (arith, s .size, s .least, s .most)
 
 returns-4 : tie.Need-returns-4
 returns-4 c =
-    let c6 = c .before .before .before .before .before .before in
+    let c6 = else1-from-then4 c in
     let c7 = c6 .before in
     let s = c7 .nodes-in .ensures .sized (c6 .if1 .left) in
     answered _ 2 (bad-node _ _ s (c .before .nodes-ok .ensures .1 (not-true _ (c .if4 .taken))))
 
 head-ok-requires : tie.Need-head-ok-requires
 head-ok-requires c κs =
-    let c6 = c .before .before .before .before .before .before in
+    let c6 = else1-from-else4 c in
     let c7 = c6 .before in
     let s = c7 .nodes-in .ensures .sized (c6 .if1 .left) in
     (omega (arith, s .size, s .least, s .most), c .before .nodes-ok .ensures .0 (not-false _ (c .if4 .left)))
 
 returns-5 : tie.Need-returns-5
 returns-5 c =
-    let c8 = c .before .before .before .before .before .before .before .before in
+    let c8 = else1-from-then5 c in
     let c9 = c8 .before in
     let s = c9 .nodes-in .ensures .sized (c8 .if1 .left) in
     answered _ 2 (bad-head _ _ s (c .before .head-ok .ensures .1 (not-true _ (c .if5 .taken))))

@@ -1,12 +1,18 @@
+-- `init`: makes every node free and the list empty: word 0 is the number of nodes, every other word 0.
 use native.Mathlib.Omega.{arith}
 use mathlib.Core.Path.{ap, _∙_}
 use Prim.Native.Nat.{ℕ}
 use mathlib.Core.List.{List}
 use lib.ListN.{length, set}
 use borrow.Author.Needs.{needs}
-use Rattle.verify.proofs.EmptyLaws.{init-done, init-refused, filled-length}
+use Rattle.layout.proofs.FillLaws.{length-filled}
+use Rattle.verify.proofs.EmptyLaws.{init-done, init-refused}
 use Rattle.verify.proofs.init.Statement.{statement}
 use Rattle.verify.proofs.init.Tie as tie
+
+-- THE PLACES IN THE CODE, each from one after it
+abbrev else1-from-slice-known2 : tie.After-slice-known2 → tie.Else1
+else1-from-slice-known2 c = c .before .before .before .before
 
 nodes-in-requires : tie.Need-nodes-in-requires
 nodes-in-requires c κs = search needs
@@ -23,17 +29,17 @@ fill-requires c κs = let s = c .before .before .nodes-in .ensures .sized (c .be
 
 slice-write-pool : tie.Need-slice-write-pool
 slice-write-pool c =
-    let c4 = c .before .before .before .before in
+    let c4 = else1-from-slice-known2 c in
     let c5 = c4 .before in
     let s = c5 .nodes-in .ensures .sized (c4 .if1 .left) in
-    omega (arith, ap length (c .before .before .fill .ensures) ∙ filled-length _ _, s .size)
+    omega (arith, ap length (c .before .before .fill .ensures) ∙ length-filled _ _ _ _, s .size)
 
 same-length-2 : tie.Need-same-length-2
 same-length-2 c = search needs
 
 returns-2 : tie.Need-returns-2
 returns-2 c =
-    let c4 = c .before .before .before .before in
+    let c4 = else1-from-slice-known2 c in
     let c5 = c4 .before in
     let s = c5 .nodes-in .ensures .sized (c4 .if1 .left) in (
       init-done s .0,

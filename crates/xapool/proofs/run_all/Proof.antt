@@ -1,3 +1,4 @@
+-- `run_all`: the commands of a batch in order, each on the pool that the last one left.
 use Prim.Native.Nat.{_-_}
 use mathlib.Core.Path.{_≡_, refl, sym, _∙_}
 use native.Mathlib.Omega.{arith}
@@ -26,6 +27,25 @@ was : (c : tie.After-r Inv-loop μ-loop) →
     (c .before .before .before .loop .at)
 was c = sym (c .r .given .1) ∙ c .before .before .read-at .ensures
 
+-- THE PLACES IN THE CODE, each from one after it
+abbrev read-at-from-run-one-arg2 : tie.After-run-one-arg2 Inv-loop μ-loop → tie.After-read-at Inv-loop μ-loop
+read-at-from-run-one-arg2 c = c .before .before .before .before .before
+
+abbrev loop-from-run-one-arg2 : tie.After-run-one-arg2 Inv-loop μ-loop → tie.At-loop Inv-loop μ-loop
+loop-from-run-one-arg2 c = read-at-from-run-one-arg2 c .before
+
+abbrev run-one-from-slice-known4 : tie.After-slice-known4 Inv-loop μ-loop → tie.After-run-one Inv-loop μ-loop
+run-one-from-slice-known4 c = c .before .before .before .before
+
+abbrev r-from-slice-known4 : tie.After-slice-known4 Inv-loop μ-loop → tie.After-r Inv-loop μ-loop
+r-from-slice-known4 c = run-one-from-slice-known4 c .before .before .before .before
+
+abbrev loop-from-slice-known4 : tie.After-slice-known4 Inv-loop μ-loop → tie.At-loop Inv-loop μ-loop
+loop-from-slice-known4 c = r-from-slice-known4 c .before .before .before
+
+abbrev shared-slice-known-from-slice-known4 : tie.After-slice-known4 Inv-loop μ-loop → tie.After-shared-slice-known Inv-loop μ-loop
+shared-slice-known-from-slice-known4 c = loop-from-slice-known4 c .before .before
+
 loop-holds : tie.Need-loop-holds Inv-loop μ-loop
 loop-holds c = (refl, running-start (c .before .before .before .pre .0) (c .before .before .before .pre .1))
 
@@ -36,45 +56,40 @@ enum-known-r : tie.Need-enum-known-r Inv-loop μ-loop
 enum-known-r c = search needs
 
 run-one-requires : tie.Need-run-one-requires Inv-loop μ-loop
-run-one-requires c κs = let r = c .before .before .before .before .before .before .loop .inv .1 in (
+run-one-requires c κs = let r = loop-from-run-one-arg2 c .loop .inv .1 in (
   r .formed,
   (
     r .used,
-    room-for r (sym (c .before .before .before .r .given .1) ∙ c .before .before .before .before
-        .before .read-at .ensures),
+    room-for r (sym (c .before .before .before .r .given .1) ∙ read-at-from-run-one-arg2 c .read-at .ensures),
   ),
 )
 
 add-out : tie.Need-add-out Inv-loop μ-loop
 add-out c = omega (
   arith,
-  room-for (c .before .before .before .before .before .before .before .before .before .before
-      .before .loop .inv .1) (was (c .before .before .before .before .before .before .before .before)),
+  room-for (loop-from-slice-known4 c .loop .inv .1) (was (r-from-slice-known4 c)),
 )
 
 loop-less : tie.Need-loop-less Inv-loop μ-loop
 loop-less c = omega (
   arith,
-  next-after _ _ (sym (was (c .before .before .before .before .before .before .before
-      .before))),
+  next-after _ _ (sym (was (r-from-slice-known4 c))),
 )
 
 loop-again : tie.Need-loop-again Inv-loop μ-loop
-loop-again c = let r = c .before .before .before .before .before .before .before .before .before .before .before .loop
+loop-again c = let r = loop-from-slice-known4 c .loop
     .inv .1 in (
-      c .before .before .before .pool .given ∙ c .before .before .before .before .before .before .before .before .before
-          .before .before .loop .inv .0,
-      running-on r (was (c .before .before .before .before .before .before .before .before))
+      c .before .before .before .pool .given ∙ loop-from-slice-known4 c .loop .inv .0,
+      running-on r (was (r-from-slice-known4 c))
           (read-fits (record {
             small = λ i. omega (
               arith,
-              c .before .before .before .before .before .before .before
-                  .before .before .before .before .before .before .shared-slice-known .given i,
+              shared-slice-known-from-slice-known4 c .shared-slice-known .given i,
             );
           }) _
-          (sym (was (c .before .before .before .before .before .before .before .before))))
-          (c .before .before .before .before .run-one .ensures .0 (r .formed))
-          (c .before .before .before .before .run-one .ensures .1) (c .before .reply .given),
+          (sym (was (r-from-slice-known4 c))))
+          (run-one-from-slice-known4 c .run-one .ensures .0 (r .formed))
+          (run-one-from-slice-known4 c .run-one .ensures .1) (c .before .reply .given),
     )
 
 enum-told : tie.Need-enum-told Inv-loop μ-loop

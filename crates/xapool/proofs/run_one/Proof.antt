@@ -1,8 +1,13 @@
+-- `run_one`: one command, with its reply written at `out`.
 use mathlib.Core.Path.{refl}
 use Rattle.xapool.proofs.RunningLaws.{turned}
 use borrow.Author.Needs.{needs}
 use Rattle.xapool.proofs.run_one.Statement.{statement}
 use Rattle.xapool.proofs.run_one.Tie as tie
+
+-- THE PLACES IN THE CODE, each from one after it
+abbrev execute-from-slice-known4 : tie.After-slice-known4 → tie.After-execute
+execute-from-slice-known4 c = c .before .before .before .before .before .before .before
 
 execute-requires : tie.Need-execute-requires
 execute-requires c κs = search needs
@@ -18,9 +23,9 @@ same-length-2 c = search needs
 
 returns : tie.Need-returns
 returns c = (
-  (λ s. turned s (c .before .before .before .before .before .before .before .execute .ensures .0 s) refl
+  (λ s. turned s (execute-from-slice-known4 c .execute .ensures .0 s) refl
       (c .before .before .write-reply .ensures)),
-  c .before .before .before .before .before .before .before .execute
+  execute-from-slice-known4 c .execute
       .ensures .1,
 )
 

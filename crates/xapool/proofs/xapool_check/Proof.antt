@@ -1,3 +1,4 @@
+-- `xapool_check`: / Whether a pool is well-formed: whether some list of entries prescribes its words.
 use mathlib.Core.Path.{ap}
 use Prim.Native.Nat.{ℕ}
 use Rattle.xapool.specs.Calls.{result}

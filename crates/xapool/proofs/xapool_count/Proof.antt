@@ -1,3 +1,5 @@
+-- `xapool_count`: / How many commands a batch has, read through the reader that holds it: answer 0 and their
+-- number, or answer 3 and the / place of its first bad record.
 use mathlib.Core.Path.{sym, _∙_}
 use Rattle.xapool.proofs.CallLaws.{count-done, count-refused}
 use borrow.Author.Needs.{needs}

@@ -1,3 +1,4 @@
+-- `xapool_init`: / Makes every node of a pool free and its list empty (document 01: blanking).
 use mathlib.Core.Path.{ap}
 use Prim.Native.Nat.{ℕ}
 use Rattle.xapool.specs.Calls.{result}

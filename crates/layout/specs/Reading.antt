@@ -1,0 +1,35 @@
+-- What the functions that read a node promise.
+use Prim.Native.Nat.{ℕ, _%_, _≤_, _<_}
+use mathlib.Core.Path.{_≡_}
+use mathlib.Core.Bool.{Bool, true, false}
+use mathlib.Core.List.{List}
+use lib.ListN.{getD}
+use Rattle.layout.specs.Words.{place, slotPlace}
+
+-- what a test's answer says of a fact
+abbrev pub Decides : Bool → Type 0 → Type 0
+Decides r A = (r ≡ true → A) × (r ≡ false → A → ⊥)
+
+-- the word is that of a sibling slot or of a node
+abbrev pub Internal : ℕ → Type 0
+Internal w = w % 4 ≡ 2
+
+module _ (ws : List ℕ) (n : ℕ) where
+  -- the words of node n from field a up to field b are 0
+  abbrev pub Blank : ℕ → ℕ → Type 0
+  Blank a b = (f : ℕ) → a ≤ f → f < b → getD ws (place n f) 0 ≡ 0
+
+  -- its slots from slot o up to slot e are empty
+  abbrev pub Vacant : ℕ → ℕ → Type 0
+  Vacant o e = (j : ℕ) → o ≤ j → j < e → getD ws (slotPlace n j) 0 ≡ 0
+
+  -- none of them has an internal word
+  abbrev pub Plain : ℕ → ℕ → Type 0
+  Plain o e = (j : ℕ) → o ≤ j → j < e → Internal (getD ws (slotPlace n j) 0) → ⊥
+
+  -- r is the first of them that is not empty, or e
+  pub record NextFilled (o e r : ℕ) : Type 0 where
+    pub from : o ≤ r
+    pub to : r ≤ e
+    pub empty : Vacant o r
+    pub ends : r < e → getD ws (slotPlace n r) 0 ≡ 0 → ⊥

@@ -1,0 +1,47 @@
+-- `node_number`: the number of the node that the word of a slot leads to.
+use mathlib.Core.Path.{sym, ap, _∙_}
+use borrow.Author.Needs.{needs}
+use Rattle.plan.specs.Plan.{childOf}
+use Rattle.plan.proofs.node_number.Statement.{statement}
+use Rattle.plan.proofs.node_number.Tie as tie
+
+read-slot-requires : tie.Need-read-slot-requires
+read-slot-requires c κs = search needs
+
+enum-told : tie.Need-enum-told
+enum-told c = search needs
+
+enum-told-2 : tie.Need-enum-told-2
+enum-told-2 c = search needs
+
+enum-told-3 : tie.Need-enum-told-3
+enum-told-3 c = search needs
+
+enum-known-s : tie.Need-enum-known-s
+enum-known-s c = search needs
+
+returns : tie.Need-returns
+returns c = sym (ap childOf (sym (c .before .before .read-slot .ensures) ∙ c .enum-told .given .1))
+
+returns-2 : tie.Need-returns-2
+returns-2 c = sym (ap childOf (sym (c .before .before .read-slot .ensures) ∙ c .enum-told2 .given .1))
+
+returns-3 : tie.Need-returns-3
+returns-3 c = sym (ap childOf (sym (c .before .before .read-slot .ensures) ∙ c .enum-told3 .given .1))
+
+returns-4 : tie.Need-returns-4
+returns-4 c = sym (ap childOf (sym (c .before .before .before .read-slot .ensures) ∙ c .before .s .given .1))
+
+pub node-number-spec : {M : Type 1} → statement M
+node-number-spec =
+    tie.close
+    (tie.spec
+    read-slot-requires
+    enum-told
+    enum-told-2
+    enum-told-3
+    enum-known-s
+    returns
+    returns-2
+    returns-3
+    returns-4)

@@ -1,0 +1,439 @@
+-- `free_slot`: frees what the word of a slot leads to, of tier u.
+-- `free_slots`: frees what the slots of node n from o on, c of them, lead to, of tier u.
+-- `free_tree`: frees node n, of tier u, and all below it.
+use borrow.Author.Needs.{needs}
+use Prim.Native.Nat.{suc, _+_, _*_, _-_, _≤_}
+use mathlib.Core.Path.{_≡_, refl, sym, ap, subst, _∙_}
+use mathlib.Core.List.{List}
+use native.Mathlib.Omega.{arith}
+use native.Mathlib.Numerals.{add-one}
+use borrow.Author.Tests.{lt-ltb, le-ltb}
+use lib.ListN.{length, getD}
+use Rattle.tree.specs.Tree.{slots}
+use Rattle.layout.specs.declared.Slot.{Slot}
+use Rattle.layout.specs.declared.Slot.the-variants.{Child}
+use Rattle.layout.specs.Pool.{slotOf}
+use Rattle.layout.specs.Fill.{cleared}
+use Rattle.layout.specs.Words.{slotPlace}
+use Rattle.write.specs.Writes.{freeBelow, freeSlot, freeSlots, freeTree}
+use Prim.Native.Nat.{ℕ, _<_}
+use borrow.Fn.Kinds.{In}
+use borrow.Fn.PlainCycle.{Measures, is, falls, and}
+use Rattle.write.proofs.free_slot.Reads as free-slot
+use Rattle.write.proofs.free_slot.Kinds as free-slot-kinds
+use Rattle.write.proofs.+free_slot+free_slots+free_tree.Lts-free_slot as free-slot-lts
+use Rattle.write.proofs.free_slots.Reads as free-slots
+use Rattle.write.proofs.free_slots.Kinds as free-slots-kinds
+use Rattle.write.proofs.+free_slot+free_slots+free_tree.Lts-free_slots as free-slots-lts
+use Rattle.write.proofs.free_tree.Reads as free-tree
+use Rattle.write.proofs.free_tree.Kinds as free-tree-kinds
+use Rattle.write.proofs.+free_slot+free_slots+free_tree.Lts-free_tree as free-tree-lts
+use Rattle.layout.proofs.slot_word.Reads as slot-word-reads
+use Rattle.layout.proofs.clear_node.Reads as clear-node-reads
+use Rattle.layout.proofs.read_slot.Reads as read-slot-reads
+use Rattle.layout.proofs.lesser.Reads as lesser-reads
+use Rattle.write.proofs.+free_slot+free_slots+free_tree.{statement}
+use Rattle.write.proofs.+free_slot+free_slots+free_tree.Tie.{close}
+use Rattle.layout.specs.Spares.{Spared}
+use Rattle.layout.proofs.SparesLaws.{spared-all, spared-then, spared-zeroed}
+
+module _ (f : List ℕ → ℕ → List ℕ) (top : ℕ) (ws : List ℕ) (w : ℕ) {r : Slot} (e : r ≡ slotOf w) where
+  -- nothing is freed
+  still : {x : Slot} → r ≡ x → ws ≡ freeBelow f top ws x → ws ≡ freeSlot f top ws w
+  unfolding freeSlot
+  still d h = h ∙ ap (freeBelow f top ws) (sym d ∙ e)
+
+  off : (n : ℕ) → r ≡ Child n → top ≤ n → ws ≡ freeSlot f top ws w
+  off n d h = still d (rw (le-ltb n top h))
+
+  on : (n : ℕ) → r ≡ Child n → n < top → f ws n ≡ freeSlot f top ws w
+  unfolding freeSlot
+  on n d h = rw (← e, d, lt-ltb n top h)
+
+slots-start : (f : List ℕ → ℕ → List ℕ) (top n o : ℕ) (ws : List ℕ) → ws ≡ freeSlots f top n o ws 0
+unfolding freeSlots
+slots-start f top n o ws = refl
+
+slots-step : (f : List ℕ → ℕ → List ℕ) (top n o : ℕ) (ws pool : List ℕ) (j : ℕ) → pool ≡ freeSlots f top n o ws j →
+    freeSlot f top pool (getD pool (slotPlace n (o + j)) 0) ≡ freeSlots f top n o ws (j + 1)
+unfolding freeSlots
+slots-step f top n o ws pool j e = rw (add-one, e)
+
+none : (top : ℕ) (ws : List ℕ) (n u : ℕ) → u ≡ 0 → ws ≡ freeTree top u ws n
+unfolding freeTree
+none top ws n u e = rw e
+
+whole : (top : ℕ) (ws pool : List ℕ) (n u : ℕ) → (u ≡ 0 → ⊥) → pool ≡ freeSlots (freeTree top (u - 1)) top n 0 ws
+    slots → cleared pool n ≡ freeTree top u ws n
+unfolding freeTree
+whole top ws pool n u h e = let d : u ≡ suc (u - 1) = omega arith in
+    subst (λ (v : ℕ). cleared pool n ≡ freeTree top v ws n) (sym d) (rw e)
+
+abbrev μ-free-slot : Measures 1 free-slot-kinds.ps ℕ
+μ-free-slot κs a = 3 * a .1 .1 .1 .0 + 1
+
+abbrev μ-free-slots : Measures 1 free-slots-kinds.ps ℕ
+μ-free-slots κs a = 3 * a .1 .1 .1 .1 .1 .0 + 2
+
+abbrev μ-free-tree : Measures 1 free-tree-kinds.ps ℕ
+μ-free-tree κs a = 3 * a .1 .1 .1 .0
+
+abbrev free-slot-at : ℕ → In 1 free-slot-kinds.ps
+free-slot-at t = and 1 free-slot-kinds.ps (is 1 free-slot-kinds.ps μ-free-slot t) free-slot.Pre
+
+abbrev free-slot-below : ℕ → In 1 free-slot-kinds.ps
+free-slot-below t =
+    and 1 free-slot-kinds.ps (falls 1 free-slot-kinds.ps _<_ μ-free-slot t) free-slot.Pre
+
+abbrev free-slots-at : ℕ → In 1 free-slots-kinds.ps
+free-slots-at t =
+    and 1 free-slots-kinds.ps (is 1 free-slots-kinds.ps μ-free-slots t) free-slots.Pre
+
+abbrev free-slots-below : ℕ → In 1 free-slots-kinds.ps
+free-slots-below t =
+    and 1 free-slots-kinds.ps (falls 1 free-slots-kinds.ps _<_ μ-free-slots t) free-slots.Pre
+
+abbrev free-tree-at : ℕ → In 1 free-tree-kinds.ps
+free-tree-at t = and 1 free-tree-kinds.ps (is 1 free-tree-kinds.ps μ-free-tree t) free-tree.Pre
+
+abbrev free-tree-below : ℕ → In 1 free-tree-kinds.ps
+free-tree-below t =
+    and 1 free-tree-kinds.ps (falls 1 free-tree-kinds.ps _<_ μ-free-tree t) free-tree.Pre
+
+free-slot-read-slot-requires : (t : ℕ) → free-slot-lts.Need-read-slot-requires (
+  read-slot-reads.Asked,
+  read-slot-reads.Learnt,
+  free-tree-below t,
+  free-tree.Post,
+) (free-slot-at t) free-slot.Post
+free-slot-read-slot-requires t c κs = search needs
+
+free-slot-enum-known-s : (t : ℕ) → free-slot-lts.Need-enum-known-s (
+  read-slot-reads.Asked,
+  read-slot-reads.Learnt,
+  free-tree-below t,
+  free-tree.Post,
+) (free-slot-at t) free-slot.Post
+free-slot-enum-known-s t c = search needs
+
+free-slot-free-tree-requires : (t : ℕ) → free-slot-lts.Need-free-tree-requires (
+  read-slot-reads.Asked,
+  read-slot-reads.Learnt,
+  free-tree-below t,
+  free-tree.Post,
+) (free-slot-at t) free-slot.Post
+free-slot-free-tree-requires t c κs = omega arith
+
+free-slot-same-length : (t : ℕ) → free-slot-lts.Need-same-length (
+  read-slot-reads.Asked,
+  read-slot-reads.Learnt,
+  free-tree-below t,
+  free-tree.Post,
+) (free-slot-at t) free-slot.Post
+free-slot-same-length t c = c .before .before .free-tree .kept .0
+
+free-slot-returns : (t : ℕ) → free-slot-lts.Need-returns (
+  read-slot-reads.Asked,
+  read-slot-reads.Learnt,
+  free-tree-below t,
+  free-tree.Post,
+) (free-slot-at t) free-slot.Post
+free-slot-returns t c = (
+  c .before .before .free-tree .ensures .0 ∙ on _ _ _ _
+      (c .before .before .before .before .before .before .before .before .read-slot .ensures) _
+      (c .before .before .before .before .before .before .s .given .1)
+      (c .before .before .before .before .if1 .taken),
+  c .before .before .free-tree .ensures .1,
+)
+
+free-slot-enum-told : (t : ℕ) → free-slot-lts.Need-enum-told (
+  read-slot-reads.Asked,
+  read-slot-reads.Learnt,
+  free-tree-below t,
+  free-tree.Post,
+) (free-slot-at t) free-slot.Post
+free-slot-enum-told t c = search needs
+
+free-slot-enum-told-2 : (t : ℕ) → free-slot-lts.Need-enum-told-2 (
+  read-slot-reads.Asked,
+  read-slot-reads.Learnt,
+  free-tree-below t,
+  free-tree.Post,
+) (free-slot-at t) free-slot.Post
+free-slot-enum-told-2 t c = search needs
+
+free-slot-enum-told-3 : (t : ℕ) → free-slot-lts.Need-enum-told-3 (
+  read-slot-reads.Asked,
+  read-slot-reads.Learnt,
+  free-tree-below t,
+  free-tree.Post,
+) (free-slot-at t) free-slot.Post
+free-slot-enum-told-3 t c = search needs
+
+free-slot-returns-2 : (t : ℕ) → free-slot-lts.Need-returns-2 (
+  read-slot-reads.Asked,
+  read-slot-reads.Learnt,
+  free-tree-below t,
+  free-tree.Post,
+) (free-slot-at t) free-slot.Post
+free-slot-returns-2 t c = (
+  off _ _ _ _ (c .before .before .before .before .read-slot .ensures) _
+      (c .before .before .s .given .1) (c .if1 .left),
+  spared-all _ _,
+)
+
+free-slot-returns-3 : (t : ℕ) → free-slot-lts.Need-returns-3 (
+  read-slot-reads.Asked,
+  read-slot-reads.Learnt,
+  free-tree-below t,
+  free-tree.Post,
+) (free-slot-at t) free-slot.Post
+free-slot-returns-3 t c = (
+  still _ _ _ _ (c .before .before .read-slot .ensures) (c .enum-told .given .1) refl,
+  spared-all _ _,
+)
+
+free-slot-returns-4 : (t : ℕ) → free-slot-lts.Need-returns-4 (
+  read-slot-reads.Asked,
+  read-slot-reads.Learnt,
+  free-tree-below t,
+  free-tree.Post,
+) (free-slot-at t) free-slot.Post
+free-slot-returns-4 t c = (
+  still _ _ _ _ (c .before .before .read-slot .ensures) (c .enum-told2 .given .1) refl,
+  spared-all _ _,
+)
+
+free-slot-returns-5 : (t : ℕ) → free-slot-lts.Need-returns-5 (
+  read-slot-reads.Asked,
+  read-slot-reads.Learnt,
+  free-tree-below t,
+  free-tree.Post,
+) (free-slot-at t) free-slot.Post
+free-slot-returns-5 t c = (
+  still _ _ _ _ (c .before .before .read-slot .ensures) (c .enum-told3 .given .1) refl,
+  spared-all _ _,
+)
+
+abbrev free-slots-Inv-loop : free-slots-lts.InvT-loop
+free-slots-Inv-loop pool₀ top n o c u low j₀ r₀ pool j r = (j ≤ c) × (length pool ≡ length pool₀) ×
+    (pool ≡ freeSlots (freeTree top u) top n o pool₀ j) × Spared low r pool₀ pool
+
+abbrev free-slots-μ-loop : free-slots-lts.MeasureT-loop
+free-slots-μ-loop pool₀ top n o c u low j₀ r₀ pool j r = c - j
+
+free-slots-loop-holds : (t : ℕ) → free-slots-lts.Need-loop-holds (
+  slot-word-reads.Asked,
+  slot-word-reads.Learnt,
+  free-slot-below t,
+  free-slot.Post,
+) (free-slots-at t) free-slots.Post free-slots-Inv-loop free-slots-μ-loop
+free-slots-loop-holds t c = (omega arith, refl, slots-start _ _ _ _ _, spared-all _ _)
+
+free-slots-add-slot-word : (t : ℕ) → free-slots-lts.Need-add-slot-word (
+  slot-word-reads.Asked,
+  slot-word-reads.Learnt,
+  free-slot-below t,
+  free-slot.Post,
+) (free-slots-at t) free-slots.Post free-slots-Inv-loop free-slots-μ-loop
+free-slots-add-slot-word t c = omega arith
+
+free-slots-slot-word-requires : (t : ℕ) → free-slots-lts.Need-slot-word-requires (
+  slot-word-reads.Asked,
+  slot-word-reads.Learnt,
+  free-slot-below t,
+  free-slot.Post,
+) (free-slots-at t) free-slots.Post free-slots-Inv-loop free-slots-μ-loop
+free-slots-slot-word-requires t c κs = omega arith
+
+free-slots-free-slot-requires : (t : ℕ) → free-slots-lts.Need-free-slot-requires (
+  slot-word-reads.Asked,
+  slot-word-reads.Learnt,
+  free-slot-below t,
+  free-slot.Post,
+) (free-slots-at t) free-slots.Post free-slots-Inv-loop free-slots-μ-loop
+free-slots-free-slot-requires t c κs = omega arith
+
+free-slots-add-j : (t : ℕ) → free-slots-lts.Need-add-j (
+  slot-word-reads.Asked,
+  slot-word-reads.Learnt,
+  free-slot-below t,
+  free-slot.Post,
+) (free-slots-at t) free-slots.Post free-slots-Inv-loop free-slots-μ-loop
+free-slots-add-j t c = omega arith
+
+free-slots-loop-less : (t : ℕ) → free-slots-lts.Need-loop-less (
+  slot-word-reads.Asked,
+  slot-word-reads.Learnt,
+  free-slot-below t,
+  free-slot.Post,
+) (free-slots-at t) free-slots.Post free-slots-Inv-loop free-slots-μ-loop
+free-slots-loop-less t c = omega arith
+
+free-slots-loop-again : (t : ℕ) → free-slots-lts.Need-loop-again (
+  slot-word-reads.Asked,
+  slot-word-reads.Learnt,
+  free-slot-below t,
+  free-slot.Post,
+) (free-slots-at t) free-slots.Post free-slots-Inv-loop free-slots-μ-loop
+free-slots-loop-again t c = (
+  omega arith,
+  c .before .before .free-slot .kept .0 ∙ c .before .before .before .before .before .before .before .loop .inv .1,
+  c .before .before .free-slot .ensures .0 ∙ rw (c .before .before .before .before .slot-word .ensures)
+      (slots-step _ _ _ _ _ _ _ (c .before .before .before .before .before .before .before .loop .inv .2)),
+  spared-then (c .before .before .before .before .before .before .before .loop .inv .3)
+      (c .before .before .free-slot .ensures .1),
+)
+
+free-slots-same-length : (t : ℕ) → free-slots-lts.Need-same-length (
+  slot-word-reads.Asked,
+  slot-word-reads.Learnt,
+  free-slot-below t,
+  free-slot.Post,
+) (free-slots-at t) free-slots.Post free-slots-Inv-loop free-slots-μ-loop
+free-slots-same-length t c = c .before .loop .inv .1
+
+free-slots-returns : (t : ℕ) → free-slots-lts.Need-returns (
+  slot-word-reads.Asked,
+  slot-word-reads.Learnt,
+  free-slot-below t,
+  free-slot.Post,
+) (free-slots-at t) free-slots.Post free-slots-Inv-loop free-slots-μ-loop
+free-slots-returns t c = let e : c .before .loop .j ≡ c .before .before .before .args .c = omega arith in
+    (rw (← e) (c .before .loop .inv .2), c .before .loop .inv .3)
+
+free-tree-returns : (t : ℕ) → free-tree-lts.Need-returns (
+  free-slots-below t,
+  free-slots.Post,
+  clear-node-reads.Asked,
+  clear-node-reads.Learnt,
+  lesser-reads.Asked,
+  lesser-reads.Learnt,
+) (free-tree-at t) free-tree.Post
+free-tree-returns t c = (none _ _ _ _ (c .if1 .taken), spared-all _ _)
+
+free-tree-sub-free-slots : (t : ℕ) → free-tree-lts.Need-sub-free-slots (
+  free-slots-below t,
+  free-slots.Post,
+  clear-node-reads.Asked,
+  clear-node-reads.Learnt,
+  lesser-reads.Asked,
+  lesser-reads.Learnt,
+) (free-tree-at t) free-tree.Post
+free-tree-sub-free-slots t c = omega arith
+
+free-tree-free-slots-requires : (t : ℕ) → free-tree-lts.Need-free-slots-requires (
+  free-slots-below t,
+  free-slots.Post,
+  clear-node-reads.Asked,
+  clear-node-reads.Learnt,
+  lesser-reads.Asked,
+  lesser-reads.Learnt,
+) (free-tree-at t) free-tree.Post
+free-tree-free-slots-requires t c κs = omega arith
+
+free-tree-clear-node-requires : (t : ℕ) → free-tree-lts.Need-clear-node-requires (
+  free-slots-below t,
+  free-slots.Post,
+  clear-node-reads.Asked,
+  clear-node-reads.Learnt,
+  lesser-reads.Asked,
+  lesser-reads.Learnt,
+) (free-tree-at t) free-tree.Post
+free-tree-clear-node-requires t c κs = omega arith
+
+free-tree-lesser-requires : (t : ℕ) → free-tree-lts.Need-lesser-requires (
+  free-slots-below t,
+  free-slots.Post,
+  clear-node-reads.Asked,
+  clear-node-reads.Learnt,
+  lesser-reads.Asked,
+  lesser-reads.Learnt,
+) (free-tree-at t) free-tree.Post
+free-tree-lesser-requires t c κs = omega arith
+
+free-tree-same-length : (t : ℕ) → free-tree-lts.Need-same-length (
+  free-slots-below t,
+  free-slots.Post,
+  clear-node-reads.Asked,
+  clear-node-reads.Learnt,
+  lesser-reads.Asked,
+  lesser-reads.Learnt,
+) (free-tree-at t) free-tree.Post
+free-tree-same-length t c = c .before .before .before .clear-node .kept .0 ∙ c .before .before .before .before .before
+    .before .before .free-slots .kept .0
+
+free-tree-returns-2 : (t : ℕ) → free-tree-lts.Need-returns-2 (
+  free-slots-below t,
+  free-slots.Post,
+  clear-node-reads.Asked,
+  clear-node-reads.Learnt,
+  lesser-reads.Asked,
+  lesser-reads.Learnt,
+) (free-tree-at t) free-tree.Post
+free-tree-returns-2 t c = (
+  c .before .before .before .clear-node .ensures ∙ whole _ _ _ _ _ (omega arith)
+      (c .before .before .before .before .before .before .before .free-slots .ensures .0),
+  spared-zeroed (c .before .before .before .before .before .before .before .before .before .before .before .args .n)
+      (c .before .before .before .before .before .before .before .free-slots .ensures .1)
+      (c .before .before .before .clear-node .ensures) (c .lesser .ensures),
+)
+
+pub +free-slot+free-slots+free-tree-spec : {M : Type 1} → statement M
++free-slot+free-slots+free-tree-spec =
+    close μ-free-slot μ-free-slots μ-free-tree (λ t. free-slot-lts.spec (
+      read-slot-reads.Asked,
+      read-slot-reads.Learnt,
+      free-tree-below t,
+      free-tree.Post,
+    )
+    (free-slot-at t)
+    free-slot.Post
+    (free-slot-read-slot-requires t)
+    (free-slot-enum-known-s t)
+    (free-slot-free-tree-requires t)
+    (free-slot-same-length t)
+    (free-slot-returns t)
+    (free-slot-enum-told t)
+    (free-slot-enum-told-2 t)
+    (free-slot-enum-told-3 t)
+    (free-slot-returns-2 t)
+    (free-slot-returns-3 t)
+    (free-slot-returns-4 t)
+    (free-slot-returns-5 t))
+    (λ t. free-slots-lts.spec (
+      slot-word-reads.Asked,
+      slot-word-reads.Learnt,
+      free-slot-below t,
+      free-slot.Post,
+    )
+    (free-slots-at t)
+    free-slots.Post
+    free-slots-Inv-loop
+    free-slots-μ-loop
+    (free-slots-loop-holds t)
+    (free-slots-add-slot-word t)
+    (free-slots-slot-word-requires t)
+    (free-slots-free-slot-requires t)
+    (free-slots-add-j t)
+    (free-slots-loop-less t)
+    (free-slots-loop-again t)
+    (free-slots-same-length t)
+    (free-slots-returns t))
+    λ t. free-tree-lts.spec (
+      free-slots-below t,
+      free-slots.Post,
+      clear-node-reads.Asked,
+      clear-node-reads.Learnt,
+      lesser-reads.Asked,
+      lesser-reads.Learnt,
+    )
+    (free-tree-at t)
+    free-tree.Post
+    (free-tree-returns t)
+    (free-tree-sub-free-slots t)
+    (free-tree-free-slots-requires t)
+    (free-tree-clear-node-requires t)
+    (free-tree-lesser-requires t)
+    (free-tree-same-length t)
+    (free-tree-returns-2 t)

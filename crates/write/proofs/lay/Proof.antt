@@ -1,0 +1,95 @@
+-- `lay`: the numbers of the nodes over the index by tier: first, of tier u + 1, and below it down to tier v + 1
+-- those of nums.
+use Prim.Native.Nat.{ℕ, _+_, _-_, _<_, _≤_}
+use mathlib.Core.Path.{_≡_, refl, _∙_}
+use native.Mathlib.Omega.{arith}
+use lib.Dec.{eqb}
+use lib.ListN.{length, getD, length-set}
+use lib.Seq.{getD-set-same, getD-set-other}
+use borrow.Author.Tests.{eqb-true, eqb-false}
+use Rattle.blocks.proofs.BoolLaws.{byT}
+use Rattle.write.proofs.lay.Statement.{statement}
+use Rattle.write.proofs.lay.Tie as tie
+
+abbrev Inv-loop : tie.InvT-loop
+Inv-loop nums path₀ first v u t₀ path t = (v ≤ t) × (t ≤ u) × (length path ≡ length path₀) ×
+    ((x : ℕ) → t < x → x ≤ u → getD path x 0 ≡ getD nums (u - x) 0)
+
+abbrev μ-loop : tie.MeasureT-loop
+μ-loop nums path₀ first v u t₀ path t = t
+
+loop-holds : tie.Need-loop-holds Inv-loop μ-loop
+loop-holds c = (omega arith, omega arith, refl, λ x a b. absurd (omega arith))
+
+sub-path : tie.Need-sub-path Inv-loop μ-loop
+sub-path c = omega arith
+
+mul-path : tie.Need-mul-path Inv-loop μ-loop
+mul-path c = omega arith
+
+shared-slice-read-path : tie.Need-shared-slice-read-path Inv-loop μ-loop
+shared-slice-read-path c = omega arith
+
+mul-path-2 : tie.Need-mul-path-2 Inv-loop μ-loop
+mul-path-2 c = omega arith
+
+slice-write-path : tie.Need-slice-write-path Inv-loop μ-loop
+slice-write-path c = omega arith
+
+sub-t : tie.Need-sub-t Inv-loop μ-loop
+sub-t c = omega arith
+
+loop-less : tie.Need-loop-less Inv-loop μ-loop
+loop-less c = omega arith
+
+loop-again : tie.Need-loop-again Inv-loop μ-loop
+loop-again c = let v = c .before .before .loop .inv in (
+  omega (arith, c .before .loop-test .taken),
+  omega (arith, v .1),
+  length-set (c .before .before .loop .path) (c .before .before .loop .t) _ ∙ v .2,
+  λ x a b. byT (eqb x (c .before .before .loop .t))
+      (λ e. let d : x ≡ c .before .before .loop .t = eqb-true _ _ e in
+      rw d (getD-set-same (c .before .before .loop .path) (c .before .before .loop .t) _ 0 (omega (arith, v .1, v .2))))
+      (λ e. let d : x ≡ c .before .before .loop .t → ⊥ = eqb-false _ _ e in
+      getD-set-other (c .before .before .loop .path) (c .before .before .loop .t) x _ 0 d ∙ v .3 x (omega arith) b),
+)
+
+add-path : tie.Need-add-path Inv-loop μ-loop
+add-path c = omega arith
+
+mul-path-3 : tie.Need-mul-path-3 Inv-loop μ-loop
+mul-path-3 c = omega arith
+
+slice-write-path-2 : tie.Need-slice-write-path-2 Inv-loop μ-loop
+slice-write-path-2 c = omega arith
+
+same-length : tie.Need-same-length Inv-loop μ-loop
+same-length c = length-set (c .before .loop .path) _ _ ∙ c .before .loop .inv .2
+
+returns : tie.Need-returns Inv-loop μ-loop
+returns c = let v = c .before .loop .inv in let a = c .before .before .args in record {
+  top-is = getD-set-same (c .before .loop .path) (a .u + 1) (a .first) 0 (omega (arith, v .2));
+  rest-are = λ t p q. getD-set-other (c .before .loop .path) (a .u + 1) t (a .first) 0 (omega arith) ∙
+      v .3 t (omega (arith, c .loop-test .left)) q;
+}
+
+pub lay-spec : {M : Type 1} → statement M
+lay-spec =
+    tie.close
+    (tie.spec
+    Inv-loop
+    μ-loop
+    loop-holds
+    sub-path
+    mul-path
+    shared-slice-read-path
+    mul-path-2
+    slice-write-path
+    sub-t
+    loop-less
+    loop-again
+    add-path
+    mul-path-3
+    slice-write-path-2
+    same-length
+    returns)
