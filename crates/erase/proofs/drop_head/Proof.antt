@@ -121,7 +121,8 @@ enum-known-k c = search needs
 raise-requires : tie.Need-raise-requires
 raise-requires c κs = let H = start-from-read-slot (read-slot-from-raise-arg c) .pre .1 in (
   under-fits (H .tower .tall) (start-from-read-slot (read-slot-from-raise-arg c) .pre .0) (H .there) (H .number) .0,
-  under-child (H .tower .tall) (start-from-read-slot (read-slot-from-raise-arg c) .pre .0) (H .there) (H .number) (slot-word-from-raise-arg c .slot-word .ensures)
+  under-child (H .tower .tall) (start-from-read-slot (read-slot-from-raise-arg c) .pre .0) (H .there) (H .number)
+      (slot-word-from-raise-arg c .slot-word .ensures)
       (read-slot-from-raise-arg c .read-slot .ensures)
       _ (c .before .before .k .given .1) .2,
 )
@@ -145,7 +146,8 @@ returns-2 c = (
 )
 
 free-head-requires : tie.Need-free-head-requires
-free-head-requires c κs = let H = start-from-read-slot (read-slot-from-free-head-arg c) .pre .1 in under-fits (H .tower .tall) (start-from-read-slot (read-slot-from-free-head-arg c) .pre .0) (H .there) (H .number) .0
+free-head-requires c κs = let H = start-from-read-slot (read-slot-from-free-head-arg c) .pre .1 in under-fits
+    (H .tower .tall) (start-from-read-slot (read-slot-from-free-head-arg c) .pre .0) (H .there) (H .number) .0
 
 enum-told-2 : tie.Need-enum-told-2
 enum-told-2 c = search needs

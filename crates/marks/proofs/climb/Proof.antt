@@ -109,7 +109,8 @@ add-v c = omega arith
 
 -- where the mark word stands
 abbrev word-at : tie.After-owner-of-arg Inv-loop μ-loop → ℕ
-word-at c = markPlace (c .before .before .before .before .before .before .before .before .before .before .loop .n) (c .before .before .before .before .before .before .before .before .before .before .before .before
+word-at c = markPlace (c .before .before .before .before .before .before .before .before .before .before .loop .n)
+    (c .before .before .before .before .before .before .before .before .before .before .before .before
     .args .m)
 
 -- the mark word after the store, and the bit that goes up

@@ -66,12 +66,14 @@ next-marked-requires : tie.Need-next-marked-requires Inv-loop μ-loop
 next-marked-requires c κs = omega arith
 
 returns-2 : tie.Need-returns-2 Inv-loop μ-loop
-returns-2 c = let g = gone-past _ _ _ _ _ (filled-slots-from-then2 c .filled-slots .ensures) (all-marks-from-then2 c .all-marks .ensures) _ _ (c .before .before .before .loop .inv)
+returns-2 c = let g = gone-past _ _ _ _ _ (filled-slots-from-then2 c .filled-slots .ensures)
+    (all-marks-from-then2 c .all-marks .ensures) _ _ (c .before .before .before .loop .inv)
     (among-clear _ _ (omega arith) (else1-from-then2 c .if1 .left)) (c .before .next-marked .ensures) in
     yes! (λ j lt. g .ok j (omega arith))
 
 step-requires : tie.Need-step-requires Inv-loop μ-loop
-step-requires c κs = let g = gone-past _ _ _ _ _ (filled-slots-from-else2 c .filled-slots .ensures) (all-marks-from-else2 c .all-marks .ensures) _ _ (c .before .before .before .loop .inv)
+step-requires c κs = let g = gone-past _ _ _ _ _ (filled-slots-from-else2 c .filled-slots .ensures)
+    (all-marks-from-else2 c .all-marks .ensures) _ _ (c .before .before .before .loop .inv)
     (among-clear _ _ (omega arith) (else1-from-else2 c .if1 .left)) (c .before .next-marked .ensures) in
     (start-from-else1 (else1-from-else2 c) .pre .0, ((omega (arith, g .inside), omega arith), (all-marks-from-else2 c .all-marks .ensures, g .past)))
 
@@ -85,7 +87,8 @@ loop-less : tie.Need-loop-less Inv-loop μ-loop
 loop-less c = omega (arith, c .before .step .ensures .inside, c .before .before .before .next-marked .ensures .past)
 
 loop-again : tie.Need-loop-again Inv-loop μ-loop
-loop-again c = let g = gone-past _ _ _ _ _ (filled-slots-from-else3 c .filled-slots .ensures) (all-marks-from-else3 c .all-marks .ensures) _ _ (loop-from-else3 c .loop .inv)
+loop-again c = let g = gone-past _ _ _ _ _ (filled-slots-from-else3 c .filled-slots .ensures)
+    (all-marks-from-else3 c .all-marks .ensures) _ _ (loop-from-else3 c .loop .inv)
     (among-clear _ _ (omega arith) (else1-from-else3 c .if1 .left)) (c .before .before .before .next-marked .ensures) in
     gone-on _ _ _ _ _ g (c .before .step .ensures) (c .if3 .left)
 

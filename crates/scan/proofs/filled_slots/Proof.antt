@@ -32,10 +32,17 @@ mul-result-3 : tie.Need-mul-result-3
 mul-result-3 c = omega (arith, c .filled-from4 .ensures .fits, c .before .filled-from3 .ensures .fits, c .before .before .filled-from2 .ensures .fits)
 
 add-result-3 : tie.Need-add-result-3
-add-result-3 c = omega (arith, c .filled-from4 .ensures .fits, c .before .filled-from3 .ensures .fits, c .before .before .filled-from2 .ensures .fits, c .before .before .before .filled-from .ensures .fits)
+add-result-3 c = omega (
+  arith,
+  c .filled-from4 .ensures .fits,
+  c .before .filled-from3 .ensures .fits,
+  c .before .before .filled-from2 .ensures .fits,
+  c .before .before .before .filled-from .ensures .fits,
+)
 
 returns : tie.Need-returns
-returns c = joined _ _ _ _ _ _ (c .before .before .before .filled-from .ensures) (c .before .before .filled-from2 .ensures) (c .before .filled-from3 .ensures) (c .filled-from4 .ensures)
+returns c = joined _ _ _ _ _ _ (c .before .before .before .filled-from .ensures)
+    (c .before .before .filled-from2 .ensures) (c .before .filled-from3 .ensures) (c .filled-from4 .ensures)
 
 pub filled-slots-spec : {M : Type 1} → statement M
 filled-slots-spec =
