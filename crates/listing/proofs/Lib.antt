@@ -1,0 +1,4 @@
+pub mod EmitLaws
+pub mod BetweenLaws
+pub mod CountLaws
+pub mod VisitLaws
