@@ -142,8 +142,7 @@ listed-done {es} {bs} {bs₁} {bs₂} {k} a h b =
     let w : bs₁ ≡ bs = a .bytes-are ∙ emit-zero bs 0 es in
     let g : length bs₁ ≡ length bs = ap length w in
     let f : entryBytes * length es ≤ length bs = omega arith in
-    let n : fits es bs ≡ true = le-leb (entryBytes * length es) (length bs) f in
-    (
+    let n : fits es bs ≡ true = le-leb (entryBytes * length es) (length bs) f in (
       rw n (ap Done q),
       rw n
           (b .bytes-are

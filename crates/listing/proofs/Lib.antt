@@ -2,3 +2,4 @@ pub mod EmitLaws
 pub mod BetweenLaws
 pub mod CountLaws
 pub mod VisitLaws
+pub mod ListedLaws

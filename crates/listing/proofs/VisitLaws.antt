@@ -316,8 +316,7 @@ module _ {ws : List ℕ} (s : WellFormed ws) (v c p : ℕ) {n : ℕ} (h : p ≡ 
 
   pub seen-node : (m : ℕ) → k ≡ Below m → (any (within (tierOrder v) c) (s .list) ≡ true) × (m ≡ num s v c)
   seen-node m e =
-      let (t, q) = is-node m w e in
-      (
+      let (t, q) = is-node m w e in (
         subst (λ (x : ℕ). any (within (tierOrder v) x) (s .list) ≡ true) slot-is t,
         q ∙ ap (num s v) slot-is,
       )

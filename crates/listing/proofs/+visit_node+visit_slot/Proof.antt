@@ -165,8 +165,7 @@ visit-node-visit-slot-requires : (t : ℕ) → visit-node-lts.Need-visit-slot-re
 visit-node-visit-slot-requires t c κs =
     let a = c .before .before .before .before .before .before .before .args in
     let p = c .before .before .before .before .before .before .before .pre .1 in
-    let l = c .before .before .before .loop in
-    (
+    let l = c .before .before .before .loop in (
       omega (arith, c .before .before .before .before .before .before .before .pre .0),
       (
         p .0,
@@ -211,8 +210,7 @@ visit-node-loop-again : (t : ℕ) → visit-node-lts.Need-loop-again (
 ) (visit-node-at t) visit-node.Post visit-node-Inv-loop visit-node-μ-loop
 visit-node-loop-again t c =
     let a = c .before .before .before .before .before .before .before .before .before .before .args in
-    let l = c .before .before .before .before .before .before .loop in
-    (
+    let l = c .before .before .before .before .before .before .loop in (
       omega (arith, c .before .before .before .before .before .loop-test .taken),
       omega (arith, l .inv .1, c .before .before .visit-slot .kept),
       λ s. node-goes-on (s .valid) (a .range .room) (a .range .first) (a .range .last) (a .v) (a .b) (l .o) (l .inv .2 s)
@@ -301,8 +299,7 @@ visit-slot-look-requires : (t : ℕ) → visit-slot-lts.Need-look-requires (
 ) (visit-slot-at t) visit-slot.Post
 visit-slot-look-requires t c κs =
     let a = c .before .before .before .args in
-    let p = c .before .before .before .pre .1 in
-    (
+    let p = c .before .before .before .pre .1 in (
       p .0,
       (
         p .1 .0,
@@ -529,8 +526,7 @@ visit-slot-visit-node-requires t c κs =
     let a = c .before .before .before .before .before .before .before .before .before .before .args in
     let p = c .before .before .before .before .before .before .before .before .before .before .pre .1 in
     let pos : 0 < a .v = below-ready s (a .v) (a .c) _ (ap (λ (x : ℕ). a .c * x) (c .before .before .before .before .before .before .before .pow2 .ensures)) (c .before .before .before .before .before .before .look .ensures s) (a .k) _
-    (c .before .before .before .before .before .before .before .before .before .before .pre .1 .1 .1 .1 .1 s) (c .before .before .before .before .seen2 .given .1) .0 in
-    (
+    (c .before .before .before .before .before .before .before .before .before .before .pre .1 .1 .1 .1 .1 s) (c .before .before .before .before .seen2 .given .1) .0 in (
       omega (arith, c .before .before .before .before .before .before .before .before .before .before .pre .0),
       (
         p .0,
@@ -541,7 +537,7 @@ visit-slot-visit-node-requires t c κs =
             (
               p .1 .1 .1 .0,
               λ s. below-ready s (a .v) (a .c) _ (ap (λ (x : ℕ). a .c * x) (c .before .before .before .before .before .before .before .pow2 .ensures)) (c .before .before .before .before .before .before .look .ensures s) (a .k) _
-    (c .before .before .before .before .before .before .before .before .before .before .pre .1 .1 .1 .1 .1 s) (c .before .before .before .before .seen2 .given .1) .1,
+                  (c .before .before .before .before .before .before .before .before .before .before .pre .1 .1 .1 .1 .1 s) (c .before .before .before .before .seen2 .given .1) .1,
             ),
           ),
         ),

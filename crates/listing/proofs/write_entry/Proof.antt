@@ -48,7 +48,7 @@ same-length : tie.Need-same-length
 same-length c = search needs
 
 returns : tie.Need-returns
-returns c = entry-written _ _ (c  .before .before .before .before .before .before .before .before .before .before .before .before .before .before .before .before .before .before .before .before .before .before .before .before .before .args .e) (c  .before .before .before .before .before .before .before .before .before .before .before .before .before .before .before .before .before .before .before .before .before .before .put1 .ensures) (c  .before .before .before .before .before .before .before .before .before .before .before .before .before .before .before .before .before .before .put2 .ensures) (c  .before .before .before .before .before .before .before .before .before .before .before .before .before .before .put8 .ensures) (c  .before .before .before .before .before .before .before .before .before .before .put12 .ensures) (c  .before .before .before .before .before .before .put82 .ensures) (c  .before .before .put13 .ensures)
+returns c = entry-written _ _ (c .before .before .before .before .before .before .before .before .before .before .before .before .before .before .before .before .before .before .before .before .before .before .before .before .before .args .e) (c .before .before .before .before .before .before .before .before .before .before .before .before .before .before .before .before .before .before .before .before .before .before .put1 .ensures) (c .before .before .before .before .before .before .before .before .before .before .before .before .before .before .before .before .before .before .put2 .ensures) (c .before .before .before .before .before .before .before .before .before .before .before .before .before .before .put8 .ensures) (c .before .before .before .before .before .before .before .before .before .before .put12 .ensures) (c .before .before .before .before .before .before .put82 .ensures) (c .before .before .put13 .ensures)
 
 pub write-entry-spec : {M : Type 1} → statement M
 write-entry-spec =
