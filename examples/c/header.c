@@ -118,7 +118,7 @@ static void a_list_is_whole_or_not_at_all(void)
     static uint64_t pool[XAPOOL_WORDS(3)];
     uint8_t bytes[100], replies[XAPOOL_REPLIES(4)];
     xapool_batch b = xapool_batch_over(bytes, sizeof bytes);
-    xapool_put_store(&b, 13, 3, XAPOOL_VALUE(1));
+    xapool_put_store(&b, 8, 3, XAPOOL_VALUE(1));
     xapool_put_store(&b, 64, 0, XAPOOL_VALUE(2));
     xapool_put_mark(&b, 64, 0);
     xapool_put_mark(&b, 64, 2);

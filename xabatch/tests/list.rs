@@ -9,7 +9,7 @@ use tool::{bash, run, tool, Folder};
 const ENTRIES: &str = "\
 store 0 order 0 value 1
 store 64 order 0 value 2
-store 4100 order 3 handle 0x1000
+store 4096 order 3 handle 0x1000
 store max order 0 value 9223372036854775807
 mark 64 mark 0
 mark 64 mark 2
@@ -120,7 +120,8 @@ fn a_list_has_as_many_entries_as_show_counts() {
         let folder = Folder::new();
         let pool = folder.pool(300);
         let mut store = || {
-            let (index, order) = (random.below(1 << 20), random.below(8));
+            let order = random.below(8);
+            let index = random.below(1 << 20) >> order << order;
             format!("store {index} order {order} value {index}\n")
         };
         run(&pool, &(0..100).map(|_| store()).collect::<String>());

@@ -16,7 +16,7 @@ fn listed(pool: &Pool, range: impl std::ops::RangeBounds<u64>) -> Vec<u64> {
 
 /// A run of eight at 8, a marked entry at 64 and a handle at the last index.
 fn three() -> Pool<'static> {
-    let entries = [store(13, 3, 3), store(64, 0, 5), store(LAST, 0, 0x1000)];
+    let entries = [store(8, 3, 3), store(64, 0, 5), store(LAST, 0, 0x1000)];
     pool_of(&[&entries[..], &[mark(64, 0), mark(64, 2)]].concat())
 }
 
@@ -68,7 +68,7 @@ fn an_entry_is_listed_where_its_run_meets_the_range() {
 
 #[test]
 fn the_largest_runs_and_the_least_pools_are_listed() {
-    let halves = pool_of(&[store(5, 63, 3), store(MIDDLE, 63, 5), mark(LAST, 1)]);
+    let halves = pool_of(&[store(0, 63, 3), store(MIDDLE, 63, 5), mark(LAST, 1)]);
     assert_eq!(listed(&halves, ..), [0, MIDDLE]);
     assert_eq!(listed(&halves, ..MIDDLE), [0]);
     assert_eq!(listed(&halves, MIDDLE + 5..=MIDDLE + 6), [MIDDLE]);
