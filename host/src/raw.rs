@@ -23,6 +23,14 @@ extern "C" {
         reply_bytes: usize,
     ) -> RawResult;
     fn xapool_count(batch: *const u8, batch_bytes: usize) -> RawResult;
+    fn xapool_list(
+        pool: *const u64,
+        pool_words: usize,
+        first: u64,
+        last: u64,
+        buffer: *mut u8,
+        buffer_bytes: usize,
+    ) -> RawResult;
 }
 
 /// Makes the words an empty pool, whatever stood there.
@@ -56,4 +64,12 @@ pub fn run(pool: &mut [u64], batch: &[u8], reply: &mut [u8]) -> RawResult {
 pub fn count(batch: &[u8]) -> RawResult {
     // SAFETY: as in `check`.
     unsafe { xapool_count(batch.as_ptr(), batch.len()) }
+}
+
+/// Lists the entries that meet `first` to `last` into `buffer`, all of them or none.
+pub fn list(pool: &[u64], first: u64, last: u64, buffer: &mut [u8]) -> RawResult {
+    // SAFETY: two slices borrowed for the call; the one that is written is borrowed alone.
+    unsafe {
+        xapool_list(pool.as_ptr(), pool.len(), first, last, buffer.as_mut_ptr(), buffer.len())
+    }
 }
