@@ -55,6 +55,7 @@ const MAX: u64 = u64::MAX;
 
 /// Tag 32 is 20 in hex, the length 18 is 0012; 21 bytes an entry.
 const ZERO: &str = "200012000000000000000000000000000000000300";
+const HEAD_MARKED: &str = "200012000000000000000000000000000000000302";
 const SIXTY_FOUR: &str = "200012000000000000004000000000000000000505";
 const EIGHT: &str = "200012000000000000000803000000000000000700";
 const LOW: &str = "20001200000000000000003f000000000000000900";
@@ -97,11 +98,14 @@ fn wide_entries() -> Vec<Case> {
     ]
 }
 
+/// An entry as head has the anchor's marks.
 fn heads() -> Vec<Case> {
     let head = [store(0, 3)];
+    let marked = [store(0, 3), Command::Mark { index: 0, mark: 1 }];
     let empty = [lists(0, MAX, 0, &[]), lists(0, 0, 9, &[])];
     vec![
         ("listing: an entry as head", listings(&head, &[lists(0, 0, 21, &[ZERO])])),
+        ("listing: a marked head", listings(&marked, &[lists(0, MAX, 21, &[HEAD_MARKED])])),
         ("listing: after the head", listings(&head, &[lists(1, MAX, 21, &[])])),
         ("listing: an empty pool", listings(&[], &empty)),
         ("listing: 60,480 entries", full_listing()),
