@@ -67,6 +67,17 @@ fn three_to_five_listings_and_the_first_is_of_everything() {
     }
 }
 
+#[test]
+fn listings_have_their_first_and_last_in_order() {
+    let text = printed(4);
+    let listings = text.lines().filter_map(|line| line.strip_prefix("listing "));
+    for listing in listings {
+        let ends: Vec<u64> =
+            listing.split(' ').take(2).map(|text| text.parse().expect("a number")).collect();
+        assert!(ends[0] <= ends[1], "{listing}");
+    }
+}
+
 fn listed_hex(entry: &str) -> String {
     let number = |text: &str| text.parse::<u64>().expect("a number");
     let fields: Vec<u64> = entry.split(' ').map(number).collect();
