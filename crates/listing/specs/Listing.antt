@@ -1,4 +1,4 @@
--- The listing (document 01 and P1: the list of evidence): the entries between two indices, as bytes (R143 to R148).
+-- The listing (P1: the list of evidence): the entries between two indices, as bytes (R143 to R146).
 use Prim.Native.Nat.{ℕ, _*_}
 use mathlib.Core.Bool.{Bool}
 use mathlib.Core.List.{List, [], _∷_, _++_}
