@@ -163,7 +163,8 @@ head-whole {l} v val h =
     let z : block (tierOrder (suc v)) (e .base) ≡ 0 = fits-base (suc v) e t in
     let hi : e .base < block (tierOrder (suc v)) (e .base) * 2 ^ tierOrder (suc v) + 2 ^ tierOrder (suc v) =
     block-hi (tierOrder (suc v)) (e .base) in
-    let hi′ : e .base < 0 * 2 ^ tierOrder (suc v) + 2 ^ tierOrder (suc v) = subst (λ (x : ℕ). e .base < x * 2 ^ tierOrder (suc v) + 2 ^ tierOrder (suc v)) z hi in
+    let hi′ : e .base < 0 * 2 ^ tierOrder (suc v) + 2 ^ tierOrder (suc v) = subst (λ (x : ℕ). e .base < x * 2 ^ tierOrder
+    (suc v) + 2 ^ tierOrder (suc v)) z hi in
     rw (le-leb (0 * 2 ^ tierOrder (suc v)) (e .base) (omega arith)) (lt-ltb (e .base) (1 * 2 ^ tierOrder (suc v)) (omega arith))))
 
 -- A NODE, SLOT BY SLOT
@@ -175,7 +176,8 @@ block-past j z c h =
 -- where slot o of the node over block b starts
 pub slot-start : (v b o : ℕ) → (slots * b + o) * 2 ^ tierOrder v ≡ b * 2 ^ tierOrder (suc v) + o * 2 ^ tierOrder v
 slot-start v b o =
-    let e : 2 ^ tierOrder (suc v) ≡ slots * 2 ^ tierOrder v = ap (λ (j : ℕ). 2 ^ j) (mul-suc slotBits v) ∙ sym (pow-add (slotBits * v) slotBits) ∙ mul-comm (2 ^ tierOrder v) slots in
+    let e : 2 ^ tierOrder (suc v) ≡ slots * 2 ^ tierOrder v = ap (λ (j : ℕ). 2 ^ j) (mul-suc slotBits v) ∙ sym (pow-add
+    (slotBits * v) slotBits) ∙ mul-comm (2 ^ tierOrder v) slots in
     add-mul (slots * b) o (2 ^ tierOrder v)
     ∙ ap (λ (x : ℕ). x + o * 2 ^ tierOrder v) (ap (λ (x : ℕ). x * 2 ^ tierOrder v) (mul-comm slots b)
     ∙ mul-assoc b slots (2 ^ tierOrder v) ∙ ap (λ (x : ℕ). b * x) (sym e))

@@ -122,7 +122,14 @@ visit-node-mul-c : (t : ℕ) → visit-node-lts.Need-mul-c (
   visit-slot-below t,
   visit-slot.Post,
 ) (visit-node-at t) visit-node.Post visit-node-Inv-loop visit-node-μ-loop
-visit-node-mul-c t c = omega (arith, block-le (c .before .before .before .before .before .args .v) (c .before .before .before .before .before .args .range .last), c .before .before .before .before .before .pre .1 .1 .1 .0, c .before .before .before .before .before .pre .1 .1 .1 .1 .0 .0)
+visit-node-mul-c t c = omega (
+  arith,
+  block-le (c .before .before .before .before .before .args .v)
+      (c .before .before .before .before .before .args .range .last),
+  c .before .before .before .before .before .pre .1 .1 .1 .0,
+  c .before
+      .before .before .before .before .pre .1 .1 .1 .1 .0 .0,
+)
 
 -- src/lib.rt:134:17
 visit-node-add-c : (t : ℕ) → visit-node-lts.Need-add-c (
@@ -131,7 +138,14 @@ visit-node-add-c : (t : ℕ) → visit-node-lts.Need-add-c (
   visit-slot-below t,
   visit-slot.Post,
 ) (visit-node-at t) visit-node.Post visit-node-Inv-loop visit-node-μ-loop
-visit-node-add-c t c = omega (arith, block-le (c .before .before .before .before .before .args .v) (c .before .before .before .before .before .args .range .last), c .before .before .before .before .before .pre .1 .1 .1 .0, c .before .before .before .before .before .pre .1 .1 .1 .1 .0 .0)
+visit-node-add-c t c = omega (
+  arith,
+  block-le (c .before .before .before .before .before .args .v)
+      (c .before .before .before .before .before .args .range .last),
+  c .before .before .before .before .before .pre .1 .1 .1 .0,
+  c .before
+      .before .before .before .before .pre .1 .1 .1 .1 .0 .0,
+)
 
 -- src/lib.rt:136:13
 visit-node-same-length : (t : ℕ) → visit-node-lts.Need-same-length (
@@ -282,7 +296,11 @@ visit-slot-mul-look : (t : ℕ) → visit-slot-lts.Need-mul-look (
   visit-node-below t,
   visit-node.Post,
 ) (visit-slot-at t) visit-slot.Post
-visit-slot-mul-look t c = record { fits = rw (c .pow2 .ensures) (slot-small (c .before .before .before .args .v) (c .before .before .before .args .c) (c .before .before .before .args .range .last) (c .before .before .before .pre .1 .1 .1 .0) (c .before .before .before .pre .1 .1 .1 .1 .0 .0)) }
+visit-slot-mul-look t c = record {
+  fits = rw (c .pow2 .ensures) (slot-small (c .before .before .before .args .v)
+      (c .before .before .before .args .c) (c .before .before .before .args .range .last) (c .before .before .before .pre .1 .1 .1 .0)
+      (c .before .before .before .pre .1 .1 .1 .1 .0 .0));
+}
 
 -- src/lib.rt:100:9
 visit-slot-look-requires : (t : ℕ) → visit-slot-lts.Need-look-requires (
@@ -353,7 +371,8 @@ visit-slot-returns : (t : ℕ) → visit-slot-lts.Need-returns (
 visit-slot-returns t c = λ s.
     let a = c .before .before .before .before .before .before .before .before .args in
     emits-nothing (a .range .room) _ (a .k) (ap (λ (es : List Entry). listed es (a .range .first) (a .range .last))
-    (seen-sibling s (a .v) (a .c) _ (ap (λ (x : ℕ). a .c * x) (c .before .before .before .before .before .pow2 .ensures)) (c .before .before .before .before .look .ensures s) _
+    (seen-sibling s (a .v) (a .c) _ (ap (λ (x : ℕ). a .c * x) (c .before .before .before .before .before .pow2 .ensures))
+    (c .before .before .before .before .look .ensures s) _
     (c .before .before .seen .given .1) (c .if1 .taken)))
 
 -- src/lib.rt:107:37
@@ -372,7 +391,8 @@ visit-slot-entry-at-requires : (t : ℕ) → visit-slot-lts.Need-entry-at-requir
 visit-slot-entry-at-requires t c κs =
     let s = c .before .before .before .before .before .before .before .before .before .pre .1 .0 in
     let a = c .before .before .before .before .before .before .before .before .before .args in
-    let w = seen-entry s (a .v) (a .c) _ (ap (λ (x : ℕ). a .c * x) (c .before .before .before .before .before .before .pow2 .ensures)) (c .before .before .before .before .before .look .ensures s)
+    let w = seen-entry s (a .v) (a .c) _ (ap (λ (x : ℕ). a .c * x) (c .before .before .before .before .before .before .pow2 .ensures))
+    (c .before .before .before .before .before .look .ensures s)
     (c .before .before .before .seen .given .1 ∙ ap Shows (c .before .if1 .left)) in
     (node-fits s (w .at-node) .0, (c .before .before .before .before .before .before .before .before .before .pre .1 .1 .0, w .small))
 
@@ -392,7 +412,9 @@ visit-slot-offer-requires : (t : ℕ) → visit-slot-lts.Need-offer-requires (
 visit-slot-offer-requires t c κs =
     let s = c .before .before .before .before .before .before .before .before .before .before .pre .1 .0 in
     let a = c .before .before .before .before .before .before .before .before .before .before .args in
-    let w = seen-entry s (a .v) (a .c) _ (ap (λ (x : ℕ). a .c * x) (c .before .before .before .before .before .before .before .pow2 .ensures)) (c .before .before .before .before .before .before .look .ensures s)
+    let w = seen-entry s (a .v) (a .c) _ (ap (λ (x : ℕ). a .c * x)
+    (c .before .before .before .before .before .before .before .pow2 .ensures))
+    (c .before .before .before .before .before .before .look .ensures s)
     (c .before .before .before .before .seen .given .1 ∙ ap Shows (c .before .before .if1 .left)) in
     let e = c .entry-at .ensures s (w .entry) (w .at-node) (w .stands) in
     let q = c .before .before .before .before .before .before .before .before .before .before .pre .1 .1 .1 .1 in
@@ -426,7 +448,14 @@ visit-slot-mul-if2 : (t : ℕ) → visit-slot-lts.Need-mul-if2 (
   visit-node-below t,
   visit-node.Post,
 ) (visit-slot-at t) visit-slot.Post
-visit-slot-mul-if2 t c = record { fits = rw (c .before .before .before .before .pow2 .ensures) (slot-small (c .before .before .before .before .before .before .before .args .v) (c .before .before .before .before .before .before .before .args .c) (c .before .before .before .before .before .before .before .args .range .last) (c .before .before .before .before .before .before .before .pre .1 .1 .1 .0) (c .before .before .before .before .before .before .before .pre .1 .1 .1 .1 .0 .0)) }
+visit-slot-mul-if2 t c = record {
+  fits = rw (c .before .before .before .before .pow2 .ensures) (slot-small
+      (c .before .before .before .before .before .before .before .args .v)
+      (c .before .before .before .before .before .before .before .args .c)
+      (c .before .before .before .before .before .before .before .args .range .last)
+      (c .before .before .before .before .before .before .before .pre .1 .1 .1 .0)
+      (c .before .before .before .before .before .before .before .pre .1 .1 .1 .1 .0 .0));
+}
 
 -- src/lib.rt:110:25
 visit-slot-sub-if2 : (t : ℕ) → visit-slot-lts.Need-sub-if2 (
@@ -441,7 +470,12 @@ visit-slot-sub-if2 : (t : ℕ) → visit-slot-lts.Need-sub-if2 (
   visit-node-below t,
   visit-node.Post,
 ) (visit-slot-at t) visit-slot.Post
-visit-slot-sub-if2 t c = omega (arith, c .before .before .before .before .pow2 .ensures, pow-pos (tierOrder (c .before .before .before .before .before .before .before .args .v)))
+visit-slot-sub-if2 t c = omega (
+  arith,
+  c .before .before .before .before .pow2 .ensures,
+  pow-pos (tierOrder
+      (c .before .before .before .before .before .before .before .args .v)),
+)
 
 -- src/lib.rt:110:16
 visit-slot-add-if2 : (t : ℕ) → visit-slot-lts.Need-add-if2 (
@@ -458,9 +492,17 @@ visit-slot-add-if2 : (t : ℕ) → visit-slot-lts.Need-add-if2 (
 ) (visit-slot-at t) visit-slot.Post
 visit-slot-add-if2 t c =
     let a = c .before .before .before .before .before .before .before .args in
-    let small : a .c * 2 ^ tierOrder (a .v) < 2 ^ 64 = slot-small (a .v) (a .c) (a .range .last) (c .before .before .before .before .before .before .before .pre .1 .1 .1 .0)
+    let small : a .c * 2 ^ tierOrder (a .v) < 2 ^ 64 = slot-small (a .v) (a .c) (a .range .last)
+    (c .before .before .before .before .before .before .before .pre .1 .1 .1 .0)
     (c .before .before .before .before .before .before .before .pre .1 .1 .1 .1 .0 .0) in
-    record { fits = rw (c .before .before .before .before .pow2 .ensures) (omega (arith, slot-end (a .v) (a .c) small (c .before .before .before .before .before .before .before .pre .1 .1 .0), pow-pos (tierOrder (a .v)))) }
+    record {
+      fits = rw (c .before .before .before .before .pow2 .ensures) (omega (
+        arith,
+        slot-end (a .v) (a .c) small
+            (c .before .before .before .before .before .before .before .pre .1 .1 .0),
+        pow-pos (tierOrder (a .v)),
+      ));
+    }
 
 -- src/lib.rt:111:17
 visit-slot-returns-2 : (t : ℕ) → visit-slot-lts.Need-returns-2 (
@@ -485,7 +527,8 @@ visit-slot-returns-2 t c = λ s.
       pow-pos (tierOrder (a .v)),
     ) in
     emits-nothing (a .range .room) _ (a .k) (node-before (s .valid) (a .v) (a .c)
-    (seen-node s (a .v) (a .c) _ (ap (λ (x : ℕ). a .c * x) (c .before .before .before .before .before .before .pow2 .ensures)) (c .before .before .before .before .before .look .ensures s) _
+    (seen-node s (a .v) (a .c) _ (ap (λ (x : ℕ). a .c * x) (c .before .before .before .before .before .before .pow2 .ensures))
+    (c .before .before .before .before .before .look .ensures s) _
     (c .before .before .before .seen2 .given .1) .0) (a .range .first) (a .range .last) q)
 
 -- src/lib.rt:113:33
@@ -504,8 +547,11 @@ visit-slot-sub-visit-node : (t : ℕ) → visit-slot-lts.Need-sub-visit-node (
 visit-slot-sub-visit-node t c =
     let s = c .before .before .before .before .before .before .before .before .before .pre .1 .0 in
     let a = c .before .before .before .before .before .before .before .before .before .args in
-    let pos : 0 < a .v = below-ready s (a .v) (a .c) _ (ap (λ (x : ℕ). a .c * x) (c .before .before .before .before .before .before .pow2 .ensures)) (c .before .before .before .before .before .look .ensures s) (a .k) _
-    (c .before .before .before .before .before .before .before .before .before .pre .1 .1 .1 .1 .1 s) (c .before .before .before .seen2 .given .1) .0 in
+    let pos : 0 < a .v = below-ready s (a .v) (a .c) _ (ap (λ (x : ℕ). a .c * x)
+    (c .before .before .before .before .before .before .pow2 .ensures)) (c .before .before .before .before .before .look .ensures s)
+    (a .k) _
+    (c .before .before .before .before .before .before .before .before .before .pre .1 .1 .1 .1 .1 s)
+    (c .before .before .before .seen2 .given .1) .0 in
     omega arith
 
 -- src/lib.rt:113:13
@@ -525,8 +571,11 @@ visit-slot-visit-node-requires t c κs =
     let s = c .before .before .before .before .before .before .before .before .before .before .pre .1 .0 in
     let a = c .before .before .before .before .before .before .before .before .before .before .args in
     let p = c .before .before .before .before .before .before .before .before .before .before .pre .1 in
-    let pos : 0 < a .v = below-ready s (a .v) (a .c) _ (ap (λ (x : ℕ). a .c * x) (c .before .before .before .before .before .before .before .pow2 .ensures)) (c .before .before .before .before .before .before .look .ensures s) (a .k) _
-    (c .before .before .before .before .before .before .before .before .before .before .pre .1 .1 .1 .1 .1 s) (c .before .before .before .before .seen2 .given .1) .0 in (
+    let pos : 0 < a .v = below-ready s (a .v) (a .c) _ (ap (λ (x : ℕ). a .c * x)
+    (c .before .before .before .before .before .before .before .pow2 .ensures))
+    (c .before .before .before .before .before .before .look .ensures s) (a .k) _
+    (c .before .before .before .before .before .before .before .before .before .before .pre .1 .1 .1 .1 .1 s)
+    (c .before .before .before .before .seen2 .given .1) .0 in (
       omega (arith, c .before .before .before .before .before .before .before .before .before .before .pre .0),
       (
         p .0,
@@ -536,8 +585,11 @@ visit-slot-visit-node-requires t c κs =
             below-last (a .v) (a .c) (a .range .last) pos (p .1 .1 .0),
             (
               p .1 .1 .1 .0,
-              λ s. below-ready s (a .v) (a .c) _ (ap (λ (x : ℕ). a .c * x) (c .before .before .before .before .before .before .before .pow2 .ensures)) (c .before .before .before .before .before .before .look .ensures s) (a .k) _
-                  (c .before .before .before .before .before .before .before .before .before .before .pre .1 .1 .1 .1 .1 s) (c .before .before .before .before .seen2 .given .1) .1,
+              λ s. below-ready s (a .v) (a .c) _ (ap (λ (x : ℕ). a .c * x)
+                  (c .before .before .before .before .before .before .before .pow2 .ensures))
+                  (c .before .before .before .before .before .before .look .ensures s) (a .k) _
+                  (c .before .before .before .before .before .before .before .before .before .before .pre .1 .1 .1 .1 .1 s)
+                  (c .before .before .before .before .seen2 .given .1) .1,
             ),
           ),
         ),
@@ -593,11 +645,15 @@ visit-slot-returns-4 : (t : ℕ) → visit-slot-lts.Need-returns-4 (
 ) (visit-slot-at t) visit-slot.Post
 visit-slot-returns-4 t c = λ s.
     let a = c .before .before .before .before .before .before .before .before .before .before .before .before .before .args in
-    let w = seen-entry s (a .v) (a .c) _ (ap (λ (x : ℕ). a .c * x) (c .before .before .before .before .before .before .before .before .before .before .pow2 .ensures)) (c .before .before .before .before .before .before .before .before .before .look .ensures s)
-    (c .before .before .before .before .before .before .before .seen .given .1 ∙ ap Shows (c .before .before .before .before .before .if1 .left)) in
+    let w = seen-entry s (a .v) (a .c) _ (ap (λ (x : ℕ). a .c * x)
+    (c .before .before .before .before .before .before .before .before .before .before .pow2 .ensures))
+    (c .before .before .before .before .before .before .before .before .before .look .ensures s)
+    (c .before .before .before .before .before .before .before .seen .given .1 ∙ ap Shows
+    (c .before .before .before .before .before .if1 .left)) in
     let e = c .before .before .before .entry-at .ensures s (w .entry) (w .at-node) (w .stands) in
     subst (λ (es : List Entry). Emits (a .range .room) (listed es (a .range .first) (a .range .last)) (a .buffer .now) (a .k)
-    (c .before .before .offer .last .0) (c .before .before .offer .result)) (ap (λ (x : Entry). x ∷ []) e ∙ sym (w .only)) (c .before .before .offer .ensures)
+    (c .before .before .offer .last .0) (c .before .before .offer .result)) (ap (λ (x : Entry). x ∷ []) e ∙ sym (w .only))
+    (c .before .before .offer .ensures)
 
 -- src/lib.rt:88:1
 visit-slot-same-length-2 : (t : ℕ) → visit-slot-lts.Need-same-length-2 (
@@ -629,11 +685,15 @@ visit-slot-returns-5 : (t : ℕ) → visit-slot-lts.Need-returns-5 (
 ) (visit-slot-at t) visit-slot.Post
 visit-slot-returns-5 t c = λ s.
     let a = c .before .before .before .before .before .before .before .before .before .before .before .before .before .args in
-    let pos : 0 < a .v = below-ready s (a .v) (a .c) _ (ap (λ (x : ℕ). a .c * x) (c .before .before .before .before .before .before .before .before .before .before .pow2 .ensures)) (c .before .before .before .before .before .before .before .before .before .look .ensures s) (a .k) _
-    (c .before .before .before .before .before .before .before .before .before .before .before .before .before .pre .1 .1 .1 .1 .1 s) (c .before .before .before .before .before .before .before .seen2 .given .1) .0 in
+    let pos : 0 < a .v = below-ready s (a .v) (a .c) _ (ap (λ (x : ℕ). a .c * x)
+    (c .before .before .before .before .before .before .before .before .before .before .pow2 .ensures))
+    (c .before .before .before .before .before .before .before .before .before .look .ensures s) (a .k) _
+    (c .before .before .before .before .before .before .before .before .before .before .before .before .before .pre .1 .1 .1 .1 .1 s)
+    (c .before .before .before .before .before .before .before .seen2 .given .1) .0 in
     let up : suc (a .v - 1) ≡ a .v = omega arith in
     subst (λ (u : ℕ). Emits (a .range .room) (listed (between (s .list) (a .c * 2 ^ tierOrder u) (suc (a .c) * 2 ^ tierOrder u))
-    (a .range .first) (a .range .last)) (a .buffer .now) (a .k) (c .before .before .visit-node .last .1 .1 .1 .1 .1 .0) (c .before .before .visit-node .result)) up
+    (a .range .first) (a .range .last)) (a .buffer .now) (a .k) (c .before .before .visit-node .last .1 .1 .1 .1 .1 .0)
+    (c .before .before .visit-node .result)) up
     (c .before .before .visit-node .ensures s)
 
 pub +visit-node+visit-slot-spec : {M : Type 1} → statement M

@@ -1,3 +1,4 @@
+-- `visit_head`: all entries that meet the range.
 use mathlib.Core.Path.{_≡_, ap, sym, subst}
 use mathlib.Core.List.{List, [], _∷_}
 use native.Mathlib.Omega.{arith}
@@ -9,11 +10,6 @@ use Rattle.listing.proofs.VisitLaws.{head-none, head-lone, head-fits, h
 use borrow.Author.Needs.{needs}
 use Rattle.listing.proofs.visit_head.Statement.{statement}
 use Rattle.listing.proofs.visit_head.Tie as tie
-use Rattle.listing.proofs.visit_head.Reads as reads
-use Rattle.listing.proofs.visit_head.Lts as lts
-use Rattle.listing.proofs.offer.Reads as offer-reads
-use Rattle.listing.proofs.visit_node.Reads as visit-node-reads
-use Rattle.lookup.proofs.enter.Reads as enter-reads
 
 enter-requires : tie.Need-enter-requires
 enter-requires c κs = search needs
@@ -39,7 +35,14 @@ visit-node-requires c κs =
       s,
       (
         head-low s (c .before .before .before .before .enter .ensures s) _ _ (c .before .before .head2 .given .1),
-        (omega arith, (c .before .before .before .before .before .before .before .pre .1, λ s. head-ready s (c .before .before .before .before .enter .ensures s) _ _ (c .before .before .head2 .given .1))),
+        (
+          omega arith,
+          (
+            c .before .before .before .before .before .before .before .pre .1,
+            λ s. head-ready s
+                (c .before .before .before .before .enter .ensures s) _ _ (c .before .before .head2 .given .1),
+          ),
+        ),
       ),
     )
 
@@ -56,7 +59,9 @@ returns-2 : tie.Need-returns-2
 returns-2 c = λ s.
     let a = c .before .before .before .before .before .before .before .before .before .before .args in
     subst (λ (es : List Entry). Emits (a .range .room) (listed es (a .range .first) (a .range .last)) (a .buffer .now) 0
-    (c .before .before .offer .last .0) (c .before .before .offer .result)) (sym (head-lone s (c .before .before .before .before .before .before .before .enter .ensures s) _ (c .before .before .before .before .before .head .given .1)))
+    (c .before .before .offer .last .0) (c .before .before .offer .result)) (sym (head-lone s
+    (c .before .before .before .before .before .before .before .enter .ensures s) _
+    (c .before .before .before .before .before .head .given .1)))
     (c .before .before .offer .ensures)
 
 same-length-2 : tie.Need-same-length-2
@@ -66,7 +71,9 @@ returns-3 : tie.Need-returns-3
 returns-3 c = λ s.
     let a = c .before .before .before .before .before .before .before .before .before .before .args in
     subst (λ (es : List Entry). Emits (a .range .room) (listed es (a .range .first) (a .range .last)) (a .buffer .now) 0
-    (c .before .before .visit-node .last .1 .1 .1 .1 .1 .0) (c .before .before .visit-node .result)) (head-all s (c .before .before .before .before .before .before .before .enter .ensures s) _ _ (c .before .before .before .before .before .head2 .given .1))
+    (c .before .before .visit-node .last .1 .1 .1 .1 .1 .0) (c .before .before .visit-node .result)) (head-all s
+    (c .before .before .before .before .before .before .before .enter .ensures s) _ _
+    (c .before .before .before .before .before .head2 .given .1))
     (c .before .before .visit-node .ensures s)
 
 pub visit-head-spec : {M : Type 1} → statement M

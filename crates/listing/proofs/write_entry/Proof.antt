@@ -1,12 +1,27 @@
+-- `write_entry`: the bytes of an entry, from a place on.
 use Rattle.listing.proofs.EmitLaws.{entry-written}
 use borrow.Author.Needs.{needs}
 use Rattle.listing.proofs.write_entry.Statement.{statement}
 use Rattle.listing.proofs.write_entry.Tie as tie
-use Rattle.listing.proofs.write_entry.Reads as reads
-use Rattle.listing.proofs.write_entry.Lts as lts
-use Rattle.batch.proofs.put1.Reads as put1-reads
-use Rattle.batch.proofs.put2.Reads as put2-reads
-use Rattle.batch.proofs.put8.Reads as put8-reads
+
+-- THE PLACES IN THE CODE, each from one after it
+abbrev put13-from-slice-known7 : tie.After-slice-known7 → tie.After-put13
+put13-from-slice-known7 c = c .before .before
+
+abbrev put82-from-slice-known7 : tie.After-slice-known7 → tie.After-put82
+put82-from-slice-known7 c = put13-from-slice-known7 c .before .before .before .before
+
+abbrev put12-from-slice-known7 : tie.After-slice-known7 → tie.After-put12
+put12-from-slice-known7 c = put82-from-slice-known7 c .before .before .before .before
+
+abbrev put8-from-slice-known7 : tie.After-slice-known7 → tie.After-put8
+put8-from-slice-known7 c = put12-from-slice-known7 c .before .before .before .before
+
+abbrev put2-from-slice-known7 : tie.After-slice-known7 → tie.After-put2
+put2-from-slice-known7 c = put8-from-slice-known7 c .before .before .before .before
+
+abbrev put1-from-slice-known7 : tie.After-slice-known7 → tie.After-put1
+put1-from-slice-known7 c = put2-from-slice-known7 c .before .before .before .before
 
 add-put1 : tie.Need-add-put1
 add-put1 c = search needs
@@ -48,7 +63,9 @@ same-length : tie.Need-same-length
 same-length c = search needs
 
 returns : tie.Need-returns
-returns c = entry-written _ _ (c .before .before .before .before .before .before .before .before .before .before .before .before .before .before .before .before .before .before .before .before .before .before .before .before .before .args .e) (c .before .before .before .before .before .before .before .before .before .before .before .before .before .before .before .before .before .before .before .before .before .before .put1 .ensures) (c .before .before .before .before .before .before .before .before .before .before .before .before .before .before .before .before .before .before .put2 .ensures) (c .before .before .before .before .before .before .before .before .before .before .before .before .before .before .put8 .ensures) (c .before .before .before .before .before .before .before .before .before .before .put12 .ensures) (c .before .before .before .before .before .before .put82 .ensures) (c .before .before .put13 .ensures)
+returns c = entry-written _ _ (put1-from-slice-known7 c .before .before .before .args .e) (put1-from-slice-known7 c .put1 .ensures)
+    (put2-from-slice-known7 c .put2 .ensures) (put8-from-slice-known7 c .put8 .ensures) (put12-from-slice-known7 c .put12 .ensures)
+    (put82-from-slice-known7 c .put82 .ensures) (put13-from-slice-known7 c .put13 .ensures)
 
 pub write-entry-spec : {M : Type 1} → statement M
 write-entry-spec =
