@@ -29,12 +29,13 @@ bit-linear a b =
     ∙ xor-swap (a / 2) (b / 2) (a % 2 * polynomial) (b % 2 * polynomial)
 
 pub steps-linear : (n a b : ℕ) → bitSteps n (bitXor a b) ≡ bitXor (bitSteps n a) (bitSteps n b)
+unfolding bitSteps
 steps-linear zero a b = refl
 steps-linear (suc n) a b = ap (bitSteps n) (bit-linear a b) ∙ steps-linear n (bitStep a) (bitStep b)
 
 -- bits that are zero do nothing but leave
 pub steps-high : (n h : ℕ) → bitSteps n (h * 2 ^ n) ≡ h
-unfolding bitStep
+unfolding bitStep bitSteps
 steps-high zero h = mul-one h
 steps-high (suc n) h =
     ap (bitSteps n)
@@ -42,8 +43,13 @@ steps-high (suc n) h =
     ∙ steps-high n h
 
 pub steps-more : (m n c : ℕ) → bitSteps (m + n) c ≡ bitSteps n (bitSteps m c)
+unfolding bitSteps
 steps-more zero n c = ap (λ (k : ℕ). bitSteps k c) (zero-add n)
 steps-more (suc m) n c = ap (λ (k : ℕ). bitSteps k c) (suc-add m n) ∙ steps-more m n (bitStep c)
+
+pub steps-none : (c : ℕ) → bitSteps 0 c ≡ c
+unfolding bitSteps
+steps-none c = refl
 
 -- ---- pieces
 

@@ -2,16 +2,17 @@
 use mathlib.Core.Path.{_≡_, refl, sym, ap, ap₂, subst, _∙_}
 use mathlib.Core.Bool.{Bool, true, false}
 use mathlib.Core.List.{List, [], _∷_, _++_}
-use Prim.Native.Nat.{ℕ, zero, suc, _+_, _*_, _/_, _%_, _^_, _≤_, _<_}
-use native.Mathlib.Nat.{add-zero, zero-add, add-suc, suc-add, le-of-suc-le-suc, not-suc-le-zero, mod-lt, add-comm}
+use Prim.Native.Nat.{ℕ, zero, suc, _+_, _*_, _/_, _%_, _^_, _<_}
+use native.Mathlib.Nat.{add-zero, zero-add, add-suc, suc-add, le-of-suc-le-suc, not-suc-le-zero, mod-lt}
 use native.Mathlib.Omega.{arith}
 use lib.Dec.{T, eqb, eqb→eq, lit<}
 use lib.Bits.{bitXor, xor-comm, xor-shifted}
 use lib.Pow.{split}
-use lib.ListN.{length, getD}
+use lib.ListN.{length, getD, List·getD-append}
+use lib.Seq.{getD-append-add}
 use Rattle.crc32c.specs.Crc.{bitStep, bitSteps, byteStep}
-use Rattle.crc32c.specs.Tables.{Table, Further}
-use Rattle.crc32c.proofs.CrcLaws.{steps-linear, steps-high, steps-more}
+use Rattle.crc32c.specs.Tables.{Table, Further, after}
+use Rattle.crc32c.proofs.CrcLaws.{steps-linear, steps-high, steps-more, steps-none}
 
 abbrev both : Bool → Bool → Bool
 both true b = b
@@ -65,8 +66,8 @@ tables-rule t f e h = record { long = e; entry = λ k l. followed (t ++ f) f h k
 -- ---- look-ups
 
 -- the low byte by a look-up, the rest one byte nearer
-pub low-byte : (n x : ℕ) → bitSteps (8 + n) x ≡ bitXor (bitSteps (8 + n) (x % 256)) (bitSteps n (x / 256))
-low-byte n x =
+low-bits : (n x : ℕ) → bitSteps (8 + n) x ≡ bitXor (bitSteps (8 + n) (x % 256)) (bitSteps n (x / 256))
+low-bits n x =
     ap (bitSteps (8 + n)) (sym (xor-shifted (x / 256) 8 (x % 256) (mod-lt x (lit< tt)) ∙ split x 8) ∙ xor-comm (x / 256 * 2 ^ 8) (x % 256))
     ∙ steps-linear (8 + n) (x % 256) (x / 256 * 2 ^ 8)
     ∙ ap (bitXor (bitSteps (8 + n) (x % 256))) (steps-more 8 n (x / 256 * 2 ^ 8) ∙ ap (bitSteps n) (steps-high 8 (x / 256)))
@@ -74,5 +75,35 @@ low-byte n x =
 pub byte-by-table : (t : List ℕ) → Table t → (c b : ℕ) → byteStep c b ≡ bitXor (getD t (bitXor c b % 256) 0) (bitXor c b / 256)
 unfolding byteStep
 byte-by-table t r c b =
-    low-byte 0 (bitXor c b)
-    ∙ ap (λ (e : ℕ). bitXor e (bitXor c b / 256)) (sym (r .entry (bitXor c b % 256) (mod-lt (bitXor c b) (lit< tt))))
+    low-bits 0 (bitXor c b)
+    ∙ ap₂ bitXor (sym (r .entry (bitXor c b % 256) (mod-lt (bitXor c b) (lit< tt)))) (steps-none (bitXor c b / 256))
+
+pub low-byte : (n x : ℕ) → after (n + 1) x ≡ bitXor (after (n + 1) (x % 256)) (after n (x / 256))
+unfolding after
+low-byte n x =
+    let e : 8 * (n + 1) ≡ 8 + 8 * n = omega arith in
+    subst (λ (m : ℕ). bitSteps m x ≡ bitXor (bitSteps m (x % 256)) (bitSteps (8 * n) (x / 256))) (sym e) (low-bits (8 * n) x)
+
+pub first-at : (t : List ℕ) → Table t → (b : ℕ) → b < 256 → getD t b 0 ≡ after 1 b
+unfolding after
+first-at t r b h = r .entry b h
+
+after-next : (n c : ℕ) → bitSteps 8 (after n c) ≡ after (n + 1) c
+unfolding after
+after-next n c = let e : 8 * n + 8 ≡ 8 * (n + 1) = omega arith in sym (steps-more (8 * n) 8 c) ∙ ap (λ (m : ℕ). bitSteps m c) e
+
+-- the entry of a byte in the k-th of the further tables
+pub further-at : (t f : List ℕ) → Table t → Further t f → (k b : ℕ) → k < 7 → b < 256 → getD f (k * 256 + b) 0 ≡ after (k + 2) b
+further-at t f r g zero b h l =
+    ap (λ (i : ℕ). getD f i 0) {x = 0 * 256 + b} {y = b} (omega arith)
+    ∙ g .entry b (omega arith)
+    ∙ ap (bitSteps 8) (List·getD-append t f 0 b (omega (arith, r .long)) ∙ first-at t r b l)
+    ∙ after-next 1 b
+further-at t f r g (suc k) b h l =
+    let e : suc k * 256 + b ≡ length t + (k * 256 + b) = omega (arith, r .long) in
+    let i : k + 2 + 1 ≡ suc k + 2 = omega arith in
+    g .entry (suc k * 256 + b) (omega arith)
+    ∙ ap (λ (j : ℕ). bitSteps 8 (getD (t ++ f) j 0)) e
+    ∙ ap (bitSteps 8) (getD-append-add t f (k * 256 + b) 0 ∙ further-at t f r g k b (omega arith) l)
+    ∙ after-next (k + 2) b
+    ∙ ap (λ (n : ℕ). after n b) i

@@ -11,7 +11,8 @@ polynomial = 0x82F63B78
 unfoldable pub bitStep : ℕ → ℕ
 bitStep c = bitXor (c / 2) (c % 2 * polynomial)
 
-abbrev pub bitSteps : ℕ → ℕ → ℕ
+-- R161: n bits
+unfoldable pub bitSteps : ℕ → ℕ → ℕ
 bitSteps zero c = c
 bitSteps (suc n) c = bitSteps n (bitStep c)
 

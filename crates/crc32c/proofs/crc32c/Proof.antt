@@ -2,7 +2,7 @@
 use mathlib.Core.Path.{refl, ap, _∙_}
 use Prim.Native.Nat.{zero-le}
 use borrow.Author.Needs.{needs}
-use Rattle.crc32c.specs.Crc.{bitStep, complement, crc32c}
+use Rattle.crc32c.specs.Crc.{bitStep, bitSteps, complement, crc32c}
 use Rattle.crc32c.proofs.TableLaws.{upTo, follow, table-rule}
 use Rattle.crc32c.proofs.crc32c.Statement.{statement}
 use Rattle.crc32c.proofs.crc32c.Tie as tie
@@ -11,7 +11,7 @@ slice-aggregate-by-bytes : tie.Need-slice-aggregate-by-bytes
 slice-aggregate-by-bytes c = search needs
 
 by-bytes-requires : tie.Need-by-bytes-requires
-unfolding bitStep upTo follow
+unfolding bitStep bitSteps upTo follow
 by-bytes-requires c κs = (table-rule _ refl tt, zero-le)
 
 returns : tie.Need-returns
