@@ -3,7 +3,7 @@
 use mathlib.Core.Path.{_≡_, refl, sym, ap, ap₂, subst, _∙_}
 use mathlib.Core.List.{List, [], _∷_, _++_}
 use Prim.Native.Nat.{ℕ, zero, suc, _+_, _*_, _/_, _%_, _^_, _≤_, _<_}
-use native.Mathlib.Nat.{add-assoc, mul-suc, zero-mul}
+use native.Mathlib.Nat.{add-zero, add-assoc, mul-one, mul-suc, zero-mul}
 use native.Mathlib.Omega.{arith}
 use lib.Bits.{bitXor, xor-zero-r}
 use lib.ListN.{length, getD, take, drop, length-drop, take-append-drop}
@@ -52,6 +52,13 @@ by-word s at (suc n) c h =
     ∙ ap₂ byteStep (by-word s at n c (omega arith)) (getD-drop at s n 0)
     ∙ byte-after n c (word s at n) (getD s (at + n) 0)
 
+pub word-four : (s : List ℕ) (at : ℕ) {a b c d : ℕ} → a ≡ getD s at 0 → b ≡ getD s (at + 1) 0 → c ≡ getD s (at + 2) 0 → d ≡ getD s (at + 3) 0
+    → bitXor (bitXor (bitXor a (b * 256)) (c * 65536)) (d * 16777216) ≡ word s at 4
+unfolding word
+word-four s at {a} {b} {c} {d} ea eb ec ed =
+    let e : a ≡ getD s (at + 0) 0 * 1 = ea ∙ sym (mul-one (getD s (at + 0) 0) ∙ ap (λ (i : ℕ). getD s i 0) (add-zero at)) in
+    ap₂ bitXor (ap₂ bitXor (ap₂ bitXor e (ap (λ (x : ℕ). x * 256) eb)) (ap (λ (x : ℕ). x * 65536) ec)) (ap (λ (x : ℕ). x * 16777216) ed)
+
 -- a part and then the rest
 pub register-on : (c : ℕ) (s : List ℕ) (i n : ℕ) → register (register c (take n (drop i s))) (drop (i + n) s) ≡ register c (drop i s)
 register-on c s i n =
@@ -70,22 +77,24 @@ by-two s at c h =
     ∙ after-linear 4 (after 4 (bitXor c (word s at 4))) (word s (at + 4) 4)
     ∙ ap (λ (x : ℕ). bitXor x (after 4 (word s (at + 4) 4))) (after-more 4 4 (bitXor c (word s at 4)))
 
--- four bytes of a number below 2^32, from the table k on
+-- four bytes of a number below 2^32, with k bytes of zeros after them
 pub by-four : (k x : ℕ) → x < 2 ^ 32
-    → after (k + 4) x ≡ bitXor (bitXor (bitXor (after (k + 4) (x % 256)) (after (k + 3) (x / 256 % 256)))
-        (after (k + 2) (x / 256 / 256 % 256))) (after (k + 1) (x / 256 / 256 / 256 % 256))
+    → after (k + 4) x ≡ bitXor (bitXor (bitXor (after (k + 3 + 1) (x % 256)) (after (k + 2 + 1) (x / 256 % 256)))
+    (after (k + 1 + 1) (x / 256 / 256 % 256))) (after (k + 1) (x / 256 / 256 / 256 % 256))
 by-four k x h =
     let x₁ = x / 256 in
     let x₂ = x₁ / 256 in
     let x₃ = x₂ / 256 in
     let z : x₃ / 256 ≡ 0 = omega arith in
+    let a = after (k + 3 + 1) (x % 256) in
+    let b = after (k + 2 + 1) (x₁ % 256) in
+    let c = after (k + 1 + 1) (x₂ % 256) in
+    let d = after (k + 1) (x₃ % 256) in
     one 3 x
-    ∙ ap (bitXor (after (k + 4) (x % 256))) (one 2 x₁
-    ∙ ap (bitXor (after (k + 3) (x₁ % 256))) (one 1 x₂
-    ∙ ap (bitXor (after (k + 2) (x₂ % 256))) (low-byte k x₃
-    ∙ ap (bitXor (after (k + 1) (x₃ % 256))) (ap (after k) z ∙ after-nothing k) ∙ xor-zero-r (after (k + 1) (x₃ % 256)))))
-    ∙ sym (xor-assoc (bitXor (after (k + 4) (x % 256)) (after (k + 3) (x₁ % 256))) (after (k + 2) (x₂ % 256)) (after (k + 1) (x₃ % 256))
-    ∙ xor-assoc (after (k + 4) (x % 256)) (after (k + 3) (x₁ % 256)) (bitXor (after (k + 2) (x₂ % 256)) (after (k + 1) (x₃ % 256))))
+    ∙ ap (bitXor a) (one 2 x₁
+    ∙ ap (bitXor b) (one 1 x₂
+    ∙ ap (bitXor c) (low-byte k x₃ ∙ ap (bitXor d) (ap (after k) z ∙ after-nothing k) ∙ xor-zero-r d)))
+    ∙ sym (xor-assoc (bitXor a b) c d ∙ xor-assoc a b (bitXor c d))
   where
-    one : (j y : ℕ) → after (k + (j + 1)) y ≡ bitXor (after (k + (j + 1)) (y % 256)) (after (k + j) (y / 256))
-    one j y = subst (λ (m : ℕ). after m y ≡ bitXor (after m (y % 256)) (after (k + j) (y / 256))) (add-assoc k j 1) (low-byte (k + j) y)
+    one : (j y : ℕ) → after (k + (j + 1)) y ≡ bitXor (after (k + j + 1) (y % 256)) (after (k + j) (y / 256))
+    one j y = ap (λ (m : ℕ). after m y) (sym (add-assoc k j 1)) ∙ low-byte (k + j) y

@@ -39,8 +39,8 @@ loop-again c =
     let l = c .before .before .before .loop in (
       omega arith,
       ap₂ register (c .step .ensures) (ap (λ (n : ℕ). drop n s) (add-one (l .i)))
-      ∙ sym (ap (register (l .c)) (drop-cons s (l .i) 0 (omega arith)))
-      ∙ l .inv .1,
+          ∙ sym (ap (register (l .c)) (drop-cons s (l .i) 0 (omega arith)))
+          ∙ l .inv .1,
     )
 
 returns : tie.Need-returns Inv-loop μ-loop
