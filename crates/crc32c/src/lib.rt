@@ -14,7 +14,7 @@ ghost use Rattle.crc32c.specs.Tables.{Table, Further, after, word};
 const ALL: u32 = 0xFFFFFFFF;
 
 // From this length on the time for eight bytes at once pays for the copy of their tables.
-const LONG: usize = 256;
+const LONG: usize = 64;
 
 fn wide(b: u8) -> u32
     ensures { λ r. ⌜ r ≡ b ⌝ }
