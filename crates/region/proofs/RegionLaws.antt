@@ -8,39 +8,31 @@ use native.Mathlib.Omega.{arith}
 use lib.Dec.{eqb}
 use lib.ListN.{length, getD}
 use lib.Seq.{ext-getD}
-use borrow.Author.Tests.{eqb-true, eqb-false, eq-eqb, ne-eqb}
-use Rattle.blocks.specs.Choice.{pick, either}
-use Rattle.blocks.proofs.BoolLaws.{clash, byT, is-false}
+use borrow.Author.Tests.{eqb-true, eqb-false, eq-eqb}
+use Rattle.blocks.specs.Choice.{pick}
+use Rattle.blocks.proofs.BoolLaws.{clash, byT, is-false, either-e, either-yes}
 use Rattle.crc32c.specs.Crc.{crc32c}
-use Rattle.region.specs.Region.{Comparison, Nothing, Matched, Different, equal, compare, number, Compared, compared}
+use Rattle.region.specs.Region.{Comparison, Nothing, Matched, Different, equal, anyEmpty, compare, number, Compared, compared}
 use Rattle.region.specs.Claims.{Match, AnyEmpty}
 use Rattle.region.proofs.SpreadLaws.{equal-is, equal-self}
 
 -- ---- what the code decides
 
 module _ (old new : List ℕ) where
-  pub first-empty : length old ≡ 0 → compare old new ≡ Nothing
+  pub some-empty : anyEmpty old new ≡ true → compare old new ≡ Nothing
   unfolding compare
-  first-empty e = rw (eq-eqb (length old) 0 e)
+  some-empty t = rw t
 
-  pub second-empty : length new ≡ 0 → compare old new ≡ Nothing
-  unfolding compare
-  second-empty e =
-      byT (eqb (length old) 0) (λ t. rw t) (λ f. rw (f, eq-eqb (length new) 0 e))
-
-  module _ (a : 0 < length old) (b : 0 < length new) where
-    some : compare old new ≡ pick (equal old new) Matched Different
+  module _ (f : anyEmpty old new ≡ false) where
+    none-empty : compare old new ≡ pick (equal old new) Matched Different
     unfolding compare
-    some =
-        let x : eqb (length old) 0 ≡ false = ne-eqb (length old) 0 (λ e. omega arith) in
-        let y : eqb (length new) 0 ≡ false = ne-eqb (length new) 0 (λ e. omega arith) in
-        rw (x, y)
+    none-empty = rw f
 
     pub are-equal : equal old new ≡ true → compare old new ≡ Matched
-    are-equal t = some ∙ ap (λ (q : Bool). pick q Matched Different) t
+    are-equal t = none-empty ∙ ap (λ (q : Bool). pick q Matched Different) t
 
     pub not-equal : equal old new ≡ false → compare old new ≡ Different
-    not-equal f = some ∙ ap (λ (q : Bool). pick q Matched Different) f
+    not-equal g = none-empty ∙ ap (λ (q : Bool). pick q Matched Different) g
 
     pub lengths-differ : (length old ≡ length new → ⊥) → compare old new ≡ Different
     lengths-differ d = not-equal (is-false (λ t. d (ap length (equal-is old new t))))
@@ -50,27 +42,40 @@ module _ (old new : List ℕ) where
 apart : {a b : Comparison} → a ≡ b → (number a ≡ number b → ⊥) → ⊥
 apart e d = d (ap number e)
 
--- an empty region, or not
-module _ (old new : List ℕ) {C : Type 0} where
-  by-length : (AnyEmpty old new → C) → (0 < length old → 0 < length new → C) → C
-  by-length f g =
-      byT (eqb (length old) 0) (λ t. f (inl (eqb-true (length old) 0 t)))
-      (λ x. byT (eqb (length new) 0) (λ t. f (inr (eqb-true (length new) 0 t)))
-      (λ y. g (omega (arith, eqb-false (length old) 0 x)) (omega (arith, eqb-false (length new) 0 y))))
+empty-yes : (old new : List ℕ) → AnyEmpty old new → anyEmpty old new ≡ true
+empty-yes old new (inl e) = rw (eq-eqb (length old) 0 e)
+empty-yes old new (inr e) = rw (eq-eqb (length new) 0 e) (either-yes (eqb (length old) 0))
+
+empty-is : (old new : List ℕ) → anyEmpty old new ≡ true → AnyEmpty old new
+empty-is old new t =
+    either-e (eqb (length old) 0) (eqb (length new) 0) t (λ a. inl (eqb-true (length old) 0 a)) (λ b. inr (eqb-true (length new) 0 b))
 
 nothing : (old new : List ℕ) → AnyEmpty old new → compare old new ≡ Nothing
-nothing old new (inl e) = first-empty old new e
-nothing old new (inr e) = second-empty old new e
+nothing old new x = some-empty old new (empty-yes old new x)
+
+pos : (n : ℕ) → (n ≡ 0 → ⊥) → 0 < n
+pos n h = byT (eqb n 0) (λ t. absurd (h (eqb-true n 0 t))) (λ f. omega (arith, eqb-false n 0 f))
+
+-- both longer than 0
+old-long : (old new : List ℕ) → anyEmpty old new ≡ false → 0 < length old
+old-long old new f = pos (length old) (λ e. clash (empty-yes old new (inl e)) f)
+
+new-long : (old new : List ℕ) → anyEmpty old new ≡ false → 0 < length new
+new-long old new f = pos (length new) (λ e. clash (empty-yes old new (inr e)) f)
 
 -- R165
 pub nothing-exactly : (old new : List ℕ) → (compare old new ≡ Nothing → AnyEmpty old new) × (AnyEmpty old new → compare old new ≡ Nothing)
 nothing-exactly old new = (
-  λ e. by-length old new (λ x. x) (λ a b.
+  λ e. byT (anyEmpty old new) (empty-is old new) (λ g.
       byT (equal old new)
-      (λ t. absurd (apart (sym (are-equal old new a b t) ∙ e) (λ z. omega arith)))
-      (λ f. absurd (apart (sym (not-equal old new a b f) ∙ e) (λ z. omega arith)))),
+      (λ t. absurd (apart (sym (are-equal old new g t) ∙ e) (λ z. omega arith)))
+      (λ f. absurd (apart (sym (not-equal old new g f) ∙ e) (λ z. omega arith)))),
   nothing old new,
 )
+
+neither : (old new : List ℕ) → AnyEmpty old new → 0 < length old → 0 < length new → ⊥
+neither old new (inl e) a b = omega arith
+neither old new (inr e) a b = omega arith
 
 match-equal : {old new : List ℕ} → Match old new → equal old new ≡ true
 match-equal {old} {new} m = subst (λ (l : List ℕ). equal old l ≡ true) (ext-getD 0 old new (m .lengths) (m .bytes)) (equal-self old)
@@ -78,13 +83,18 @@ match-equal {old} {new} m = subst (λ (l : List ℕ). equal old l ≡ true) (ext
 -- R166
 pub matched-exactly : (old new : List ℕ) → (compare old new ≡ Matched → Match old new) × (Match old new → compare old new ≡ Matched)
 matched-exactly old new = (
-  λ e. by-length old new (λ x. absurd (apart (sym (nothing old new x) ∙ e) (λ z. omega arith))) (λ a b.
+  λ e. byT (anyEmpty old new) (λ x. absurd (apart (sym (some-empty old new x) ∙ e) (λ z. omega arith))) (λ g.
       byT (equal old new)
       (λ t.
       let q : old ≡ new = equal-is old new t in
-      record { old-some = a; new-some = b; lengths = ap length q; bytes = λ i h. ap (λ (l : List ℕ). getD l i 0) q })
-      (λ f. absurd (apart (sym (not-equal old new a b f) ∙ e) (λ z. omega arith)))),
-  λ m. are-equal old new (m .old-some) (m .new-some) (match-equal m),
+      record {
+        old-some = old-long old new g;
+        new-some = new-long old new g;
+        lengths = ap length q;
+        bytes = λ i h. ap (λ (l : List ℕ). getD l i 0) q;
+      })
+      (λ f. absurd (apart (sym (not-equal old new g f) ∙ e) (λ z. omega arith)))),
+  λ m. are-equal old new (is-false (λ t. neither old new (empty-is old new t) (m .old-some) (m .new-some))) (match-equal m),
 )
 
 pub matched-same : (old new : List ℕ) → compare old new ≡ Matched → old ≡ new
@@ -99,15 +109,15 @@ different-exactly old new = (
     λ x. apart (sym (nothing old new x) ∙ e) (λ z. omega arith),
     λ m. apart (sym (matched-exactly old new .1 m) ∙ e) (λ z. omega arith),
   ),
-  λ p q. by-length old new (λ x. absurd (p x)) (λ a b.
-      byT (equal old new) (λ t. absurd (q (matched-exactly old new .0 (are-equal old new a b t)))) (not-equal old new a b)),
+  λ p q. byT (anyEmpty old new) (λ x. absurd (p (empty-is old new x))) (λ g.
+      byT (equal old new) (λ t. absurd (q (matched-exactly old new .0 (are-equal old new g t)))) (not-equal old new g)),
 )
 
 -- R167: an empty region matches nothing, another empty one least of all
 pub empty-never-matched : (new : List ℕ) → (compare [] new ≡ Matched → ⊥) × (compare new [] ≡ Matched → ⊥)
 empty-never-matched new = (
-  λ e. apart (sym (first-empty [] new refl) ∙ e) (λ z. omega arith),
-  λ e. apart (sym (second-empty new [] refl) ∙ e) (λ z. omega arith),
+  λ e. apart (sym (nothing [] new (inl refl)) ∙ e) (λ z. omega arith),
+  λ e. apart (sym (nothing new [] (inr refl)) ∙ e) (λ z. omega arith),
 )
 
 -- R168: a host reads 1 exactly if the regions match

@@ -17,11 +17,13 @@ equal [] (y ∷ ys) = false
 equal (x ∷ xs) [] = false
 equal (x ∷ xs) (y ∷ ys) = both (eqb x y) (equal xs ys)
 
--- R165 to R167: an empty region, old or new, leaves nothing to compare
+-- R165: a region without a byte, old or new, leaves nothing to compare
+abbrev pub anyEmpty : (old new : List ℕ) → Bool
+anyEmpty old new = either (eqb (length old) 0) (eqb (length new) 0)
+
+-- R165 to R167
 unfoldable pub compare : (old new : List ℕ) → Comparison
-compare old new =
-    pick (either (eqb (length old) 0) (eqb (length new) 0)) Nothing
-    (pick (equal old new) Matched Different)
+compare old new = pick (anyEmpty old new) Nothing (pick (equal old new) Matched Different)
 
 -- R168: 0 is no match: it is what memory holds that nobody wrote
 abbrev pub number : Comparison → ℕ

@@ -1,7 +1,7 @@
 // The comparison of an old and a new region (R165 to R169).
 ghost use mathlib.Core.Path.{_≡_};
 ghost use lib.ListN.{length};
-ghost use Rattle.region.specs.Region.{equal, compare, number, compared};
+ghost use Rattle.region.specs.Region.{equal, anyEmpty, compare, number, compared};
 
 pub enum Comparison {
     Nothing,
@@ -23,21 +23,28 @@ fn same(a: &[u8], b: &[u8]) -> bool
 {
     let mut d: u8 = 0;
     let mut i: usize = 0;
-    while i < a.len() {
+    while 0 < a.len() - i {
         d = d | (a[i] ^ b[i]);
         i += 1;
     }
     d == 0
 }
 
+// Whether a region is empty.
+fn any_empty(old: &[u8], new: &[u8]) -> bool
+    ensures { λ r. ⌜ r ≡ anyEmpty (now (old .entry)) (now (new .entry)) ⌝ }
+{
+    if old.len() == 0 {
+        return true;
+    }
+    new.len() == 0
+}
+
 /// Whether two regions match; where either is empty there is nothing to compare.
 pub fn compare(old: &[u8], new: &[u8]) -> Comparison
     ensures { λ r. ⌜ r ≡ compare (now (old .entry)) (now (new .entry)) ⌝ }
 {
-    if old.len() == 0 {
-        return Comparison::Nothing;
-    }
-    if new.len() == 0 {
+    if any_empty(old, new) {
         return Comparison::Nothing;
     }
     if old.len() != new.len() {

@@ -21,6 +21,9 @@ loop-holds : tie.Need-loop-holds Inv-loop μ-loop
 unfolding spread
 loop-holds c = (omega arith, refl)
 
+sub-loop : tie.Need-sub-loop Inv-loop μ-loop
+sub-loop c = omega arith
+
 shared-slice-read-d : tie.Need-shared-slice-read-d Inv-loop μ-loop
 shared-slice-read-d c = omega arith
 
@@ -59,6 +62,7 @@ same-spec =
     Inv-loop
     μ-loop
     loop-holds
+    sub-loop
     shared-slice-read-d
     shared-slice-read-d-2
     add-i
