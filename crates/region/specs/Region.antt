@@ -1,4 +1,4 @@
--- The comparison of an old and a new region, and its number for a host (R165 to R169). Assumes nothing: these are definitions.
+-- Whether a new region holds what the old one held, and the number of that for a host (R165 to R169). Assumes nothing: these are definitions.
 use mathlib.Core.Bool.{Bool, true, false}
 use mathlib.Core.List.{List, [], _∷_}
 use Prim.Native.Nat.{ℕ}

@@ -1,4 +1,4 @@
-// The comparison of an old and a new region (R165 to R169).
+// Whether a new region holds what the old one held (R165 to R169).
 ghost use mathlib.Core.Path.{_≡_};
 ghost use lib.ListN.{length};
 ghost use Rattle.region.specs.Region.{equal, anyEmpty, compare, number, compared};
