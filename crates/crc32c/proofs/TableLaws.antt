@@ -11,7 +11,8 @@ use lib.Pow.{split}
 use lib.ListN.{length, getD, List·getD-append}
 use lib.Seq.{getD-append-add}
 use Rattle.crc32c.specs.Crc.{bitStep, bitSteps, byteStep}
-use Rattle.crc32c.specs.Tables.{Table, Further, after}
+use Rattle.crc32c.specs.Tables.{Table, Further}
+use Rattle.crc32c.specs.Words.{after}
 use Rattle.crc32c.proofs.CrcLaws.{steps-linear, steps-high, steps-more, steps-none}
 
 abbrev both : Bool → Bool → Bool

@@ -9,7 +9,7 @@ use lib.Bits.{bitXor, xor-zero-r}
 use lib.ListN.{length, getD, take, drop, length-drop, take-append-drop}
 use lib.Seq.{take-suc, getD-drop, drop-drop, take-add}
 use Rattle.crc32c.specs.Crc.{bitSteps, byteStep, register}
-use Rattle.crc32c.specs.Tables.{after, word}
+use Rattle.crc32c.specs.Words.{after, word}
 use Rattle.crc32c.proofs.XorLaws.{xor-assoc}
 use Rattle.crc32c.proofs.CrcLaws.{steps-linear, steps-high, steps-more, steps-none, register-append}
 use Rattle.crc32c.proofs.TableLaws.{low-byte}

@@ -1,8 +1,7 @@
--- What the tables hold, and bytes as one number: what the functions here promise each other (R164).
+-- What the tables hold (R164). Assumes nothing: these are definitions.
 use mathlib.Core.Path.{_≡_}
 use mathlib.Core.List.{List, _++_}
-use Prim.Native.Nat.{ℕ, zero, suc, _+_, _*_, _^_, _<_}
-use lib.Bits.{bitXor}
+use Prim.Native.Nat.{ℕ, _<_}
 use lib.ListN.{length, getD}
 use Rattle.crc32c.specs.Crc.{bitSteps}
 
@@ -15,12 +14,3 @@ pub record Table (t : List ℕ) : Type 0 where
 pub record Further (t f : List ℕ) : Type 0 where
   pub long : length f ≡ 1792
   pub entry : (k : ℕ) → k < 1792 → getD f k 0 ≡ bitSteps 8 (getD (t ++ f) k 0)
-
--- the register after n bytes of zeros
-unfoldable pub after : (n : ℕ) → ℕ → ℕ
-after n c = bitSteps (8 * n) c
-
--- n bytes from a place on as one number, the first lowest
-unfoldable pub word : List ℕ → (at n : ℕ) → ℕ
-word s at zero = 0
-word s at (suc n) = bitXor (word s at n) (getD s (at + n) 0 * 2 ^ (8 * n))

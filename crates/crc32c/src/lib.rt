@@ -9,7 +9,8 @@ ghost use mathlib.Core.Path.{_≡_};
 ghost use Prim.Native.Nat.{_+_, _%_, _≤_, _<_};
 ghost use lib.ListN.{length, take, drop};
 ghost use Rattle.crc32c.specs.Crc.{byteStep, register, crc32c};
-ghost use Rattle.crc32c.specs.Tables.{Table, Further, after, word};
+ghost use Rattle.crc32c.specs.Tables.{Table, Further};
+ghost use Rattle.crc32c.specs.Words.{after, word};
 
 const ALL: u32 = 0xFFFFFFFF;
 

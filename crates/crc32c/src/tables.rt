@@ -1,4 +1,4 @@
-// The tables, as constants. crates/crc32c/proofs shows that they follow from the bitwise rule.
+// The tables, as constants. That they follow from the bitwise rule is shown where `crc32c` lends them.
 
 // The register after eight bits from each byte (R164).
 pub const TABLE: [u32; 256] = [

@@ -1,4 +1,4 @@
--- The comparison as R166 and R167 word it. Assumes nothing: these are definitions.
+-- The comparison as R165 and R166 word it. Assumes nothing: these are definitions.
 use mathlib.Core.Path.{_≡_}
 use mathlib.Core.Logic.{_⊎_}
 use mathlib.Core.List.{List}

@@ -2,27 +2,26 @@
 use mathlib.Core.Path.{_≡_, sym, ap, ap₂, _∙_}
 use Prim.Native.Nat.{ℕ, _+_}
 use native.Mathlib.Omega.{arith}
-use borrow.Author.Needs.{needs}
 use lib.Bits.{bitXor}
-use Rattle.crc32c.specs.Tables.{after}
+use Rattle.crc32c.specs.Words.{after}
 use Rattle.crc32c.proofs.WordLaws.{by-two}
 use Rattle.crc32c.proofs.eight.Statement.{statement}
 use Rattle.crc32c.proofs.eight.Tie as tie
 
 word-requires : tie.Need-word-requires
-word-requires c κs = search needs
+word-requires c κs = omega arith
 
 add-word : tie.Need-add-word
 add-word c = omega arith
 
 word-requires-2 : tie.Need-word-requires-2
-word-requires-2 c κs = search needs
+word-requires-2 c κs = omega arith
 
 four-requires : tie.Need-four-requires
-four-requires c κs = search needs
+four-requires c κs = let p = c .before .before .before .before .before .pre in (p .0, (p .1 .0, omega arith))
 
 four-requires-2 : tie.Need-four-requires-2
-four-requires-2 c κs = search needs
+four-requires-2 c κs = let p = c .before .before .before .before .before .before .pre in (p .0, (p .1 .0, omega arith))
 
 returns : tie.Need-returns
 returns c =

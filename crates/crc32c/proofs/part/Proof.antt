@@ -5,7 +5,7 @@ use native.Mathlib.Nat.{mod-lt}
 use native.Mathlib.Omega.{arith}
 use lib.Dec.{lit<}
 use borrow.Author.Needs.{needs}
-use Rattle.crc32c.specs.Tables.{after}
+use Rattle.crc32c.specs.Words.{after}
 use Rattle.crc32c.proofs.TableLaws.{first-at, further-at}
 use Rattle.crc32c.proofs.part.Statement.{statement}
 use Rattle.crc32c.proofs.part.Tie as tie

@@ -22,7 +22,8 @@ wide-requires-2 : tie.Need-wide-requires-2
 wide-requires-2 c κs = search needs
 
 mul-result : tie.Need-mul-result
-mul-result c = omega (arith, c .wide2 .ensures, c .before .shared-slice-known3 .given (c .before .before .before .before .before .args .at + 1))
+mul-result c =
+    let at = c .before .before .before .before .before .args .at in omega (arith, c .wide2 .ensures, c .before .shared-slice-known3 .given (at + 1))
 
 add-wide-2 : tie.Need-add-wide-2
 add-wide-2 c = omega arith
@@ -34,7 +35,8 @@ wide-requires-3 : tie.Need-wide-requires-3
 wide-requires-3 c κs = search needs
 
 mul-result-2 : tie.Need-mul-result-2
-mul-result-2 c = omega (arith, c .wide3 .ensures, c .before .shared-slice-known4 .given (c .before .before .before .before .before .before .before .args .at + 2))
+mul-result-2 c =
+    let at = c .before .before .before .before .before .before .before .args .at in omega (arith, c .wide3 .ensures, c .before .shared-slice-known4 .given (at + 2))
 
 add-wide-3 : tie.Need-add-wide-3
 add-wide-3 c = omega arith
@@ -46,7 +48,8 @@ wide-requires-4 : tie.Need-wide-requires-4
 wide-requires-4 c κs = search needs
 
 mul-result-3 : tie.Need-mul-result-3
-mul-result-3 c = omega (arith, c .wide4 .ensures, c .before .shared-slice-known5 .given (c .before .before .before .before .before .before .before .before .before .args .at + 3))
+mul-result-3 c =
+    let at = c .before .before .before .before .before .before .before .before .before .args .at in omega (arith, c .wide4 .ensures, c .before .shared-slice-known5 .given (at + 3))
 
 returns : tie.Need-returns
 returns c =
