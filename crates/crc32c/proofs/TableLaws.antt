@@ -1,15 +1,15 @@
 -- The tables' rules, each from one test that antt computes over the whole table, and what a look-up then gives. Assumes nothing.
 use mathlib.Core.Path.{_≡_, refl, sym, ap, ap₂, subst, _∙_}
 use mathlib.Core.Bool.{Bool, true, false}
-use mathlib.Core.List.{List, [], _∷_, _++_}
+use mathlib.Core.List.{List, [], _∷_, _++_, map}
 use Prim.Native.Nat.{ℕ, zero, suc, _+_, _*_, _/_, _%_, _^_, _<_}
 use native.Mathlib.Nat.{add-zero, zero-add, add-suc, suc-add, le-of-suc-le-suc, not-suc-le-zero, mod-lt}
 use native.Mathlib.Omega.{arith}
 use lib.Dec.{T, eqb, eqb→eq, lit<}
 use lib.Bits.{bitXor, xor-comm, xor-shifted}
 use lib.Pow.{split}
-use lib.ListN.{length, getD, List·getD-append}
-use lib.Seq.{getD-append-add}
+use lib.ListN.{length, getD, length-map, List·getD-append}
+use lib.Seq.{getD-append-add, ext-getD}
 use Rattle.crc32c.specs.Crc.{bitStep, bitSteps, byteStep}
 use Rattle.crc32c.specs.Tables.{Table, Further}
 use Rattle.crc32c.specs.Words.{after}
@@ -60,9 +60,29 @@ table-rule t e h = record {
       ∙ ap (bitSteps 8) (up-at 0 256 k l ∙ zero-add k);
 }
 
+up-long : (i n : ℕ) → length (upTo i n) ≡ n
+unfolding upTo
+up-long i zero = refl
+up-long i (suc n) = ap suc (up-long (suc i) n)
+
+map-at : (xs : List ℕ) (k : ℕ) → k < length xs → getD (map (bitSteps 8) xs) k 0 ≡ bitSteps 8 (getD xs k 0)
+map-at [] k h = absurd (not-suc-le-zero h)
+map-at (x ∷ xs) zero h = refl
+map-at (x ∷ xs) (suc k) h = map-at xs k (le-of-suc-le-suc h)
+
+-- so the table of one byte is but one list
+table-is : (t : List ℕ) → Table t → t ≡ map (bitSteps 8) (upTo 0 256)
+table-is t r =
+    ext-getD 0 t (map (bitSteps 8) (upTo 0 256)) (r .long ∙ sym (length-map (upTo 0 256) (bitSteps 8) ∙ up-long 0 256)) (λ k h.
+    let l : k < 256 = subst (λ (n : ℕ). k < n) (r .long) h in
+    r .entry k l
+    ∙ sym (map-at (upTo 0 256) k (subst (λ (n : ℕ). k < n) (sym (up-long 0 256)) l) ∙ ap (bitSteps 8) (up-at 0 256 k l ∙ zero-add k)))
+
 -- R164: every entry of the further tables follows from the table before by the same rule
-pub tables-rule : (t f : List ℕ) → length f ≡ 1792 → T (follow (t ++ f) f) → Further t f
-tables-rule t f e h = record { long = e; entry = λ k l. followed (t ++ f) f h k (subst (λ (n : ℕ). k < n) (sym e) l) }
+pub tables-rule : (f : List ℕ) → length f ≡ 1792 → T (follow (map (bitSteps 8) (upTo 0 256) ++ f) f) → (t : List ℕ) → Table t → Further t f
+tables-rule f e h t r =
+    let g : T (follow (t ++ f) f) = subst (λ (l : List ℕ). T (follow (l ++ f) f)) (sym (table-is t r)) h in
+    record { long = e; entry = λ k l. followed (t ++ f) f g k (subst (λ (n : ℕ). k < n) (sym e) l) }
 
 -- ---- look-ups
 

@@ -6,7 +6,8 @@ mod tables;
 use tables::FURTHER;
 use tables::TABLE;
 ghost use mathlib.Core.Path.{_≡_};
-ghost use Prim.Native.Nat.{_+_, _%_, _≤_, _<_};
+ghost use mathlib.Core.List.{List};
+ghost use Prim.Native.Nat.{ℕ, _+_, _%_, _≤_, _<_};
 ghost use lib.ListN.{length, take, drop};
 ghost use Rattle.crc32c.specs.Crc.{byteStep, register, crc32c};
 ghost use Rattle.crc32c.specs.Tables.{Table, Further};
@@ -16,6 +17,20 @@ const ALL: u32 = 0xFFFFFFFF;
 
 // From this length on the time for eight bytes at once pays for the copy of their tables.
 const LONG: usize = 64;
+
+// The table of one byte, copied for the caller.
+fn byte_table() -> [u32; 256]
+    ensures { λ r. ⌜ Table r ⌝ }
+{
+    TABLE
+}
+
+// The seven tables after it.
+fn further_tables() -> [u32; 1792]
+    ensures { λ r. ⌜ ((t : List ℕ) → Table t → Further t r) ⌝ }
+{
+    FURTHER
+}
 
 fn wide(b: u8) -> u32
     ensures { λ r. ⌜ r ≡ b ⌝ }
@@ -118,10 +133,10 @@ fn by_eights(t: &[u32], f: &[u32], c: u32, s: &[u8]) -> u32
 pub fn crc32c(crc: u32, s: &[u8]) -> u32
     ensures { λ r. ⌜ r ≡ crc32c crc (now (s .entry)) ⌝ }
 {
-    let t = TABLE;
+    let t = byte_table();
     if s.len() < LONG {
         return by_bytes(&t, crc ^ ALL, s, 0) ^ ALL;
     }
-    let f = FURTHER;
+    let f = further_tables();
     by_eights(&t, &f, crc ^ ALL, s) ^ ALL
 }
