@@ -1,4 +1,4 @@
-// The tables, as constants. That they follow from the bitwise rule is shown where `crc32c` lends them.
+// The tables, as constants. That they follow from the bitwise rule is the contract of `byte_table` and `further_tables`.
 
 // The register after eight bits from each byte (R164).
 pub const TABLE: [u32; 256] = [
