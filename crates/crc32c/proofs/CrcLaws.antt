@@ -1,16 +1,13 @@
 -- The register's steps are linear in the register and the bytes, so the steps of many bytes are the sum of the steps of each, which
 -- a table can hold; and a digest goes on from a digest. Assumes nothing.
 use mathlib.Core.Path.{_≡_, refl, sym, ap, ap₂, _∙_}
-use mathlib.Core.List.{List, [], _∷_, _++_, append-assoc}
+use mathlib.Core.List.{List, [], _∷_, _++_}
 use Prim.Native.Nat.{ℕ, zero, suc, _+_, _*_, _/_, _%_, _^_, _<_}
-use native.Mathlib.Nat.{mod-lt, mul-one, mul-comm, zero-add, suc-add}
+use native.Mathlib.Nat.{mul-one, zero-add, suc-add}
 use native.Mathlib.Omega.{arith}
-use lib.Dec.{lit<}
-use lib.Bits.{bitXor, differ, xor-comm, xor-self, xor-zero-r, xor-shifted, shifted-half, shifted-even}
-use lib.Pow.{split}
-use lib.ListN.{length}
+use lib.Bits.{bitXor, differ, xor-self, xor-zero-r, shifted-half, shifted-even}
 use Rattle.crc32c.specs.Crc.{polynomial, bitStep, bitSteps, byteStep, register, complement, crc32c, fed, joined}
-use Rattle.crc32c.proofs.XorLaws.{digit, xor-half, xor-odd, xor-assoc, xor-swap, xor-twice}
+use Rattle.crc32c.proofs.XorLaws.{digit, xor-half, xor-odd, xor-swap, xor-twice}
 
 -- ---- linear
 

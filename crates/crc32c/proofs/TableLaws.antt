@@ -10,7 +10,7 @@ use lib.Bits.{bitXor, xor-comm, xor-shifted}
 use lib.Pow.{split}
 use lib.ListN.{length, getD, length-map, List·getD-append}
 use lib.Seq.{getD-append-add, ext-getD}
-use Rattle.crc32c.specs.Crc.{bitStep, bitSteps, byteStep}
+use Rattle.crc32c.specs.Crc.{bitSteps, byteStep}
 use Rattle.crc32c.specs.Tables.{Table, Further}
 use Rattle.crc32c.specs.Words.{after}
 use Rattle.crc32c.proofs.CrcLaws.{steps-linear, steps-high, steps-more, steps-none}

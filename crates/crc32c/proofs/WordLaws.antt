@@ -1,7 +1,7 @@
 -- Bytes as one number: the register after n bytes is that after n bytes of zeros from the register and the number together, and the four bytes
 -- of a number go by look-ups. Assumes nothing.
-use mathlib.Core.Path.{_≡_, refl, sym, ap, ap₂, subst, _∙_}
-use mathlib.Core.List.{List, [], _∷_, _++_}
+use mathlib.Core.Path.{_≡_, sym, ap, ap₂, _∙_}
+use mathlib.Core.List.{List, [], _∷_}
 use Prim.Native.Nat.{ℕ, zero, suc, _+_, _*_, _/_, _%_, _^_, _≤_, _<_}
 use native.Mathlib.Nat.{add-zero, add-assoc, mul-one, mul-suc, zero-mul}
 use native.Mathlib.Omega.{arith}

@@ -1,8 +1,8 @@
 -- What each answer of the comparison means, both ways. Assumes nothing.
 use mathlib.Core.Path.{_≡_, refl, sym, ap, ap₂, subst, _∙_}
-use mathlib.Core.Logic.{_⊎_, inl, inr}
+use mathlib.Core.Logic.{inl, inr}
 use mathlib.Core.Bool.{Bool, true, false}
-use mathlib.Core.List.{List, [], _∷_}
+use mathlib.Core.List.{List, []}
 use Prim.Native.Nat.{ℕ, _<_}
 use native.Mathlib.Omega.{arith}
 use lib.Dec.{eqb}
@@ -12,7 +12,7 @@ use borrow.Author.Tests.{eqb-true, eqb-false, eq-eqb}
 use Rattle.blocks.specs.Choice.{pick}
 use Rattle.blocks.proofs.BoolLaws.{clash, byT, is-false, either-e, either-yes}
 use Rattle.crc32c.specs.Crc.{crc32c}
-use Rattle.region.specs.Region.{Comparison, Nothing, Matched, Different, equal, anyEmpty, compare, number, Compared, compared}
+use Rattle.region.specs.Region.{Comparison, Nothing, Matched, Different, equal, anyEmpty, compare, number, compared}
 use Rattle.region.specs.Claims.{Match, AnyEmpty}
 use Rattle.region.proofs.SpreadLaws.{equal-is, equal-self}
 

@@ -1,16 +1,15 @@
 -- The bits that the loop gathers are 0 exactly if the bytes so far are equal. Assumes nothing.
 use mathlib.Core.Path.{_≡_, refl, sym, ap, ap₂, _∙_}
-use mathlib.Core.Bool.{Bool, true, false}
+use mathlib.Core.Bool.{true}
 use mathlib.Core.List.{List, [], _∷_}
 use Prim.Native.Nat.{ℕ, zero, suc, _<_}
 use native.Mathlib.Nat.{not-suc-le-zero}
 use native.Mathlib.Omega.{arith}
 use lib.Dec.{eqb}
-use lib.Bits.{bitXor, bitOr, bitAnd, or-add-and, and-le-l, and-le-r, xor-self}
+use lib.Bits.{bitXor, bitOr, or-add-and, and-le-l, and-le-r, xor-self}
 use lib.ListN.{length, getD}
 use lib.Seq.{ext-getD}
 use borrow.Author.Tests.{eqb-true, eqb-false, eq-eqb}
-use Rattle.blocks.specs.Choice.{both}
 use Rattle.blocks.proofs.BoolLaws.{clash, byT, iff, both-l, both-r}
 use Rattle.crc32c.proofs.XorLaws.{xor-twice}
 use Rattle.region.specs.Region.{equal}

@@ -1,6 +1,6 @@
 -- `by_bytes`: the register after the bytes from `from` on, one at a time.
 use mathlib.Core.Path.{_≡_, refl, sym, ap, ap₂, _∙_}
-use Prim.Native.Nat.{ℕ, _+_, _-_, _≤_}
+use Prim.Native.Nat.{ℕ, _-_, _≤_}
 use native.Mathlib.Omega.{arith}
 use native.Mathlib.Numerals.{add-one}
 use borrow.Author.Needs.{needs}
@@ -9,8 +9,6 @@ use lib.Seq.{drop-cons, drop-length}
 use Rattle.crc32c.specs.Crc.{register}
 use Rattle.crc32c.proofs.by_bytes.Statement.{statement}
 use Rattle.crc32c.proofs.by_bytes.Tie as tie
-use Rattle.crc32c.proofs.by_bytes.Reads as reads
-use Rattle.crc32c.proofs.by_bytes.Lts as lts
 
 abbrev Inv-loop : tie.InvT-loop
 Inv-loop t c s from c₀ i₀ c' i = (i ≤ length s) × (register c' (drop i s) ≡ register c (drop from s))

@@ -1,9 +1,9 @@
 -- `by_eights`: the register after all bytes, eight at a time.
-use mathlib.Core.Path.{_≡_, refl, sym, ap, _∙_}
+use mathlib.Core.Path.{_≡_, refl, ap, _∙_}
 use Prim.Native.Nat.{ℕ, _+_, _-_, _≤_}
 use native.Mathlib.Omega.{arith}
 use borrow.Author.Needs.{needs}
-use lib.ListN.{length, take, drop}
+use lib.ListN.{length, drop}
 use Rattle.crc32c.specs.Crc.{register}
 use Rattle.crc32c.proofs.WordLaws.{register-on}
 use Rattle.crc32c.proofs.by_eights.Statement.{statement}

@@ -1,6 +1,5 @@
 -- `step`: the register after one byte.
 use mathlib.Core.Path.{sym, ap, _∙_}
-use Prim.Native.Nat.{ℕ}
 use native.Mathlib.Omega.{arith}
 use borrow.Author.Needs.{needs}
 use Rattle.crc32c.specs.Crc.{byteStep}

@@ -1,6 +1,4 @@
 -- `any_empty`: whether a region is empty.
-use mathlib.Core.Path.{sym}
-use lib.Dec.{eqb}
 use lib.ListN.{length}
 use borrow.Author.Tests.{eq-eqb, ne-eqb}
 use Rattle.region.proofs.any_empty.Statement.{statement}

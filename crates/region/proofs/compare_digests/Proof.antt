@@ -1,7 +1,5 @@
 -- `compare_digests`: the comparison with the digests of both regions.
-use mathlib.Core.Path.{refl, sym, ap, _∙_}
-use mathlib.Core.List.{List}
-use Prim.Native.Nat.{ℕ}
+use mathlib.Core.Path.{sym, ap, _∙_}
 use Rattle.crc32c.specs.Crc.{crc32c}
 use Rattle.region.proofs.RegionLaws.{matched-same, compared-is}
 use borrow.Author.Needs.{needs}

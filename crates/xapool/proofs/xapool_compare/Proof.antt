@@ -1,5 +1,5 @@
 -- `xapool_compare`: whether an old and a new region match, and the digest of each.
-use mathlib.Core.Path.{_≡_, ap, _∙_}
+use mathlib.Core.Path.{ap, _∙_}
 use Prim.Native.Nat.{ℕ}
 use Rattle.region.specs.declared.Compared.{Compared}
 use Rattle.region.specs.Region.{number}
