@@ -54,6 +54,8 @@ static void *calls(void *argument)
         xapool_check(pool, XAPOOL_WORDS(XAPOOL_MAX_NODES));
         xapool_count(b.bytes, b.used);
         xapool_list(pool, XAPOOL_WORDS(XAPOOL_MAX_NODES), 0, UINT64_MAX, list, sizeof list);
+        xapool_crc32c(0, bytes, sizeof bytes);
+        xapool_compare(bytes, sizeof bytes, bytes, sizeof bytes);
     }
     return NULL;
 }
