@@ -16,7 +16,8 @@
  *            regions may begin anywhere.
  * NULL       with length 0 any pointer may be NULL: an empty batch, no reply space, no space for a
  *            list and empty regions are fine, a pool of no words is refused with 1.
- * Stack      a call needs less than 8 KiB of it, whatever the pool holds.
+ * Stack      a call needs less than 8 KiB of it, whatever the pool holds; xapool_crc32c and
+ *            xapool_compare, which keep tables there, less than 16 KiB.
  * Threads    calls on different pools may run at the same time. Two calls at the same time must not
  *            share a pool, not even for finds, unless both are xapool_check or xapool_list, which
  *            only read it; and no two buffers of one call may overlap.
