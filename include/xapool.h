@@ -210,10 +210,10 @@ xapool_result xapool_list(const uint64_t *pool, size_t pool_words,
 
 /* ---- Regions ----
  *
- * Two regions match exactly if both are longer than 0 bytes, of one length, and have the same bytes.
- * Where either is empty there is nothing to compare, which is no match, though the digest of no
- * bytes is 0 on both sides. So never compare digests alone; and memory of zeros that nobody wrote
- * does not read as a match. */
+ * A match is of two regions that are not empty, of one length, with the same bytes; all else that is
+ * not empty is different. Where one or both are empty nothing was compared, and that is no match,
+ * though digests of no bytes are 0 and so equal: never compare digests alone. Memory of zeros that
+ * nobody wrote does not read as a match either. */
 enum xapool_verdict {
     XAPOOL_NOTHING_TO_COMPARE = 0, /* a region is empty */
     XAPOOL_MATCHED = 1,
