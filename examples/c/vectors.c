@@ -122,7 +122,13 @@ static void comparisons(void)
             new_region[place] ^= 1;
         }
     }
-    /* Equal digests, and no match: nothing was compared. */
+    /* Equal digests, and no match: these differ by the polynomial itself, lowest bit of a byte first. */
+    uint64_t difference = 1 | (uint64_t)0x82f63b78 << 1;
+    for (unsigned i = 0; i < 8; i++)
+        new_region[i] = (uint8_t)(old_region[i] ^ difference >> (8 * i));
+    check(bitwise(old_region, 8) == bitwise(new_region, 8), "regions of one digest", 8);
+    compared(old_region, 8, new_region, 8, XAPOOL_DIFFERENT);
+    /* And again: nothing was compared. */
     compared(NULL, 0, NULL, 0, XAPOOL_NOTHING_TO_COMPARE);
     compared(old_region, 0, old_region, 0, XAPOOL_NOTHING_TO_COMPARE);
 }
