@@ -209,6 +209,13 @@ fn a_file_that_changes_while_it_is_read_is_a_fault() {
         assert_eq!((status, out.len()), (2, 0), "{change}");
         assert!(errors.contains("old: it changed while it was read"), "{change}: {errors}");
     }
+    // A file that has more bytes than its length says, as those of /proc have.
+    for arguments in [&["crc", "/proc/version"][..], &["compare", "/proc/version", "/proc/version"]]
+    {
+        let (status, out, errors) = tool(arguments, &[]);
+        assert_eq!((status, out.len()), (arguments.len() as i32 - 1, 0), "{errors}");
+        assert!(errors.contains("/proc/version: it changed"), "{errors}");
+    }
     // Without a change the same pipe is a match.
     let folder = Folder::new();
     file(&folder, "old", &[7; 8192]);
