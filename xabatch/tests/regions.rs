@@ -223,6 +223,22 @@ fn a_file_that_changes_while_it_is_read_is_a_fault() {
     assert_eq!(bash(&format!("cd {} && {line}", folder.0.display()), &[]).0, 0);
 }
 
+/// 64 MiB of memory in all, and two files of 100 MiB.
+#[test]
+fn files_may_be_larger_than_memory() {
+    let folder = Folder::new();
+    let line = format!(
+        "cd {} && truncate -s 100M a b && printf x >> b && ulimit -v 65536\n\
+         \"$X\" crc a && \"$X\" compare a b",
+        folder.0.display()
+    );
+    let (status, out, errors) = bash(&line, &[]);
+    assert_eq!((status, errors.as_str()), (1, ""));
+    let lines = lines(out);
+    assert_eq!(lines[3], "different: from byte 104857600, where old ends");
+    assert!(lines[0].ends_with("  a") && lines[1].ends_with(&lines[0][..8]), "{lines:?}");
+}
+
 #[test]
 fn a_bar_is_full_at_the_end_alone() {
     let of = |filled: usize, percent: &str| {
