@@ -20,7 +20,8 @@
  *            xapool_compare, which keep tables there, less than 16 KiB.
  * Threads    calls on different pools may run at the same time. Two calls at the same time must not
  *            share a pool, not even for finds, unless both are xapool_check or xapool_list, which
- *            only read it; and no two buffers of one call may overlap.
+ *            only read it. No two buffers of one call may overlap, but for the two regions of
+ *            xapool_compare, which are only read.
  * Time       each run and each list checks the whole pool first, so many commands in one batch are
  *            far cheaper than one command in each of many. All else follows what is asked: a list
  *            takes its time for the entries and nodes of its range, not for those of the pool.
@@ -230,7 +231,7 @@ typedef struct xapool_comparison {
  * last call gave to go on. */
 uint32_t xapool_crc32c(uint32_t crc, const uint8_t *region, size_t region_bytes);
 
-/* Compares an old and a new region. They may be the same bytes or overlap. */
+/* Compares an old and a new region. */
 xapool_comparison xapool_compare(const uint8_t *old_region, size_t old_bytes,
                                  const uint8_t *new_region, size_t new_bytes);
 

@@ -188,6 +188,7 @@ static void verdicts_have_texts(void)
     uint8_t page[4] = { 1, 2, 3, 4 };
     CHECK(xapool_compare(page, 4, page, 4).verdict == XAPOOL_MATCHED);
     CHECK(xapool_compare(page, 4, page, 3).verdict == XAPOOL_DIFFERENT);
+    CHECK(xapool_compare(page, 3, page + 1, 3).verdict == XAPOOL_DIFFERENT);
     CHECK(xapool_compare(page, 0, page, 0).verdict == XAPOOL_NOTHING_TO_COMPARE);
 }
 
