@@ -1,4 +1,5 @@
-/* xapool.h: entries kept by 64-bit index in a pool of words that the host lends.
+/* xapool.h: entries kept by 64-bit index in a pool of words that the host lends; and digests and
+ * comparisons of regions of bytes.
  *
  * The library has no memory of its own and keeps nothing between two calls: all state is in the
  * pool. A pool may be moved, saved and loaded: it has no addresses in it.
@@ -11,14 +12,16 @@
  *
  * Platform   x86-64 Linux. libxapool.a is position-independent, so it can go into a shared library;
  *            of other libraries it needs memset alone. It never allocates.
- * Alignment  a pool begins at a multiple of 8, as any array of uint64_t does. Batch, reply and list
- *            may begin anywhere.
- * NULL       with length 0 any pointer may be NULL: an empty batch, no reply space and no space for a
- *            list are fine, a pool of no words is refused with 1.
- * Stack      a call needs less than 8 KiB of it, whatever the pool holds.
+ * Alignment  a pool begins at a multiple of 8, as any array of uint64_t does. Batch, reply, list and
+ *            regions may begin anywhere.
+ * NULL       with length 0 any pointer may be NULL: an empty batch, no reply space, no space for a
+ *            list and empty regions are fine, a pool of no words is refused with 1.
+ * Stack      a call needs less than 8 KiB of it, whatever the pool holds; xapool_crc32c and
+ *            xapool_compare, which keep tables there, less than 16 KiB.
  * Threads    calls on different pools may run at the same time. Two calls at the same time must not
  *            share a pool, not even for finds, unless both are xapool_check or xapool_list, which
- *            only read it; and no two buffers of one call may overlap.
+ *            only read it. No two buffers of one call may overlap, but for the two regions of
+ *            xapool_compare, which are only read.
  * Time       each run and each list checks the whole pool first, so many commands in one batch are
  *            far cheaper than one command in each of many. All else follows what is asked: a list
  *            takes its time for the entries and nodes of its range, not for those of the pool.
@@ -205,6 +208,32 @@ xapool_result xapool_count(const uint8_t *batch, size_t batch_bytes);
 xapool_result xapool_list(const uint64_t *pool, size_t pool_words,
                           uint64_t first, uint64_t last,
                           uint8_t *buffer, size_t buffer_bytes);
+
+/* ---- Regions ----
+ *
+ * A match is of two regions that are not empty, of one length, with the same bytes; all else that is
+ * not empty is different. Where one or both are empty nothing was compared, and that is no match,
+ * though digests of no bytes are 0 and so equal: never compare digests alone. Memory of zeros that
+ * nobody wrote does not read as a match either. */
+enum xapool_verdict {
+    XAPOOL_NOTHING_TO_COMPARE = 0, /* a region is empty */
+    XAPOOL_MATCHED = 1,
+    XAPOOL_DIFFERENT = 2
+};
+
+typedef struct xapool_comparison {
+    uint64_t verdict; /* enum xapool_verdict */
+    uint64_t old_crc; /* the digest of each region, also where there is nothing to compare */
+    uint64_t new_crc;
+} xapool_comparison;
+
+/* The digest CRC-32C (RFC 3720) of a region, in pieces or as a whole: crc is 0 to begin, and what the
+ * last call gave to go on. */
+uint32_t xapool_crc32c(uint32_t crc, const uint8_t *region, size_t region_bytes);
+
+/* Compares an old and a new region. */
+xapool_comparison xapool_compare(const uint8_t *old_region, size_t old_bytes,
+                                 const uint8_t *new_region, size_t new_bytes);
 
 /* ---- Building a batch ----
  *
@@ -433,6 +462,17 @@ static inline const char *xapool_answer_text(uint64_t answer)
     case XAPOOL_ENDED: return "ended";
     case XAPOOL_PAUSED: return "paused";
     default: return "no answer of this library";
+    }
+}
+
+/* A verdict as text. */
+static inline const char *xapool_verdict_text(uint64_t verdict)
+{
+    switch (verdict) {
+    case XAPOOL_NOTHING_TO_COMPARE: return "nothing to compare";
+    case XAPOOL_MATCHED: return "matched";
+    case XAPOOL_DIFFERENT: return "different";
+    default: return "no verdict of this library";
     }
 }
 

@@ -1,5 +1,5 @@
-//! bench: three loads through xapool_run and lists, the same over a BTreeMap, and the cost by nodes. With
-//! `against`, two builds of the library in one run.
+//! bench: three loads through xapool_run and lists, the same over a BTreeMap, the cost by nodes, and
+//! digests and comparisons. With `against`, two builds of the library in one run.
 
 mod against;
 mod checks;
@@ -10,6 +10,7 @@ mod loads;
 mod measure;
 mod plain;
 mod plot;
+mod regions;
 mod stores;
 mod table;
 #[cfg(test)]
@@ -21,6 +22,9 @@ use std::path::Path;
 use std::process::ExitCode;
 use std::{env, fs};
 use table::{ByNodes, ListRow, Row, NODES};
+
+/// The pool has room for 62,000 or so.
+const MOST_INDICES: u64 = 60_000;
 
 const USAGE: &str = "\
 usage: bench [--indices N] [--repeats N] [--small-repeats N] [--write DIR]
@@ -39,14 +43,14 @@ struct Options {
 }
 
 fn options() -> Option<Options> {
-    let mut options = Options { indices: 60_000, repeats: 5, small_repeats: 200, write: None };
+    let mut options =
+        Options { indices: MOST_INDICES, repeats: 5, small_repeats: 200, write: None };
     let mut words = env::args().skip(1);
     while let Some(name) = words.next() {
         let value = words.next()?;
         match name.as_str() {
-            // The pool has room for 62,000 or so.
             "--indices" => {
-                options.indices = value.parse().ok().filter(|n| (100..=60_000).contains(n))?
+                options.indices = value.parse().ok().filter(|n| (100..=MOST_INDICES).contains(n))?
             }
             "--repeats" => options.repeats = value.parse().ok().filter(|n| *n > 0)?,
             "--small-repeats" => options.small_repeats = value.parse().ok().filter(|n| *n > 0)?,
@@ -89,7 +93,11 @@ fn measure_all(options: &Options) -> Result<(), String> {
     }
     let lists = lists(count, options.small_repeats)?;
     let [rows_text, nodes_text] = [table::loads(&rows), table::by_nodes(&by_nodes)];
-    let tables = format!("{rows_text}\n{nodes_text}\n{}", table::lists(&lists));
+    // A small run has small regions alone.
+    let largest = if count < MOST_INDICES { 1 << 20 } else { usize::MAX };
+    let regions = regions::rows(largest, options.repeats)?;
+    let [lists_text, regions_text] = [table::lists(&lists), table::regions(&regions)];
+    let tables = format!("{rows_text}\n{nodes_text}\n{lists_text}\n{regions_text}");
     println!("{tables}");
     match &options.write {
         Some(folder) => write(folder, &tables, &plot::svg(&rows, &by_nodes)),
@@ -143,7 +151,8 @@ fn write(folder: &str, tables: &str, svg: &str) -> Result<(), String> {
          A run and a list check their pool first, whose time grows with N and not with the commands; it is timed by itself on \
          the same pool just before each, and taken off. Of each batch the shortest time of all repeats counts. \
          The library reads records and writes replies as bytes; the BTreeMap takes its commands from memory, knows \
-         order 0 alone and writes plain values.\n\n\
+         order 0 alone and writes plain values. The GB/s of a \
+         comparison are of each of the two regions. The two in Rust are the usual loops over one table and over eight.\n\n\
          ![ns a command](benchmarks.svg)\n",
         command.join(" "),
         processor()

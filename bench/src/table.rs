@@ -1,6 +1,7 @@
 //! The figures as markdown.
 
 use crate::measure::Cost;
+use crate::regions;
 
 pub const NODES: [usize; 3] = [40, 200, 1000];
 
@@ -45,6 +46,19 @@ pub fn lists(rows: &[ListRow]) -> String {
         let [each, map] = [call, map].map(|time| time / *entries as f64);
         text +=
             &format!("| {about} | {entries} | {each:.1} | {call:.0} | {check:.0} | {map:.1} |\n");
+    }
+    text
+}
+
+pub fn regions(rows: &[regions::Row]) -> String {
+    let mut text = String::from(
+        "| bytes of a region | xapool_crc32c, GB/s | xapool_compare of two that match, GB/s | that differ in the last byte | Rust, 8 bytes at a time, GB/s | Rust, byte by byte, GB/s | xapool_crc32c, ns a call |\n\
+         |---|---|---|---|---|---|---|\n",
+    );
+    for row in rows {
+        let times = [row.crc, row.matched, row.different, row.by_8, row.by_byte];
+        let paces = times.map(|time| format!("{:.2}", row.pace(time))).join(" | ");
+        text += &format!("| {} | {paces} | {:.0} |\n", row.bytes, row.crc);
     }
     text
 }

@@ -3,7 +3,7 @@
 use crate::library::{Library, Linked};
 use crate::loads::{batches, dense, marked_finds, small, sparse, Load, Work};
 use crate::measure::Trial;
-use crate::{checks, finds, lists, stores};
+use crate::{checks, finds, lists, regions, stores};
 use std::collections::BTreeSet;
 use xapool_host::raw::RawResult;
 use xapool_host::Command;
@@ -69,6 +69,15 @@ fn lists_are_of_their_entries() -> Result<(), String> {
     assert_eq!((&entries[..4], trials.len()), (&[1000, 1000, 100, 1][..], 5));
     trials.iter_mut().try_for_each(|trial| trial.round(&[&Linked, &Linked], 0))?;
     assert!(trials.iter().all(|trial| trial.costs().iter().all(|cost| *cost < 1e12)));
+    Ok(())
+}
+
+/// So is a region of which not all ways give the same digest.
+#[test]
+fn regions_are_digested_alike() -> Result<(), String> {
+    let rows = regions::rows(1 << 20, 1)?;
+    assert_eq!(rows.iter().map(|row| row.bytes).collect::<Vec<_>>(), [64, 4096, 1 << 20]);
+    assert!(rows.iter().all(|row| row.crc < 1e12 && row.matched < 1e12 && row.by_8 < 1e12));
     Ok(())
 }
 

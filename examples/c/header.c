@@ -176,6 +176,22 @@ static void answers_have_texts(void)
     CHECK(strcmp(version, XAPOOL_VERSION) == 0);
 }
 
+/* Memory of zeros that nobody wrote must not read as a match. */
+static void verdicts_have_texts(void)
+{
+    static xapool_comparison nobody_wrote;
+    CHECK(nobody_wrote.verdict == XAPOOL_NOTHING_TO_COMPARE && nobody_wrote.verdict != XAPOOL_MATCHED);
+    for (unsigned v = XAPOOL_NOTHING_TO_COMPARE; v <= XAPOOL_DIFFERENT; v++)
+        CHECK(strcmp(xapool_verdict_text(v), xapool_verdict_text(3)) != 0);
+    CHECK(strcmp(xapool_verdict_text(XAPOOL_MATCHED), "matched") == 0);
+    CHECK(strcmp(xapool_verdict_text(UINT64_MAX), xapool_verdict_text(3)) == 0);
+    uint8_t page[4] = { 1, 2, 3, 4 };
+    CHECK(xapool_compare(page, 4, page, 4).verdict == XAPOOL_MATCHED);
+    CHECK(xapool_compare(page, 4, page, 3).verdict == XAPOOL_DIFFERENT);
+    CHECK(xapool_compare(page, 3, page + 1, 3).verdict == XAPOOL_DIFFERENT);
+    CHECK(xapool_compare(page, 0, page, 0).verdict == XAPOOL_NOTHING_TO_COMPARE);
+}
+
 static void null_with_length_0_is_fine(void)
 {
     static uint64_t pool[XAPOOL_WORDS(1)];
@@ -183,6 +199,8 @@ static void null_with_length_0_is_fine(void)
     CHECK(xapool_check(NULL, 0).answer == XAPOOL_POOL_LENGTH);
     CHECK(xapool_run(NULL, 0, NULL, 0, NULL, 0).answer == XAPOOL_POOL_LENGTH);
     CHECK(xapool_count(NULL, 0).answer == XAPOOL_DONE);
+    CHECK(xapool_crc32c(7, NULL, 0) == 7);
+    CHECK(xapool_compare(NULL, 0, NULL, 0).verdict == XAPOOL_NOTHING_TO_COMPARE);
     CHECK(xapool_init(pool, XAPOOL_WORDS(1)).answer == XAPOOL_DONE);
     CHECK(xapool_run(pool, XAPOOL_WORDS(1), NULL, 0, NULL, 0).answer == XAPOOL_DONE);
 }
@@ -221,6 +239,7 @@ int main(void)
     a_list_is_whole_or_not_at_all();
     finds_go_on_after_the_run();
     answers_have_texts();
+    verdicts_have_texts();
     null_with_length_0_is_fine();
     bytes_may_begin_anywhere();
     puts(failures ? "some do not hold" : "all hold");

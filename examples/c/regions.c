@@ -261,20 +261,12 @@ static size_t split_different(pool *p)
     return split;
 }
 
-/* A checksum to keep beside a saved pool: the check knows the structure, not the entries. */
-static uint64_t checksum(const uint8_t *bytes, size_t size)
-{
-    uint64_t sum = UINT64_C(0xcbf29ce484222325);
-    for (size_t i = 0; i < size; i++)
-        sum = (sum ^ bytes[i]) * UINT64_C(0x100000001b3);
-    return sum;
-}
-
-/* Saves the pool to a file and loads it into other words. */
+/* Saves the pool to a file and loads it into other words. A digest is kept beside it: the check knows
+ * the structure, not the entries. */
 static void save_and_load(pool *p)
 {
     size_t size = 8 * XAPOOL_WORDS(p->nodes);
-    uint64_t sum = checksum((uint8_t *)p->words, size);
+    uint32_t digest = xapool_crc32c(0, (uint8_t *)p->words, size);
     FILE *file = tmpfile();
     if (!file || fwrite(p->words, 1, size, file) != size || fflush(file))
         fail("cannot save the pool");
@@ -282,14 +274,14 @@ static void save_and_load(pool *p)
     pool loaded = new_pool(p->nodes);
     if (fread(loaded.words, 1, size, file) != size || fclose(file))
         fail("cannot load the pool");
-    if (checksum((uint8_t *)loaded.words, size) != sum)
+    if (xapool_crc32c(0, (uint8_t *)loaded.words, size) != digest)
         fail("the file has other bytes");
     xapool_result r = xapool_check(loaded.words, XAPOOL_WORDS(loaded.nodes));
     if (r.answer != XAPOOL_DONE)
         fail(xapool_answer_text(r.answer));
     free(p->words);
     *p = loaded;
-    printf("saved and loaded %zu bytes, checksum %016" PRIx64 "\n", size, sum);
+    printf("saved and loaded %zu bytes, digest %08" PRIx32 "\n", size, digest);
 }
 
 /* Goes through the unmatched regions below 4,000, ten steps at a time. */
@@ -345,7 +337,7 @@ static void keep_evidence(const pool *p, size_t number)
         if (is.index != to_be.base || is.order != to_be.order || is.entry != to_be.word || is.marks != to_be.marks)
             fail("the list has another entry");
     }
-    printf("%zu bytes of evidence, checksum %016" PRIx64 "\n", size, checksum(bytes, size));
+    printf("%zu bytes of evidence, digest %08" PRIx32 "\n", size, xapool_crc32c(0, bytes, size));
     free(bytes);
 }
 

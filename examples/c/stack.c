@@ -1,5 +1,5 @@
 /* How much stack the calls need: they run on a stack filled with one byte, and what is changed was
- * used. The header says less than 8 KiB. */
+ * used. The header says less than 8 KiB, and less than 16 KiB for digests, which keep tables there. */
 #define _POSIX_C_SOURCE 200809L
 #include "xapool.h"
 #include <pthread.h>
@@ -9,6 +9,7 @@
 
 #define STACK (512 * 1024)
 #define SAID (8 * 1024)
+#define SAID_OF_DIGESTS (16 * 1024)
 
 static uint64_t pool[XAPOOL_WORDS(XAPOOL_MAX_NODES)];
 static uint8_t bytes[XAPOOL_BATCH_BYTES], replies[XAPOOL_REPLIES(XAPOOL_MAX_COMMANDS)];
@@ -58,6 +59,14 @@ static void *calls(void *argument)
     return NULL;
 }
 
+static void *digests(void *argument)
+{
+    size_t *ran = argument;
+    *ran += xapool_crc32c(0, replies, sizeof replies) != 0;
+    *ran += xapool_compare(replies, sizeof replies, replies, sizeof replies).verdict == XAPOOL_MATCHED;
+    return NULL;
+}
+
 static void *nothing(void *argument)
 {
     return argument;
@@ -82,7 +91,8 @@ static size_t used(void *(*function)(void *), size_t *ran)
 
 int main(void)
 {
-    size_t ran = 0, before = used(nothing, &ran), after = used(calls, &ran);
+    size_t ran = 0, compared = 0, before = used(nothing, &ran), after = used(calls, &ran), most = used(digests, &compared);
     printf("%zu commands used at most %zu bytes of stack\n", ran, after - before);
-    return ran < 10000 || after - before >= SAID;
+    printf("%zu digests used at most %zu bytes of stack\n", compared, most - before);
+    return ran < 10000 || compared != 2 || after - before >= SAID || most - before >= SAID_OF_DIGESTS;
 }

@@ -8,7 +8,7 @@
 use std::error::Error;
 use std::fs;
 use xapool_host::{
-    Answer, BatchBuilder, Command, Entry, Marks, Pool, Replies, Word, FIND_ANY, MOST_NODES,
+    Answer, BatchBuilder, Command, Crc32c, Entry, Marks, Pool, Replies, Word, FIND_ANY, MOST_NODES,
 };
 
 const REGIONS: u64 = 10_000;
@@ -140,25 +140,20 @@ fn split_different(pool: &mut Pool<'static>) -> Result<usize> {
     Ok(split)
 }
 
-/// A checksum to keep beside a saved pool: the check knows the structure, not the entries.
-fn checksum(bytes: &[u8]) -> u64 {
-    let step = |sum: u64, byte: &u8| (sum ^ u64::from(*byte)).wrapping_mul(0x100_0000_01b3);
-    bytes.iter().fold(0xcbf2_9ce4_8422_2325, step)
-}
-
-/// Saves the pool to a file and loads it into other words.
+/// Saves the pool to a file and loads it into other words. A digest is kept beside it: the check knows
+/// the structure, not the entries.
 fn save_and_load(pool: &mut Pool<'static>) -> Result<()> {
     let file = std::env::temp_dir().join(format!("regions-{}.pool", std::process::id()));
     let bytes = pool.to_bytes();
-    let sum = checksum(&bytes);
+    let digest = Crc32c::of(&bytes);
     fs::write(&file, &bytes)?;
     let loaded = fs::read(&file)?;
     fs::remove_file(&file)?;
-    if checksum(&loaded) != sum {
+    if Crc32c::of(&loaded) != digest {
         return Err("the file has other bytes".into());
     }
     *pool = Pool::from_bytes(&loaded)?;
-    println!("saved and loaded {} bytes, checksum {sum:016x}", bytes.len());
+    println!("saved and loaded {} bytes, digest {digest}", bytes.len());
     Ok(())
 }
 
@@ -204,7 +199,7 @@ fn keep_evidence(pool: &Pool) -> Result<()> {
         return Err("the list has another entry, or is too short".into());
     }
     let bytes = list.bytes();
-    println!("{} bytes of evidence, checksum {:016x}", bytes.len(), checksum(bytes));
+    println!("{} bytes of evidence, digest {}", bytes.len(), Crc32c::of(bytes));
     Ok(())
 }
 

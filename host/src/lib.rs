@@ -1,5 +1,5 @@
-//! Entries kept by 64-bit index in a pool of words: a safe wrapper over the proved library
-//! `libxapool.a`.
+//! Entries kept by 64-bit index in a pool of words, and digests and comparisons of regions of bytes: a
+//! safe wrapper over the proved library `libxapool.a`.
 //!
 //! ```
 //! use xapool_host::{Command, Pool, Word, FIND_ANY};
@@ -19,7 +19,8 @@
 //! A [`Pool`] owns or borrows its words and runs [`Command`]s: [`Pool::run_all`] any number,
 //! [`Pool::run`] one batch that a [`BatchBuilder`] gathered, [`Pool::find`] the finds that go through
 //! a range; [`Pool::list`] gives a range's entries in one call, as bytes to keep. Each command has one [`Reply`], whose [`Answer`] says whether it was done. A call that the
-//! library refuses is a [`Refusal`]: nothing ran. Nothing here panics, whatever it is given, but for
+//! library refuses is a [`Refusal`]: nothing ran. [`compare`] says whether two regions match, and
+//! [`Crc32c`] is their digest. Nothing here panics, whatever it is given, but for
 //! an index past the end of [`Replies`]; `unsafe` is in [`raw`] alone.
 
 #![deny(missing_docs)]
@@ -32,6 +33,7 @@ pub mod layout;
 mod list;
 mod pool;
 pub mod raw;
+mod region;
 mod reply;
 #[cfg(test)]
 mod tests;
@@ -46,6 +48,7 @@ pub use command::{Command, Tag, FIND_ANY, MOST_ORDER};
 pub use find::{Finds, MOST_FINDS};
 pub use list::{BadListed, Listing, LISTED_BYTES};
 pub use pool::{bytes_of_words, node_count, pool_words, words_of_bytes, Pool, MOST_NODES};
+pub use region::{compare, Comparison, Crc32c, Pieces, Verdict};
 pub use reply::{
     BadRecord, Entry, Marks, ProgramError, Record, Records, Replies, Reply, REPLY_BYTES,
 };

@@ -75,7 +75,7 @@ impl Pool<'static> {
     }
 
     /// The pool that [`Pool::to_bytes`] saved, checked. The check knows the structure, not what was
-    /// stored: keep a checksum of a saved pool.
+    /// stored: keep a digest of a saved pool, [`Crc32c`](crate::Crc32c).
     pub fn from_bytes(bytes: &[u8]) -> Result<Pool<'static>, Refusal> {
         let pool = Pool::from_words(words_of_bytes(bytes).ok_or(Refusal::PoolLength)?);
         pool.check()?;

@@ -11,6 +11,19 @@ pub struct RawResult {
     pub number: u64,
 }
 
+/// What a comparison gives: the verdict, and the digests of both regions.
+#[repr(C)]
+#[derive(Clone, Copy, Debug, PartialEq, Eq)]
+#[must_use]
+pub struct RawComparison {
+    /// 0 nothing to compare, 1 matched, 2 different.
+    pub verdict: u64,
+    /// The digest of the old region, below 2^32.
+    pub old_crc: u64,
+    /// The digest of the new region, below 2^32.
+    pub new_crc: u64,
+}
+
 extern "C" {
     fn xapool_init(pool: *mut u64, pool_words: usize) -> RawResult;
     fn xapool_check(pool: *const u64, pool_words: usize) -> RawResult;
@@ -31,6 +44,13 @@ extern "C" {
         buffer: *mut u8,
         buffer_bytes: usize,
     ) -> RawResult;
+    fn xapool_crc32c(crc: u32, region: *const u8, region_bytes: usize) -> u32;
+    fn xapool_compare(
+        old: *const u8,
+        old_bytes: usize,
+        new: *const u8,
+        new_bytes: usize,
+    ) -> RawComparison;
 }
 
 /// Makes the words an empty pool, whatever stood there.
@@ -71,4 +91,17 @@ pub fn list(pool: &[u64], first: u64, last: u64, buffer: &mut [u8]) -> RawResult
     let (words, bytes) = (pool.len(), buffer.len());
     // SAFETY: two slices borrowed for the call; the one that is written is borrowed alone.
     unsafe { xapool_list(pool.as_ptr(), words, first, last, buffer.as_mut_ptr(), bytes) }
+}
+
+/// The digest CRC-32C of a region: `crc` is 0 to begin, the last result to go on.
+#[must_use]
+pub fn crc32c(crc: u32, region: &[u8]) -> u32 {
+    // SAFETY: as in `check`.
+    unsafe { xapool_crc32c(crc, region.as_ptr(), region.len()) }
+}
+
+/// Compares an old and a new region.
+pub fn compare(old: &[u8], new: &[u8]) -> RawComparison {
+    // SAFETY: two slices borrowed for the call, which only reads.
+    unsafe { xapool_compare(old.as_ptr(), old.len(), new.as_ptr(), new.len()) }
 }

@@ -3,6 +3,7 @@
 use crate::*;
 
 mod list;
+mod region;
 
 const LAST: u64 = u64::MAX;
 
@@ -472,6 +473,9 @@ fn the_c_header_agrees() {
     let header = include_str!("../../include/xapool.h");
     for answer in Answer::ALL {
         assert!(header.contains(&format!("\"{answer}\"")), "{answer}");
+    }
+    for verdict in [Verdict::NothingToCompare, Verdict::Matched, Verdict::Different] {
+        assert!(header.contains(&format!("\"{verdict}\"")), "{verdict}");
     }
     let version = env!("CARGO_PKG_VERSION");
     assert!(header.contains(&format!("#define XAPOOL_VERSION \"{version}\"")), "{version}");

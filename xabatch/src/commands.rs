@@ -3,6 +3,7 @@
 use crate::args::Arguments;
 use crate::failure::{malformed, usage, Failure};
 use crate::files::{self, of_file};
+use crate::regions;
 use std::ffi::{OsStr, OsString};
 use std::path::Path;
 use xabatch::locked::{self, LockedFile, Locking};
@@ -22,6 +23,8 @@ pub fn act(name: &str, words: &[OsString]) -> Result<(), Failure> {
         "list" => list(Arguments::of(words, &[("--bytes", false)])?),
         "new" => new_pool(Arguments::of(words, &[])?),
         "run" => run(Arguments::of(words, &[("--no-wait", false)])?),
+        "crc" => regions::crc(Arguments::of(words, &[])?),
+        "compare" => regions::compare(Arguments::of(words, &[])?),
         _ => Err(usage(format!("'{name}': no such command; try 'xabatch --help'"))),
     }
 }

@@ -13,6 +13,8 @@ usage: xabatch encode [--long | --split PREFIX] [FILE]     text to a batch
        xabatch list [--bytes] POOLFILE [FIRST..LAST]       the entries of a pool, as evidence
        xabatch new NODES [POOLFILE]                        an empty pool of 1 to 1,000 nodes
        xabatch run [--no-wait] POOLFILE [FILE]             a batch on a pool file; replies to standard output
+       xabatch crc [FILE..]                                the digest CRC-32C of each file
+       xabatch compare OLD NEW                             whether two files match: before you erase one
        xabatch help COMMAND                                more on one of these; also xabatch COMMAND --help
        xabatch --version
 
@@ -20,7 +22,7 @@ A FILE that is not named, or is -, is standard input. Results go to standard out
 
 Exit status: 0 fine; 1 the input is malformed, the pool is not well-formed, the call was refused,
 or a file or the output cannot be read or written; 2 bad usage or a syntax error in the text, which
-is named by FILE:LINE:COLUMN.
+is named by FILE:LINE:COLUMN. Of compare: 0 matched; 1 different; 2 nothing to compare, or a fault.
 ";
 
 const ENCODE: &str = "\
@@ -119,6 +121,37 @@ nothing writes nothing. If the replies cannot be written, the exit status is 1 a
 changed: 'xabatch show' says what it holds.
 ";
 
+const CRC: &str = "\
+usage: xabatch crc [FILE..]
+
+Writes the digest CRC-32C (RFC 3720) of each file, in eight hex digits, and its name. A file that
+cannot be read, or that changes while it is read, is told; the others are written, and the exit
+status is 1. Files may be larger than memory. Where standard error is a terminal, a large file has a
+bar there.
+
+The digest of an empty file is 00000000, which is told: two digests that are equal do not say that
+something was compared. 'xabatch compare' knows the difference.
+";
+
+const COMPARE: &str = "\
+usage: xabatch compare OLD NEW
+
+Compares two files byte by byte and writes the length and the digest CRC-32C of each, and then one
+of these lines:
+
+  matched                                    both are longer than 0, of one length, all bytes equal
+  different: from byte 512                   the first byte, from 0, that differs
+  different: from byte 512, where old ends   the other is longer, and the same up to there
+  nothing to compare: both are empty         also if one of them is: it is no match
+
+Exit status: 0 matched, and nothing else; 1 different; 2 nothing to compare, or a fault: bad usage, a
+file that cannot be read or that changes while it is read, a report that cannot be written. So
+'xabatch compare OLD NEW && rm OLD' erases what has a copy, and no more.
+
+One of both may be -, standard input. Files may be larger than memory. Where standard error is a
+terminal, large files have a bar there.
+";
+
 fn text_of(command: &str) -> Option<&'static str> {
     Some(match command {
         "encode" => ENCODE,
@@ -127,6 +160,8 @@ fn text_of(command: &str) -> Option<&'static str> {
         "list" => LIST,
         "new" => NEW,
         "run" => RUN,
+        "crc" => CRC,
+        "compare" => COMPARE,
         _ => return None,
     })
 }

@@ -5,4 +5,5 @@ pub mod draw;
 pub mod escape;
 pub mod inspect;
 pub mod locked;
+pub mod progress;
 pub mod text;

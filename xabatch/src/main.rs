@@ -1,4 +1,4 @@
-//! xabatch: batches and replies as text, and pool files.
+//! xabatch: batches and replies as text, pool files, and digests and comparisons of files.
 
 mod args;
 mod commands;
@@ -6,6 +6,8 @@ mod failure;
 mod files;
 mod help;
 mod os;
+mod regions;
+mod source;
 
 use failure::{usage, Failure};
 use std::ffi::OsString;

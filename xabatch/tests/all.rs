@@ -300,7 +300,7 @@ well-formed
     assert_eq!(tool(&["show", "--summary", "--findings", "-"], &[]).0, 2);
 }
 
-const COMMANDS: [&str; 6] = ["encode", "decode", "show", "list", "new", "run"];
+const COMMANDS: [&str; 8] = ["encode", "decode", "show", "list", "new", "run", "crc", "compare"];
 
 #[test]
 fn version_help_and_the_man_page() {

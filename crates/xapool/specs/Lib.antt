@@ -3,3 +3,4 @@ pub mod Refusal
 pub mod Demand
 pub mod Cases
 pub mod Running
+pub mod Regions

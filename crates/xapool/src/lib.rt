@@ -21,6 +21,8 @@ ghost use Rattle.verify.specs.Answers.{checkAnswer, initWords};
 ghost use Rattle.xapool.specs.Calls;
 ghost use Rattle.xapool.specs.Calls.{initResult, checkResult, countResult};
 ghost use Rattle.xapool.specs.Running.{Turned, Ahead, Ends};
+ghost use Rattle.crc32c.specs.Crc.{crc32c};
+ghost use Rattle.xapool.specs.Regions.{compareResult};
 
 // The answers of a call; 1 and 2 are the check's.
 const DONE: u64 = 0;
@@ -204,5 +206,35 @@ pub extern "C" fn xapool_list(pool: &[u64], first: u64, last: u64, buffer: &mut 
             answer: DONE,
             number: k,
         },
+    }
+}
+
+// What a comparison gives: its number, and the digest of each region (R168, R169).
+#[repr(C)]
+pub struct Comparison {
+    pub verdict: u64,
+    pub old_crc: u64,
+    pub new_crc: u64,
+}
+
+/// CRC-32C of a region that goes on from `crc`: 0 to begin, the last result to go on.
+#[no_mangle]
+pub extern "C" fn xapool_crc32c(crc: u32, region: &[u8]) -> u32
+    ensures { λ r. ⌜ r ≡ crc32c crc (now (region .entry)) ⌝ }
+{
+    crc32c::crc32c(crc, region)
+}
+
+/// Whether an old and a new region match, and the digest of each; where either is empty there is nothing to compare.
+#[no_mangle]
+pub extern "C" fn xapool_compare(old: &[u8], new: &[u8]) -> Comparison
+    ensures { λ r. ⌜ r ≡ compareResult (now (old .entry)) (now (new .entry)) ⌝ }
+{
+    let c = region::compare_digests(old, new);
+    let verdict = c.verdict;
+    Comparison {
+        verdict: region::number(verdict),
+        old_crc: c.old_crc as u64,
+        new_crc: c.new_crc as u64,
     }
 }

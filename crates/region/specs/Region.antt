@@ -1,0 +1,36 @@
+-- Whether a new region holds what the old one held, and the number of that for a host (R165 to R169). Assumes nothing: these are definitions.
+use mathlib.Core.Bool.{Bool, true, false}
+use mathlib.Core.List.{List, [], _∷_}
+use Prim.Native.Nat.{ℕ}
+use lib.Dec.{eqb}
+use lib.ListN.{length}
+use Rattle.blocks.specs.Choice.{pick, both, either}
+use Rattle.crc32c.specs.Crc.{crc32c}
+pub use Rattle.region.specs.declared.Comparison.{Comparison}
+pub use Rattle.region.specs.declared.Comparison.the-variants.{Nothing, Matched, Different}
+pub use Rattle.region.specs.declared.Compared.{Compared}
+
+-- the same number of bytes, and the same bytes
+abbrev pub equal : List ℕ → List ℕ → Bool
+equal [] [] = true
+equal [] (y ∷ ys) = false
+equal (x ∷ xs) [] = false
+equal (x ∷ xs) (y ∷ ys) = both (eqb x y) (equal xs ys)
+
+-- R165: a region without a byte, old or new, leaves nothing to compare
+abbrev pub anyEmpty : (old new : List ℕ) → Bool
+anyEmpty old new = either (eqb (length old) 0) (eqb (length new) 0)
+
+-- R165 to R167
+unfoldable pub compare : (old new : List ℕ) → Comparison
+compare old new = pick (anyEmpty old new) Nothing (pick (equal old new) Matched Different)
+
+-- R168: 0 is no match: it is what memory holds that nobody wrote
+abbrev pub number : Comparison → ℕ
+number Nothing = 0
+number Matched = 1
+number Different = 2
+
+-- R169: the comparison with both digests
+abbrev pub compared : (old new : List ℕ) → Compared
+compared old new = record { verdict = compare old new; «old_crc» = crc32c 0 old; «new_crc» = crc32c 0 new }
