@@ -10,7 +10,7 @@ use Rattle.blocks.specs.Blocks.{block}
 use Rattle.blocks.proofs.BlockLaws.{block-block, block-at, pow-add, pow-pos}
 use Rattle.blocks.specs.Lists.{All}
 use Rattle.model.specs.declared.Entry.{Entry}
-use Rattle.model.specs.Model.{newEntry, storeNew}
+use Rattle.model.specs.ByBlock.{newEntry, storeNew}
 use Rattle.model.proofs.RangeLaws.{Room, Inside, inside-down}
 use Rattle.tree.specs.Slots.{slot, entryWord, siblingWord, Numbering}
 use Rattle.tree.proofs.StoreLaws.{slot-inside}
