@@ -1,11 +1,11 @@
 -- Of an aligned index the store of `Model` is the one by blocks, so that the laws of the latter are laws of it.
 use Prim.Native.Nat.{ℕ, _+_, _*_, _%_, _^_, _<_, _≤_}
-use mathlib.Core.Path.{_≡_, ap, subst, _∙_}
+use mathlib.Core.Path.{_≡_, sym, ap, subst, _∙_}
 use mathlib.Core.Bool.{true}
 use mathlib.Core.List.{List}
 use native.Mathlib.Omega.{arith}
-use native.Mathlib.Nat.{div-add-mod'}
-use lib.Dec.{T, leb}
+use native.Mathlib.Nat.{div-add-mod', zero-div, zero-mul}
+use lib.Dec.{T, leb, eqb}
 use borrow.Author.Tests.{leb-true, ltb-true, le-leb, lt-ltb, eqb-true, eq-eqb}
 use Rattle.blocks.specs.Blocks.{block}
 use Rattle.blocks.proofs.BoolLaws.{both-l, both-r, iff}
@@ -39,6 +39,12 @@ module _ (i k : ℕ) (al : aligned k i ≡ true) where
           let lo : i ≤ e .base = subst (λ (b : ℕ). b ≤ e .base) q (block-lo k (e .base)) in
           let hi : e .base < i + 2 ^ k = subst (λ (b : ℕ). e .base < b + 2 ^ k) q (block-hi k (e .base)) in
           rw (le-leb i (e .base) lo) (lt-ltb _ _ hi)
+
+  -- a block is the first exactly if its first index is
+  pub first-block : eqb i 0 ≡ eqb (block k i) 0
+  first-block = iff (eqb i 0) (eqb (block k i) 0)
+      (λ t. eq-eqb (block k i) 0 (ap (block k) (eqb-true i 0 t) ∙ zero-div (2 ^ k)))
+      (λ t. eq-eqb i 0 (sym whole ∙ ap (λ (c : ℕ). c * 2 ^ k) (eqb-true (block k i) 0 t) ∙ zero-mul (2 ^ k)))
 
   module _ (l : List Entry) where
     inside-is : inside l i k ≡ B.inside l i k
