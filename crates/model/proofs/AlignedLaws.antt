@@ -4,7 +4,7 @@ use mathlib.Core.Path.{_≡_, sym, ap, subst, _∙_}
 use mathlib.Core.Bool.{true}
 use mathlib.Core.List.{List}
 use native.Mathlib.Omega.{arith}
-use native.Mathlib.Nat.{div-add-mod', zero-div, zero-mul}
+use native.Mathlib.Nat.{div-add-mod', mul-mod-left, zero-div, zero-mul}
 use lib.Dec.{T, leb, eqb}
 use borrow.Author.Tests.{leb-true, ltb-true, le-leb, lt-ltb, eqb-true, eq-eqb}
 use Rattle.blocks.specs.Blocks.{block}
@@ -12,9 +12,14 @@ use Rattle.blocks.proofs.BoolLaws.{both-l, both-r, iff}
 use Rattle.blocks.proofs.ListLaws.{All-of, keep-same, without-same}
 use Rattle.blocks.proofs.BlockLaws.{block-lo, block-hi}
 use Rattle.model.specs.declared.Entry.{Entry}
-use Rattle.model.specs.Model.{Valid, storable, maxOrder, aligned, starts, startsIn, inside, clear, newEntry, store}
+use Rattle.model.specs.Model.{EntryOk, Valid, storable, maxOrder, aligned, starts, startsIn, inside, clear, newEntry, store}
 use Rattle.model.specs.ByBlock as B
 use Rattle.model.proofs.ValidLaws.{block-in, store-valid}
+
+-- R7: so is the base of an entry
+pub base-aligned : (e : Entry) → EntryOk e → aligned (e .order) (e .base) ≡ true
+base-aligned e ok = eq-eqb (e .base % 2 ^ e .order) 0
+    (ap (λ (b : ℕ). b % 2 ^ e .order) (sym (ok .aligned)) ∙ mul-mod-left (block (e .order) (e .base)) (2 ^ e .order))
 
 module _ (i k : ℕ) (al : aligned k i ≡ true) where
   -- rounding leaves the index
