@@ -221,13 +221,15 @@ fn run_store(pool: &mut [u64], index: u64, order: u64, word: u64, low: u64) -> E
             low: low,
         };
     }
-    if !is_aligned(index, order) {
+    let aligned = is_aligned(index, order);
+    let storable = is_storable(word);
+    if !aligned {
         return Execution {
             reply: answered(STORED, NOT_ALIGNED, 0, 0),
             low: low,
         };
     }
-    if !is_storable(word) {
+    if !storable {
         return Execution {
             reply: answered(STORED, NOT_STORABLE, 0, 0),
             low: low,

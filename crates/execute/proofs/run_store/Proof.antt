@@ -9,20 +9,20 @@ use Rattle.execute.proofs.run_store.Statement.{statement}
 use Rattle.execute.proofs.run_store.Tie as tie
 
 -- THE PLACES IN THE CODE, each from one after it
-abbrev first : tie.After-is-aligned → tie.Else1
-first c = c .before
-
-abbrev second : tie.After-is-storable → tie.Else2
-second c = c .before
-
-abbrev aligned : tie.Else2 → tie.After-is-aligned
-aligned c = c .before
-
 abbrev start : tie.Else1 → tie.Start
 start c = c .before .before
 
-abbrev third : tie.After-stored-reply → tie.Else3
-third c = c .before .before .before .before .before
+abbrev ordered : tie.After-is-aligned → tie.Else1
+ordered c = c .before
+
+abbrev asked : tie.After-is-storable → tie.After-is-aligned
+asked c = c .before
+
+abbrev second : tie.After-store-arg → tie.Else2
+second c = c .before .before
+
+abbrev stored : tie.After-stored-reply → tie.After-store-arg
+stored c = c .before .before .before .before
 
 answered-requires : tie.Need-answered-requires
 answered-requires c κs = search needs
@@ -37,42 +37,42 @@ returns c = (
 is-aligned-requires : tie.Need-is-aligned-requires
 is-aligned-requires c κs = search needs
 
+is-storable-requires : tie.Need-is-storable-requires
+is-storable-requires c κs = search needs
+
 answered-requires-2 : tie.Need-answered-requires-2
 answered-requires-2 c κs = search needs
 
 returns-2 : tie.Need-returns-2
-returns-2 c = let x = c .before .before in (
+returns-2 c = let x = asked (c .before .before) in (
   (λ s. leaves s (Store _ _ _)
-      (store-index (s .n) (s .list) _ _ _ (first x .if1 .left)
+      (store-index (s .n) (s .list) _ _ _ (ordered x .if1 .left)
       (sym (x .is-aligned .ensures) ∙ not-true _ (c .before .if2 .taken)))
       (c .answered2 .ensures)),
-  start (first x) .pre .1,
+  start (ordered x) .pre .1,
 )
-
-is-storable-requires : tie.Need-is-storable-requires
-is-storable-requires c κs = search needs
 
 answered-requires-3 : tie.Need-answered-requires-3
 answered-requires-3 c κs = search needs
 
 returns-3 : tie.Need-returns-3
-returns-3 c = let y = c .before .before in let x = aligned (second y) in (
+returns-3 c = let e = c .before .before in let y = e .before in let x = asked y in (
   (λ s. leaves s (Store _ _ _)
-      (store-word (s .n) (s .list) _ _ _ (first x .if1 .left)
-      (sym (x .is-aligned .ensures) ∙ not-false _ (second y .if2 .left))
+      (store-word (s .n) (s .list) _ _ _ (ordered x .if1 .left)
+      (sym (x .is-aligned .ensures) ∙ not-false _ (e .if2 .left))
       (sym (y .is-storable .ensures) ∙ not-true _ (c .before .if3 .taken)))
       (c .answered3 .ensures)),
-  start (first x) .pre .1,
+  start (ordered x) .pre .1,
 )
 
 store-requires : tie.Need-store-requires
-store-requires c κs = let y = c .before .before in let x = aligned (second y) in (
-  start (first x) .pre .0,
+store-requires c κs = let e = second c in let y = e .before in let x = asked y in (
+  start (ordered x) .pre .0,
   (
-    (first x .if1 .left, sym (x .is-aligned .ensures) ∙ not-false _ (second y .if2 .left)),
+    (ordered x .if1 .left, sym (x .is-aligned .ensures) ∙ not-false _ (e .if2 .left)),
     (
       subst T (sym (sym (y .is-storable .ensures) ∙ not-false _ (c .before .if3 .left))) tt,
-      start (first x) .pre .1,
+      start (ordered x) .pre .1,
     ),
   ),
 )
@@ -84,10 +84,10 @@ same-length : tie.Need-same-length
 same-length c = search needs
 
 returns-4 : tie.Need-returns-4
-returns-4 c = let z = third c in let y = z .before in let x = aligned (second y) in (
-  (λ s. stores s _ _ _ (first x .if1 .left)
-      (sym (x .is-aligned .ensures) ∙ not-false _ (second y .if2 .left))
-      (sym (y .is-storable .ensures) ∙ not-false _ (z .if3 .left))
+returns-4 c = let z = stored c in let e = second z in let y = e .before in let x = asked y in (
+  (λ s. stores s _ _ _ (ordered x .if1 .left)
+      (sym (x .is-aligned .ensures) ∙ not-false _ (e .if2 .left))
+      (sym (y .is-storable .ensures) ∙ not-false _ (z .before .if3 .left))
       (c .before .before .before .store .ensures .0 s) (c .stored-reply .ensures)),
   c .before .before .before .store .ensures .1,
 )
@@ -99,9 +99,9 @@ run-store-spec =
     answered-requires
     returns
     is-aligned-requires
+    is-storable-requires
     answered-requires-2
     returns-2
-    is-storable-requires
     answered-requires-3
     returns-3
     store-requires
