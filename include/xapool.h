@@ -68,8 +68,8 @@ extern "C" {
 /* ---- Answers ----
  *
  * 0 to 4 are the answer of a call. 1 to 4 refuse it: nothing ran, pool and reply bytes are as they
- * were. 0 and 5 to 13 are the answer in one command's reply; whatever it is, the next command runs.
- * Where several apply, the lowest is given. */
+ * were. 0 and 5 to 14 are the answer in one command's reply; whatever it is, the next command runs.
+ * Where several apply, the lowest is given, but 14 before 6. */
 enum xapool_answer {
     XAPOOL_DONE = 0,             /* call: done, number: commands run. reply: done */
     XAPOOL_POOL_LENGTH = 1,      /* pool_words is not 4 + 69 N with N from 1 to 1,000; number 0 */
@@ -85,7 +85,8 @@ enum xapool_answer {
     XAPOOL_ABSENT = 10,          /* load, erase, mark, unmark: nothing covers the index */
     XAPOOL_TOO_FEW_NODES = 11,   /* store: it needs more nodes than are free; nothing is stored */
     XAPOOL_ENDED = 12,           /* find: nothing more to find */
-    XAPOOL_PAUSED = 13           /* find: the budget is used up; index: where to go on */
+    XAPOOL_PAUSED = 13,          /* find: the budget is used up; index: where to go on */
+    XAPOOL_NOT_ALIGNED = 14      /* store: the index is not a multiple of 2^order */
 };
 
 /* ---- Batches ----
@@ -101,9 +102,9 @@ enum xapool_answer {
  *   5    unmark    9      index (8), mark (1)
  *   6    find     19      first (8), last (8), and then filter (1), budget (2)
  *
- * store: one entry over the 2^order indices around index, in place of all that lay there; it has
- *   the marks of what it replaces. Where an entry of that order or more covers them, only that
- *   entry's word is replaced.
+ * store: one entry over the 2^order indices from index on, which is a multiple of 2^order, in place
+ *   of all that lay there; it has the marks of what it replaces. Where an entry of that order or
+ *   more covers them, only that entry's word is replaced.
  * erase, mark, unmark: the whole entry that covers index.
  * find: the first entry that meets first..last, in index order; filter 0, 1, 2: with that mark,
  *   3: any. It goes at most budget steps. */
@@ -291,7 +292,7 @@ static inline int xapool_put_find(xapool_batch *batch, uint64_t first, uint64_t 
 
 typedef struct xapool_reply {
     uint8_t tag;    /* of the command: XAPOOL_STORE to XAPOOL_FIND */
-    uint8_t answer; /* enum xapool_answer, 0 and 5 to 13 */
+    uint8_t answer; /* enum xapool_answer, 0 and 5 to 14 */
     uint8_t order;
     uint8_t marks;
     uint16_t count;
@@ -318,7 +319,7 @@ static inline int xapool_read_reply(const uint8_t *replies, size_t bytes, size_t
         return 0;
     at = replies + XAPOOL_REPLY_BYTES * number;
     if (at[0] < XAPOOL_REPLY + XAPOOL_STORE || at[0] > XAPOOL_REPLY + XAPOOL_FIND ||
-        xapool_number_at(at + 1, 2) != XAPOOL_REPLY_BYTES - 3 || at[XAPOOL_AT_ANSWER] > XAPOOL_PAUSED)
+        xapool_number_at(at + 1, 2) != XAPOOL_REPLY_BYTES - 3 || at[XAPOOL_AT_ANSWER] > XAPOOL_NOT_ALIGNED)
         return 0;
     reply->tag = XAPOOL_TO_BYTE(at[0] - XAPOOL_REPLY);
     reply->answer = at[XAPOOL_AT_ANSWER];
@@ -372,6 +373,7 @@ static inline const char *xapool_answer_text(uint64_t answer)
     case XAPOOL_TOO_FEW_NODES: return "too few free nodes";
     case XAPOOL_ENDED: return "ended";
     case XAPOOL_PAUSED: return "paused";
+    case XAPOOL_NOT_ALIGNED: return "index is not a multiple of 2^order";
     default: return "no answer of this library";
     }
 }

@@ -103,10 +103,10 @@ static void finds_go_on_after_the_run(void)
 
 static void answers_have_texts(void)
 {
-    for (unsigned a = XAPOOL_DONE; a <= XAPOOL_PAUSED; a++)
-        CHECK(strcmp(xapool_answer_text(a), xapool_answer_text(14)) != 0);
+    for (unsigned a = XAPOOL_DONE; a <= XAPOOL_NOT_ALIGNED; a++)
+        CHECK(strcmp(xapool_answer_text(a), xapool_answer_text(15)) != 0);
     CHECK(strcmp(xapool_answer_text(XAPOOL_TOO_FEW_NODES), "too few free nodes") == 0);
-    CHECK(strcmp(xapool_answer_text(UINT64_MAX), xapool_answer_text(14)) == 0);
+    CHECK(strcmp(xapool_answer_text(UINT64_MAX), xapool_answer_text(15)) == 0);
     char version[32];
     sprintf(version, "%d.%d.%d", XAPOOL_VERSION_MAJOR, XAPOOL_VERSION_MINOR, XAPOOL_VERSION_PATCH);
     CHECK(strcmp(version, XAPOOL_VERSION) == 0);
