@@ -65,7 +65,7 @@ static void replies_are_read_or_not(void)
     CHECK(r.order == 9 && r.entry == 261 && r.marks == 7 && r.count == 258);
     CHECK(!xapool_read_reply(bytes, 23, 0, &r) && !xapool_read_reply(bytes, 24, 1, &r));
     CHECK(!xapool_read_reply(bytes, 48, 1, &r) && !xapool_read_reply(bytes, 48, SIZE_MAX, &r));
-    static const uint8_t wrong[][2] = { { 0, 128 }, { 0, 135 }, { 1, 1 }, { 2, 20 }, { 3, 14 } };
+    static const uint8_t wrong[][2] = { { 0, 128 }, { 0, 135 }, { 1, 1 }, { 2, 20 }, { 3, 15 } };
     for (unsigned i = 0; i < 5; i++) {
         uint8_t old = bytes[wrong[i][0]];
         bytes[wrong[i][0]] = wrong[i][1];

@@ -275,7 +275,7 @@ fn every_answer_has_its_number() {
         assert_eq!(usize::from(answer.number()), number);
         assert!(!answer.to_string().is_empty());
     }
-    assert_eq!(Answer::from_number(14), None);
+    assert_eq!(Answer::from_number(15), None);
     assert_eq!(Word::value(1 << 63), Err(TooLarge(1 << 63)));
     assert_eq!(Word::value((1 << 63) - 1), Ok(Word(LAST)));
 }
