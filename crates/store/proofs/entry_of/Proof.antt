@@ -1,7 +1,6 @@
 -- `entry_of`: the base of an aligned index is the index.
 use Prim.Native.Nat.{ℕ}
 use mathlib.Core.Path.{sym, ap}
-use Rattle.model.specs.declared.Entry.{Entry}
 use Rattle.model.proofs.AlignedLaws.{whole}
 use Rattle.store.proofs.entry_of.Statement.{statement}
 use Rattle.store.proofs.entry_of.Tie as tie
