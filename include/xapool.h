@@ -77,9 +77,9 @@ extern "C" {
 /* ---- Answers ----
  *
  * 0 to 4 are the answer of a call, and of xapool_list also 8. All but 0 refuse it: nothing ran, and
- * pool, reply and list bytes are as they were. 0 and 5 to 13 are the answer in one command's reply;
- * whatever it is, the next command runs. Where several apply, the lowest is given; but a list is
- * refused with 8 before it is with 4. */
+ * pool, reply and list bytes are as they were. 0 and 5 to 14 are the answer in one command's reply;
+ * whatever it is, the next command runs. Where several apply, the lowest is given, but 14 before 6,
+ * and a list is refused with 8 before it is with 4. */
 enum xapool_answer {
     XAPOOL_DONE = 0,             /* call: done, number: commands run, or entries listed. reply: done */
     XAPOOL_POOL_LENGTH = 1,      /* pool_words is not 4 + 69 N with N from 1 to 1,000; number 0 */
@@ -96,7 +96,8 @@ enum xapool_answer {
     XAPOOL_ABSENT = 10,          /* load, erase, mark, unmark: nothing covers the index */
     XAPOOL_TOO_FEW_NODES = 11,   /* store: it needs more nodes than are free; nothing is stored */
     XAPOOL_ENDED = 12,           /* find: nothing more to find */
-    XAPOOL_PAUSED = 13           /* find: the budget is used up; index: where to go on */
+    XAPOOL_PAUSED = 13,          /* find: the budget is used up; index: where to go on */
+    XAPOOL_NOT_ALIGNED = 14      /* store: the index is not a multiple of 2^order */
 };
 
 /* ---- Batches ----
@@ -112,9 +113,9 @@ enum xapool_answer {
  *   5    unmark    9      index (8), mark (1)
  *   6    find     19      first (8), last (8), and then filter (1), budget (2)
  *
- * store: one entry over the 2^order indices around index, in place of all that lay there; it has
- *   the marks of what it replaces. Where an entry of that order or more covers them, only that
- *   entry's word is replaced.
+ * store: one entry over the 2^order indices from index on, which is a multiple of 2^order, in place
+ *   of all that lay there; it has the marks of what it replaces. Where an entry of that order or
+ *   more covers them, only that entry's word is replaced.
  * erase, mark, unmark: the whole entry that covers index.
  * find: the first entry that meets first..last, in index order; filter 0, 1, 2: with that mark,
  *   3: any. It goes at most budget steps. */
@@ -353,7 +354,7 @@ static inline int xapool_put_find(xapool_batch *batch, uint64_t first, uint64_t 
 
 typedef struct xapool_reply {
     uint8_t tag;    /* of the command: XAPOOL_STORE to XAPOOL_FIND */
-    uint8_t answer; /* enum xapool_answer, 0 and 5 to 13 */
+    uint8_t answer; /* enum xapool_answer, 0 and 5 to 14 */
     uint8_t order;
     uint8_t marks;
     uint16_t count;
@@ -380,7 +381,7 @@ static inline int xapool_read_reply(const uint8_t *replies, size_t bytes, size_t
         return 0;
     at = replies + XAPOOL_REPLY_BYTES * number;
     if (at[0] < XAPOOL_REPLY + XAPOOL_STORE || at[0] > XAPOOL_REPLY + XAPOOL_FIND ||
-        xapool_number_at(at + 1, 2) != XAPOOL_REPLY_BYTES - 3 || at[XAPOOL_AT_ANSWER] > XAPOOL_PAUSED)
+        xapool_number_at(at + 1, 2) != XAPOOL_REPLY_BYTES - 3 || at[XAPOOL_AT_ANSWER] > XAPOOL_NOT_ALIGNED)
         return 0;
     reply->tag = XAPOOL_TO_BYTE(at[0] - XAPOOL_REPLY);
     reply->answer = at[XAPOOL_AT_ANSWER];
@@ -461,6 +462,7 @@ static inline const char *xapool_answer_text(uint64_t answer)
     case XAPOOL_TOO_FEW_NODES: return "too few free nodes";
     case XAPOOL_ENDED: return "ended";
     case XAPOOL_PAUSED: return "paused";
+    case XAPOOL_NOT_ALIGNED: return "index is not a multiple of 2^order";
     default: return "no answer of this library";
     }
 }

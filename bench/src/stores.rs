@@ -51,7 +51,10 @@ fn sparse_below(name: &'static str, bits: u32, a_pool: usize, stores: u64) -> Lo
 
 fn mixed_orders(stores: u64) -> Load {
     let mut random = Random(9);
-    let mut one = || store_order(below_bits(&mut random, 20), random.below(13) as u8);
+    let mut one = || {
+        let (index, order) = (below_bits(&mut random, 20), random.below(13) as u8);
+        store_order(index >> order << order, order)
+    };
     let stores: Vec<Command> = (0..stores).map(|_| one()).collect();
     let pools = stores_by_pool(&stores, STORES_A_BATCH);
     let about = format!("at random below 2^20, a full batch to a pool, pools: {}", pools.len());

@@ -1,5 +1,5 @@
 //! Cases 13 to 15 (R118 to R120), the empty batch, and batches of 8,192 and 8,193 bytes, with the
-//! rules' own figures; the listings of listing_cases.rs; and cases 2 to 13 command by command
+//! rules' own figures; unaligned stores (P4) and the listings of listing_cases.rs; and cases 2 to 13 command by command
 //! against reference, all words and replies (their figures are computed by the proved table and
 //! tested in host/). A case that fails says which commands it ran and the first word or byte that
 //! differs.
@@ -92,6 +92,21 @@ fn case_13() -> Vec<Case> {
     ]
 }
 
+/// Stores that are refused with 5, 14 and 6 (P4): the answer, and nothing else in the reply.
+fn unaligned() -> Vec<Case> {
+    let refused = |index, order, word, answer| {
+        let reply = [&[0x81, 0, 21, answer][..], &[0; 20]].concat();
+        replies(&[store_order(index, order, word)], &reply)
+    };
+    vec![
+        ("order 3 at 13: answer 14", refused(13, 3, 5, 14)),
+        ("order 64 at 13, entry 0: answer 5", refused(13, 64, 0, 5)),
+        ("order 3 at 13, entry 0: answer 14", refused(13, 3, 0, 14)),
+        ("order 3 at 8, entry 0: answer 6", refused(8, 3, 0, 6)),
+        ("order 63 at 2^62: answer 14", refused(1 << 62, 63, 5, 14)),
+    ]
+}
+
 fn case_14() -> Vec<Case> {
     let stored = [1, 0, 17, 0, 0, 0, 0, 0, 0, 0, 64, 0, 0, 0, 0, 0, 0, 0, 0, 5];
     let loaded = [0x82, 0, 21, 0, 0, 0, 0, 0, 0, 0, 0, 64, 0, 0, 0, 0, 0, 0, 0, 0, 5, 0, 0, 2];
@@ -144,7 +159,7 @@ fn starred() -> Vec<Case> {
     let mark = |index, mark| Command::Mark { index, mark };
     let find = |filter, budget| Command::Find { first: 1, last: u64::MAX, filter, budget };
     let (two, three) = (store(0, 3), store(64, 5));
-    let eight = store_order(13, 3, 5);
+    let eight = store_order(8, 3, 5);
     let ten = [store(64, 5), mark(64, 0), store(65, 7), mark(65, 1), store_order(64, 6, 9)];
     let thirteen = [two, three, find(3, 64), find(3, 63), mark(64, 0), find(0, 100)];
     vec![
@@ -158,6 +173,8 @@ fn starred() -> Vec<Case> {
         ("case 6 against reference, N = 21", agree(21, &[two, store(u64::MAX, 5)])),
         ("case 7 against reference", agree(1, &[store_order(0, 6, 5), load(63)])),
         ("case 8 against reference", agree(1, &[eight])),
+        ("case 8 against reference, 13", agree(1, &[store_order(13, 3, 5)])),
+        ("case 8 against reference, then 13", agree(1, &[eight, store_order(13, 3, 7)])),
         ("case 9 against reference", agree(1, &[eight, store(10, 9), load(15), erase(11)])),
         ("case 10 against reference", agree(2, &ten)),
         ("case 11 against reference", agree(3, &[two, three, erase(64)])),
@@ -189,7 +206,8 @@ fn programs(with_program: bool) -> Vec<Case> {
 
 /// How many cases there are, and those that failed, with what is wrong.
 pub fn run_all(with_program: bool) -> (usize, Vec<(&'static str, String)>) {
-    let figures = [case_13(), case_14(), case_15(), empty_batch(), listing_cases()].concat();
+    let figures =
+        [case_13(), case_14(), case_15(), unaligned(), empty_batch(), listing_cases()].concat();
     let all = [starred(), figures, programs(with_program)].concat();
     let count = all.len();
     (count, all.into_iter().filter_map(|(name, wrong)| Some((name, wrong?))).collect())

@@ -35,7 +35,7 @@ fn pools() -> Vec<Vec<u64>> {
         built(1, &[]),
         built(2, &[store(0, 0, 3), mark(0, 1)]),
         built(4, &[store(0, 0, 3), store(64, 0, 5), mark(64, 0)]),
-        built(2, &[store(13, 3, 3), store(32, 5, 8), store(1, 0, 4), mark(13, 2)]),
+        built(2, &[store(8, 3, 3), store(32, 5, 8), store(1, 0, 4), mark(13, 2)]),
         built(3, &[store(0, 6, 3), store(4095, 0, 7), mark(0, 0), mark(4095, 1)]),
         built(22, &[store(0, 0, 3), store(LAST, 0, 9), mark(LAST, 2)]),
         built(14, &[store(1 << 63, 63, 3), store(0, 60, 5), store(1 << 62, 0, 8), mark(1, 0)]),

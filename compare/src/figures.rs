@@ -131,7 +131,7 @@ impl Figures {
             self.get(Of::ReplyBytes)
         );
         println!("  answers of calls      {}", self.answers(CALL_ANSWERS, 0..9));
-        println!("  answers in replies    {}", self.answers(REPLY_ANSWERS, 0..14));
+        println!("  answers in replies    {}", self.answers(REPLY_ANSWERS, 0..15));
     }
 
     pub fn print_finds(self) {

@@ -9,6 +9,7 @@ use crate::stretch::{counts, FindCounts};
 use reference::batch::{read, Command};
 use reference::calls::{self, check, init, run};
 use reference::command::{execute, needed};
+use reference::model::{self, covering, is_aligned, is_entry_word};
 use reference::pool::State;
 use reference::recover::recover;
 use std::collections::BTreeMap;
@@ -23,6 +24,7 @@ struct Met {
     replies: Counts<u8>,
     spare: Counts<i64>,
     places: Counts<u64>,
+    stores: Counts<&'static str>,
 }
 
 fn follow(met: &mut Met, list: &CallList) {
@@ -53,6 +55,8 @@ fn follow(met: &mut Met, list: &CallList) {
 fn follow_batch(met: &mut Met, mut state: State, batch: &[u8]) {
     for command in read(batch).unwrap_or_default() {
         if let Command::Store { index, order, word } = command {
+            let kinds = store_kinds(&state, index, order, word);
+            kinds.into_iter().for_each(|kind| *met.stores.entry(kind).or_default() += 1);
             let free = state.free_numbers().len() as i64;
             if let Some(count) = needed(&state, index, order, word).filter(|count| *count > 0) {
                 *met.spare.entry(free - count as i64).or_default() += 1;
@@ -64,13 +68,52 @@ fn follow_batch(met: &mut Met, mut state: State, batch: &[u8]) {
     }
 }
 
+/// What a store is as to its refusals; of an unaligned one also what it would meet if it were let
+/// through at the last multiple before.
+fn store_kinds(state: &State, index: u64, order: u8, word: u64) -> Vec<&'static str> {
+    let bad_word = !is_entry_word(word);
+    if order > 63 {
+        return vec![if bad_word { "order and word" } else { "order" }];
+    }
+    if is_aligned(index, order) {
+        return vec![if bad_word { "word" } else { "good" }];
+    }
+    let covered = covering(&state.list, index);
+    let rounded = index >> order << order;
+    let after = model::store(&state.list, rounded, order, 5);
+    let all = [
+        ("unaligned", true),
+        ("unaligned and word", bad_word),
+        ("unaligned in an entry", covered.is_some_and(|entry| entry.order >= order)),
+        ("unaligned over an entry", covered.is_some_and(|entry| entry.order < order)),
+        ("unaligned and few nodes", state.needed(&after) > state.free_numbers().len()),
+        ("unaligned by one bit", (index - rounded).is_power_of_two()),
+    ];
+    all.into_iter().filter(|(_, so)| *so).map(|(kind, _)| kind).collect()
+}
+
+#[test]
+fn stores_are_mostly_good_and_unaligned_in_every_way() {
+    let mut met = Met::default();
+    (0..1500).for_each(|seed| follow(&mut met, &CallList::random(seed)));
+    let count = |kind: &str| *met.stores.get(kind).unwrap_or(&0);
+    let stores: usize =
+        ["good", "word", "order", "order and word", "unaligned"].into_iter().map(count).sum();
+    assert!(4 * count("good") >= 3 * stores, "{:?}", met.stores);
+    assert!(20 * count("unaligned") >= stores, "{:?}", met.stores);
+    let ways = ["and word", "in an entry", "over an entry", "and few nodes", "by one bit"];
+    let ways = ways.map(|way| format!("unaligned {way}"));
+    let each = ways.iter().map(String::as_str).chain(["order and word"]);
+    assert!(each.into_iter().all(|kind| 500 * count(kind) >= stores), "{:?}", met.stores);
+}
+
 #[test]
 fn every_answer_and_both_sides_of_11_are_met() {
     let mut met = Met::default();
     (0..3000).for_each(|seed| follow(&mut met, &CallList::random(seed)));
     let many = |count: Option<&usize>| *count.unwrap_or(&0) >= 20;
     assert!((0..=4).all(|answer| many(met.calls.get(&answer))), "{:?}", met.calls);
-    let replies = [0].into_iter().chain(5..=13);
+    let replies = [0].into_iter().chain(5..=14);
     assert!(replies.into_iter().all(|answer| many(met.replies.get(&answer))), "{:?}", met.replies);
     assert!([-1, 0].iter().all(|spare| many(met.spare.get(spare))), "{:?}", met.spare);
     assert!(many(met.places.get(&8192)) && met.places.len() > 50, "{:?}", met.places);

@@ -65,7 +65,7 @@ static void replies_are_read_or_not(void)
     CHECK(r.order == 9 && r.entry == 261 && r.marks == 7 && r.count == 258);
     CHECK(!xapool_read_reply(bytes, 23, 0, &r) && !xapool_read_reply(bytes, 24, 1, &r));
     CHECK(!xapool_read_reply(bytes, 48, 1, &r) && !xapool_read_reply(bytes, 48, SIZE_MAX, &r));
-    static const uint8_t wrong[][2] = { { 0, 128 }, { 0, 135 }, { 1, 1 }, { 2, 20 }, { 3, 14 } };
+    static const uint8_t wrong[][2] = { { 0, 128 }, { 0, 135 }, { 1, 1 }, { 2, 20 }, { 3, 15 } };
     for (unsigned i = 0; i < 5; i++) {
         uint8_t old = bytes[wrong[i][0]];
         bytes[wrong[i][0]] = wrong[i][1];
@@ -167,10 +167,10 @@ static void finds_go_on_after_the_run(void)
 
 static void answers_have_texts(void)
 {
-    for (unsigned a = XAPOOL_DONE; a <= XAPOOL_PAUSED; a++)
-        CHECK(strcmp(xapool_answer_text(a), xapool_answer_text(14)) != 0);
+    for (unsigned a = XAPOOL_DONE; a <= XAPOOL_NOT_ALIGNED; a++)
+        CHECK(strcmp(xapool_answer_text(a), xapool_answer_text(15)) != 0);
     CHECK(strcmp(xapool_answer_text(XAPOOL_TOO_FEW_NODES), "too few free nodes") == 0);
-    CHECK(strcmp(xapool_answer_text(UINT64_MAX), xapool_answer_text(14)) == 0);
+    CHECK(strcmp(xapool_answer_text(UINT64_MAX), xapool_answer_text(15)) == 0);
     char version[32];
     sprintf(version, "%d.%d.%d", XAPOOL_VERSION_MAJOR, XAPOOL_VERSION_MINOR, XAPOOL_VERSION_PATCH);
     CHECK(strcmp(version, XAPOOL_VERSION) == 0);

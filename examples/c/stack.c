@@ -27,7 +27,8 @@ static void put_one(xapool_batch *b, unsigned i)
     case 3: xapool_put_find(b, 0, UINT64_MAX, (uint8_t)(i % 4), 1000); break;
     case 4: xapool_put_load(b, index); break;
     case 5: xapool_put_store(b, 0, 0, XAPOOL_VALUE(i)); break;
-    default: xapool_put_store(b, index, i % 16 == 7 ? order : 0, XAPOOL_VALUE(i));
+    case 7: xapool_put_store(b, index >> order << order, i % 16 == 7 ? order : 0, XAPOOL_VALUE(i)); break;
+    default: xapool_put_store(b, index, 0, XAPOOL_VALUE(i));
     }
 }
 

@@ -3,7 +3,7 @@
 use crate::raw::RawResult;
 use std::fmt;
 
-/// The answer of a call (0 to 4; of a list also 8) or in a reply (0 and 5 to 13). As an error it is what a command was
+/// The answer of a call (0 to 4; of a list also 8) or in a reply (0 and 5 to 14). As an error it is what a command was
 /// answered in place of `Done`: see [`Reply::done`](crate::Reply::done).
 #[derive(Clone, Copy, Debug, PartialEq, Eq, Hash, PartialOrd, Ord)]
 #[repr(u8)]
@@ -37,11 +37,13 @@ pub enum Answer {
     Ended = 12,
     /// Find: the budget is used up.
     Paused = 13,
+    /// Store: the index is not a multiple of 2^order. Tested after `BadOrder` and before `BadEntry`.
+    NotAligned = 14,
 }
 
 impl Answer {
     /// All answers; answer k is at place k.
-    pub const ALL: [Answer; 14] = [
+    pub const ALL: [Answer; 15] = [
         Answer::Done,
         Answer::PoolLength,
         Answer::NotWellFormed,
@@ -56,6 +58,7 @@ impl Answer {
         Answer::TooFewNodes,
         Answer::Ended,
         Answer::Paused,
+        Answer::NotAligned,
     ];
 
     /// The answer of this number, if there is one.
@@ -63,7 +66,7 @@ impl Answer {
         Answer::ALL.get(usize::try_from(number).ok()?).copied()
     }
 
-    /// Its number, 0 to 13.
+    /// Its number, 0 to 14.
     #[must_use]
     pub fn number(self) -> u8 {
         self as u8
@@ -87,6 +90,7 @@ impl Answer {
             Answer::TooFewNodes => "too few free nodes",
             Answer::Ended => "ended",
             Answer::Paused => "paused",
+            Answer::NotAligned => "index is not a multiple of 2^order",
         }
     }
 }

@@ -76,14 +76,14 @@ impl fmt::Display for Tag {
 }
 
 /// A command. Fields of any size can be sent; the library refuses those out of range in the reply
-/// (order above 63, a word that is no entry, mark above 2, filter above 3).
+/// (order above 63, an index that is not a multiple of 2^order, a word that is no entry, mark above 2, filter above 3).
 #[derive(Clone, Copy, Debug, PartialEq, Eq, Hash)]
 pub enum Command {
-    /// One entry over the 2^order indices around the index, with the marks of what it replaces. Where
+    /// One entry over the 2^order indices from the index on, with the marks of what it replaces. Where
     /// an entry of that order or more covers them, only that entry's word is replaced: the reply's
     /// index and order say what was changed.
     Store {
-        /// Any index of the run.
+        /// The first index of the run, a multiple of 2^order.
         index: u64,
         /// 0 to 63: the run has 2^order indices.
         order: u8,

@@ -104,14 +104,23 @@ fn case_7_order_6_at_0() {
 
 #[test]
 fn case_8_siblings() {
-    let (reply, pool) = run(40, &[store(13, 3, 3)]);
+    let (reply, pool) = run(40, &[store(8, 3, 3)]);
     assert_eq!(reply.index, 8);
     assert!((9..16).all(|at| slot(&pool, 0, at) == 34));
 }
 
 #[test]
+fn an_index_that_is_no_multiple_is_14_after_5_and_before_6() {
+    let (reply, pool) = run(40, &[store(13, 3, 3)]);
+    assert_eq!((reply.answer, reply.index, free_nodes(&pool)), (Answer::NotAligned, 0, 40));
+    assert_eq!(last_reply(40, &[store(13, 64, 0)]).answer, Answer::BadOrder);
+    assert_eq!(last_reply(40, &[store(13, 3, 0)]).answer, Answer::NotAligned);
+    assert_eq!(last_reply(40, &[store(8, 3, 0)]).answer, Answer::BadEntry);
+}
+
+#[test]
 fn case_9_replaced_whole_then_erased() {
-    let first = [store(13, 3, 3), store(10, 0, 9)];
+    let first = [store(8, 3, 3), store(10, 0, 9)];
     let reply = last_reply(40, &[first[0], first[1], load(15)]);
     assert_eq!((reply.word, reply.index, reply.order), (Word(9), 8, 3));
     let (reply, pool) = run(40, &[first[0], first[1], Command::Erase { index: 11 }]);
@@ -269,7 +278,7 @@ fn every_answer_has_its_number() {
         assert_eq!(usize::from(answer.number()), number);
         assert!(!answer.to_string().is_empty());
     }
-    assert_eq!(Answer::from_number(14), None);
+    assert_eq!(Answer::from_number(15), None);
     assert_eq!(Word::value(1 << 63), Err(TooLarge(1 << 63)));
     assert_eq!(Word::value((1 << 63) - 1), Ok(Word(LAST)));
 }
@@ -303,7 +312,7 @@ fn the_index_after_a_run() {
 /// after the second begins again at 0.
 #[test]
 fn finds_end_on_runs_and_at_the_last_index() {
-    let entries = [store(13, 3, 3), store(16, 0, 5), store(LAST, 0, 7), mark(9, 1), mark(LAST, 1)];
+    let entries = [store(8, 3, 3), store(16, 0, 5), store(LAST, 0, 7), mark(9, 1), mark(LAST, 1)];
     let (_, mut pool) = run(40, &entries);
     assert_eq!(bases(&mut pool, 0, LAST, FIND_ANY), [8, 16, LAST]);
     assert_eq!(bases(&mut pool, 0, LAST, 1), [8, LAST]);
@@ -319,7 +328,7 @@ fn finds_end_on_runs_and_at_the_last_index() {
 
 #[test]
 fn finds_one_by_one_go_on_after_a_run_or_at_a_pause() {
-    let (_, mut pool) = run(40, &[store(13, 3, 3), store(LAST, 0, 7)]);
+    let (_, mut pool) = run(40, &[store(8, 3, 3), store(LAST, 0, 7)]);
     let (mut first, mut found, mut pauses) = (Some(0), Vec::new(), 0);
     while let Some(from) = first {
         let replies = pool.run(&batch(&[find(from, LAST, FIND_ANY, 3)])).expect("a good batch");

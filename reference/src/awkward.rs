@@ -103,10 +103,29 @@ impl Commands {
         }
     }
 
+    /// Mostly at a multiple of 2^order.
     fn store(&mut self) -> Command {
         let index = if self.random.one_in(4) { self.likely() } else { self.index() };
+        let order = self.order();
+        if self.random.one_in(6) {
+            return self.unaligned_store(index, order);
+        }
+        let index = aligned(index, order);
         self.stored.push(index);
-        Command::Store { index, order: self.order(), word: self.entry_word() }
+        Command::Store { index, order, word: self.entry_word() }
+    }
+
+    /// At the index as it is or, often, one bit away from a multiple of 2^order. The word is often
+    /// none of an entry, so that two answers could be meant.
+    fn unaligned_store(&mut self, index: u64, order: u8) -> Command {
+        let index = match order {
+            1..=63 if !self.random.one_in(4) => {
+                aligned(index, order) | 1 << self.random.below(u64::from(order))
+            }
+            _ => index,
+        };
+        let word = if self.random.one_in(3) { 0 } else { self.entry_word() };
+        Command::Store { index, order, word }
     }
 
     /// A command of any kind; mostly a store while nothing was stored.
@@ -126,4 +145,9 @@ impl Commands {
             }
         }
     }
+}
+
+/// The last multiple of 2^order up to the index; the index where no entry has that order.
+fn aligned(index: u64, order: u8) -> u64 {
+    index - index % 1u64.checked_shl(order.into()).unwrap_or(1)
 }

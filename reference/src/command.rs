@@ -3,7 +3,7 @@
 use crate::answers::*;
 use crate::batch::{Command, Reply};
 use crate::find::{find, FindResult, ANY_ENTRY};
-use crate::model::{self, covering, is_entry_word, target, Entry, Range};
+use crate::model::{self, covering, is_aligned, is_entry_word, target, Entry, Range};
 use crate::pool::State;
 use crate::tree::Tree;
 
@@ -45,13 +45,16 @@ pub fn execute_each(state: &State, commands: &[Command]) -> Vec<Done> {
 
 /// The nodes needed by a store; none if its fields are refused.
 pub fn needed(state: &State, index: u64, order: u8, word: u64) -> Option<usize> {
-    let good = store_refusal(order, word).is_none();
+    let good = store_refusal(index, order, word).is_none();
     good.then(|| state.needed(&model::store(&state.list, index, order, word)))
 }
 
-fn store_refusal(order: u8, word: u64) -> Option<u8> {
+/// Answer 14 stands between 5 and 6 (request P4).
+fn store_refusal(index: u64, order: u8, word: u64) -> Option<u8> {
     if order > 63 {
         Some(BAD_ORDER)
+    } else if !is_aligned(index, order) {
+        Some(UNALIGNED)
     } else if !is_entry_word(word) {
         Some(BAD_ENTRY)
     } else {
@@ -72,7 +75,7 @@ fn find_refusal(first: u64, last: u64, filter: u8, budget: u16) -> Option<u8> {
 }
 
 fn store(state: &State, index: u64, order: u8, word: u64) -> Done {
-    if let Some(answer) = store_refusal(order, word) {
+    if let Some(answer) = store_refusal(index, order, word) {
         return unchanged(state, only(answer));
     }
     let (base, _) = target(&state.list, index, order);

@@ -6,7 +6,7 @@
 //! ```text
 //! list N                                       the pool has N nodes (1 to 24)
 //! store INDEX ORDER WORD REPLY needed COUNT    the fields are good: nodes needed (answer 0 or 11)
-//! store INDEX ORDER WORD REPLY                 the fields are refused (answer 5 or 6)
+//! store INDEX ORDER WORD REPLY                 the fields are refused (answer 5, 14 or 6)
 //! load INDEX REPLY
 //! erase INDEX REPLY
 //! mark INDEX MARK REPLY

@@ -45,9 +45,9 @@ pub fn is_entry_word(word: u64) -> bool {
     word % 2 == 1 || (word.is_multiple_of(4) && word > 0)
 }
 
-/// The index rounded down to a multiple of 2^order, for orders 0 to 63.
-pub fn round_down(index: u64, order: u8) -> u64 {
-    index - index % (1 << order)
+/// Whether an entry of this order, 0 to 63, can begin at the index.
+pub fn is_aligned(index: u64, order: u8) -> bool {
+    index.is_multiple_of(1 << order)
 }
 
 /// The entry that covers the index. The list is in index order, so it is the last to begin there
@@ -70,12 +70,12 @@ pub fn beginning_in(list: &[Entry], range: Range) -> &[Entry] {
     &list[from..to]
 }
 
-/// Base and order of the entry that a store leaves (document 01: the addressed run): those of an
-/// entry of this order or more that covers the asked run, else the asked run's own.
+/// Base and order of the entry that a store at an aligned index leaves (document 01: the addressed
+/// run): those of an entry of this order or more that covers the asked run, else the asked run's own.
 pub fn target(list: &[Entry], index: u64, order: u8) -> (u64, u8) {
     match covering(list, index) {
         Some(entry) if entry.order >= order => (entry.base, entry.order),
-        _ => (round_down(index, order), order),
+        _ => (index, order),
     }
 }
 

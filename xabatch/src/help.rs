@@ -32,7 +32,7 @@ Turns text into a batch. One command a line, # begins a comment. Numbers are dec
 max is 2^64 - 1.
 
   store 64 order 0 value 2         the entry word 2v + 1; v to 2^63 - 1
-  store 64 order 3 handle 0x1000   a multiple of 4 above 0
+  store 64 order 3 handle 0x1000   a multiple of 4 above 0; the index a multiple of 2^order
   store 64 order 0 word 5          any word, also one that is refused
   load 64
   erase 64

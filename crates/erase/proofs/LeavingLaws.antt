@@ -18,7 +18,8 @@ use Rattle.blocks.proofs.ListLaws.{All-map, All-without, any-split, look, each,
 use Rattle.blocks.proofs.BlockLaws.{block-up, block-at, block-mono}
 use Rattle.blocks.proofs.BitLaws.{bits-same}
 use Rattle.model.specs.declared.Entry.{Entry}
-use Rattle.model.specs.Model.{EntryOk, Valid, covers, covering, within, hasMark, marksOf, clear, erase}
+use Rattle.model.specs.Model.{EntryOk, Valid, covers, covering, within, hasMark, marksOf, erase}
+use Rattle.model.specs.ByBlock.{clear}
 use Rattle.model.proofs.RangeLaws.{Room, Apart, Inside, apart-up, clear-apart}
 use Rattle.model.proofs.ValidLaws.{
   room-some,

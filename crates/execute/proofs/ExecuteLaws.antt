@@ -11,8 +11,9 @@ use borrow.Author.Tests.{ltb-false, leb-false, lt-ltb, le-ltb}
 use Rattle.blocks.specs.Lists.{All, end, also}
 use Rattle.blocks.proofs.BoolLaws.{byT, not-false}
 use Rattle.model.specs.declared.Entry.{Entry}
-use Rattle.model.specs.Model.{Valid, storable, maxOrder, markCount, covering, store, erase, remark, withMark}
-use Rattle.model.proofs.ValidLaws.{store-valid, erase-valid, erase-clear, erase-none}
+use Rattle.model.specs.Model.{Valid, storable, maxOrder, aligned, markCount, covering, store, erase, remark, withMark}
+use Rattle.model.proofs.ValidLaws.{erase-valid, erase-clear, erase-none}
+use Rattle.model.proofs.AlignedLaws.{aligned-valid}
 use Rattle.tree.specs.Tree.{nodes, newNodes, needed}
 use Rattle.tree.proofs.ChangeLaws.{clear-new}
 use Rattle.tree.proofs.RelabelLaws.{new-nodes-map}
@@ -71,13 +72,16 @@ module _ (n : ℕ) (l : List Entry) (v : Valid l) where
   unfolding execute
   stored i k w i< w< =
       byT (ltb maxOrder k) (λ t. rw t (stays n v))
-      (λ t. byT (not (storable w)) (λ s. rw (t, s) (stays n v))
-      (λ s. byT (short n l (store l i k w)) (λ d. rw (t, s, d) (stays n v))
-      (λ d. rw (t, s, d)
+      (λ t. byT (not (aligned k i)) (λ a. rw (t, a) (stays n v))
+      (λ a. byT (not (storable w)) (λ s. rw (t, a, s) (stays n v))
+      (λ s. byT (short n l (store l i k w)) (λ d. rw (t, a, s, d) (stays n v))
+      (λ d. rw (t, a, s, d)
       (record {
-        valid = store-valid i k w v i< (ltb-false _ _ t) (subst T (sym (not-false (storable w) s)) tt) w<;
+        valid =
+            aligned-valid i k (not-false (aligned k i) a) l w v i< (ltb-false _ _ t)
+            (subst T (sym (not-false (storable w) s)) tt) w<;
         enough = ltb-false _ _ d;
-      }))))
+      })))))
 
   -- every command
   pub execute-keeps : (c : Command) → Fits c → Keeps n l (execute n l c .list)
@@ -111,14 +115,15 @@ states-kept end k = k
 states-kept (also {x = c} f a) k = states-kept a (next-kept c f k)
 
 -- SHORTAGE IS EXACT: a store that nothing else refuses answers 11 exactly if it needs more nodes than are free
-module _ (n : ℕ) (l : List Entry) (i k w : ℕ) (k≤ : k ≤ maxOrder) (st : storable w ≡ true) where
+module _ (n : ℕ) (l : List Entry) (i k w : ℕ) (k≤ : k ≤ maxOrder) (al : aligned k i ≡ true)
+    (st : storable w ≡ true) where
   pub short-11 : n - length (nodes l) < needed l (store l i k w) →
       execute n l (Store i k w) ≡ refuse l (replyTag (Store i k w)) tooFewNodes
   unfolding execute
-  short-11 h = rw (le-ltb maxOrder k k≤, st, lt-ltb (n - length (nodes l)) (needed l (store l i k w)) h)
+  short-11 h = rw (le-ltb maxOrder k k≤, al, st, lt-ltb (n - length (nodes l)) (needed l (store l i k w)) h)
 
   pub enough-0 : needed l (store l i k w) ≤ n - length (nodes l) →
       execute n l (Store i k w)
       ≡ record { reply = replyOf (replyTag (Store i k w)) 0 (covering (store l i k w) i); list = store l i k w }
   unfolding execute
-  enough-0 h = rw (le-ltb maxOrder k k≤, st, le-ltb (n - length (nodes l)) (needed l (store l i k w)) h)
+  enough-0 h = rw (le-ltb maxOrder k k≤, al, st, le-ltb (n - length (nodes l)) (needed l (store l i k w)) h)

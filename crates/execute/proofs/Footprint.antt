@@ -9,13 +9,14 @@ use native.Mathlib.Omega.{arith}
 use lib.Dec.{leb, ltb}
 use borrow.Author.Tests.{le-leb, eqb-true, eq-eqb}
 use Rattle.blocks.specs.Lists.{any}
-use Rattle.blocks.proofs.BoolLaws.{byT, clash}
-use Rattle.blocks.proofs.ListLaws.{first-yes, each}
+use Rattle.blocks.proofs.BoolLaws.{byT, clash, not-false}
+use Rattle.blocks.proofs.ListLaws.{first-yes, each, look}
 use Rattle.model.specs.declared.Entry.{Entry}
 use Rattle.model.specs.Model.{
   Valid,
   storable,
   maxOrder,
+  aligned,
   markCount,
   covers,
   covering,
@@ -25,7 +26,9 @@ use Rattle.model.specs.Model.{
   store,
   remark,
 }
-use Rattle.model.proofs.ValidLaws.{room, room-some, erase-clear, erase-none}
+use Rattle.model.specs.ByBlock as B
+use Rattle.model.proofs.AlignedLaws.{base-aligned, store-is}
+use Rattle.model.proofs.ValidLaws.{sorted-ok, room, room-some, erase-clear, erase-none}
 use Rattle.tree.proofs.ReadLaws.{over-some, over-none}
 use Rattle.marks.proofs.RemarkLaws.{remark-none}
 use Rattle.layout.specs.Places.{Places, newPlaces, wordAt, render}
@@ -45,9 +48,14 @@ abbrev Within : ℕ → List Entry → Command → Type 0
 Within n l c =
     (execute n l c .list ≡ l)
     ⊎ ((changing c ≡ true) × (execute n l c .reply .answer ≡ 0)
+    × (aligned (addressed l c .order) (addressed l c .index) ≡ true)
     × Agree (addressed l c .index) (addressed l c .order) l (execute n l c .list))
 
 module _ (n : ℕ) (l : List Entry) (v : Valid l) where
+  -- the range of the entry over an index
+  entry-range : (i : ℕ) {e : Entry} → covering l i ≡ some e → aligned (e .order) (e .base) ≡ true
+  entry-range i {e} q = base-aligned e (look (sorted-ok v) (first-yes (covers i) (each l (λ x m. m)) q .1))
+
   -- MARKS
   module _ (i m : ℕ) (b : Bool) where
     kept : (x : Entry) → covers i x ≡ false → withMark i m b x ≡ x
@@ -66,6 +74,7 @@ module _ (n : ℕ) (l : List Entry) (v : Valid l) where
           inr (
             refl,
             rw t (covered-0 132 0 _ (covering-marked l i m true q)),
+            rw (q, le-leb 0 (e .order) (omega arith)) (entry-range i q),
             rw (t, q, le-leb 0 (e .order) (omega arith))
                 (agree-mark i m true q),
           )
@@ -80,6 +89,7 @@ module _ (n : ℕ) (l : List Entry) (v : Valid l) where
           inr (
             refl,
             rw t (covered-0 133 0 _ (covering-marked l i m false q)),
+            rw (q, le-leb 0 (e .order) (omega arith)) (entry-range i q),
             rw (t, q, le-leb 0 (e .order) (omega arith))
                 (agree-mark i m false q),
           )
@@ -95,6 +105,7 @@ module _ (n : ℕ) (l : List Entry) (v : Valid l) where
           inr (
             refl,
             covered-0 131 0 (covering l i) q,
+            rw (q, le-leb 0 (e .order) (omega arith)) (entry-range i q),
             rw (q, le-leb 0 (e .order) (omega arith), erase-clear i v q)
                 (agree-move i (e .base) (e .order) (eqb-true _ _ (first-yes (covers i) (each l (λ x m. m)) q .0))
                 (agree-clear i (e .order) l (room-some i v q))),
@@ -104,14 +115,14 @@ module _ (n : ℕ) (l : List Entry) (v : Valid l) where
   module _ (i k w : ℕ) where
     replaced : {e : Entry} → covering l i ≡ some e → any (over i k) l ≡ true →
         Agree (rangeOf (record { index = i; order = k }) (covering l i) .index)
-        (rangeOf (record { index = i; order = k }) (covering l i) .order) l (store l i k w)
+        (rangeOf (record { index = i; order = k }) (covering l i) .order) l (B.store l i k w)
     replaced {e} q t =
         let h : leb k (e .order) ≡ true = sym (over-some l i k e v q) ∙ t in
         rw (t, q, h) (agree-map (withWord i w) (λ x. refl) (λ x. refl) i (λ x z. rw z) v q)
 
     fresh : (o : Option Entry) → covering l i ≡ o → any (over i k) l ≡ false →
         Agree (rangeOf (record { index = i; order = k }) o .index)
-        (rangeOf (record { index = i; order = k }) o .order) l (store l i k w)
+        (rangeOf (record { index = i; order = k }) o .order) l (B.store l i k w)
     fresh o q t = rw (t, range o q) (agree-store i k w l (room l i k t))
       where
         range : (o : Option Entry) → covering l i ≡ o →
@@ -120,22 +131,38 @@ module _ (n : ℕ) (l : List Entry) (v : Valid l) where
         range (some e) q = rw (sym (over-some l i k e v q) ∙ t)
 
     done : Agree (rangeOf (record { index = i; order = k }) (covering l i) .index)
-        (rangeOf (record { index = i; order = k }) (covering l i) .order) l (store l i k w)
+        (rangeOf (record { index = i; order = k }) (covering l i) .order) l (B.store l i k w)
     done = byT (any (over i k) l) (λ t. found (covering l i) refl t) (λ t. fresh (covering l i) refl t)
       where
         found : (o : Option Entry) → covering l i ≡ o → any (over i k) l ≡ true →
             Agree (rangeOf (record { index = i; order = k }) (covering l i) .index)
-            (rangeOf (record { index = i; order = k }) (covering l i) .order) l (store l i k w)
+            (rangeOf (record { index = i; order = k }) (covering l i) .order) l (B.store l i k w)
         found none q t = absurd (clash t (over-none l i k q))
         found (some e) q t = replaced q t
+
+    range-aligned : aligned k i ≡ true → (o : Option Entry) → covering l i ≡ o →
+        aligned (rangeOf (record { index = i; order = k }) o .order) (rangeOf (record { index = i; order = k }) o .index)
+        ≡ true
+    range-aligned al none q = al
+    range-aligned al (some e) q = byT (leb k (e .order)) (λ h. rw h (entry-range i q)) (λ h. rw h al)
+
+    within-range : aligned k i ≡ true → Agree (addressed l (Store i k w) .index) (addressed l (Store i k w) .order) l (store l i k w)
+    within-range al = rw (store-is i k al l w) done
 
     store-within : Within n l (Store i k w)
     unfolding execute
     store-within =
         byT (ltb maxOrder k) (λ t. inl (rw t))
-        (λ t. byT (not (storable w)) (λ s. inl (rw (t, s)))
-        (λ s. byT (short n l (store l i k w)) (λ d. inl (rw (t, s, d)))
-        (λ d. inr (refl, rw (t, s, d) (covered-0 129 0 _ (covering-stored l i k w .1)), rw (t, s, d) done))))
+        (λ t. byT (not (aligned k i)) (λ a. inl (rw (t, a)))
+        (λ a. byT (not (storable w)) (λ s. inl (rw (t, a, s)))
+        (λ s. byT (short n l (store l i k w)) (λ d. inl (rw (t, a, s, d)))
+        (λ d. let al : aligned k i ≡ true = not-false _ a in
+        inr (
+          refl,
+          rw (t, a, s, d) (covered-0 129 0 _ (covering-stored l i k w al .1)),
+          range-aligned al (covering l i) refl,
+          rw (t, a, s, d) (within-range al),
+        )))))
 
   within : (c : Command) → Within n l c
   within (Store i k w) = store-within i k w
@@ -155,8 +182,8 @@ footprint n s k c w z = go (within n (s .list) (k .valid) c)
     go (inl e) =
         ap (λ (l : List Entry). wordAt l (newPlaces (s .list) l (s .places)) n w) e
         ∙ ap (λ (os : Places). wordAt (s .list) os n w) (same-places (s .list) (k .placed))
-    go (inr (t, a, ag)) =
-        word-same n s k (addressed (s .list) c) (execute n (s .list) c .list) ag w
+    go (inr (t, a, al, ag)) =
+        word-same n s k (addressed (s .list) c) al (execute n (s .list) c .list) ag w
         (rw (t, eq-eqb (execute n (s .list) c .reply .answer) 0 a) at z)
 
 -- R101, R40: a command with another answer than 0 leaves the list, and so every word

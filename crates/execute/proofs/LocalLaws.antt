@@ -15,7 +15,8 @@ use Rattle.blocks.proofs.BoolLaws.{byT, is-false}
 use Rattle.blocks.proofs.ListLaws.{first-yes, each}
 use Rattle.blocks.proofs.BlockLaws.{block-at}
 use Rattle.model.specs.declared.Entry.{Entry}
-use Rattle.model.specs.Model.{Valid, covers, covering, within, clear, storeNew}
+use Rattle.model.specs.Model.{Valid, covers, covering, within}
+use Rattle.model.specs.ByBlock.{clear, storeNew}
 use Rattle.model.proofs.ValidLaws.{unique}
 use Rattle.model.proofs.RangeLaws.{Room, InRun, Apart, clear-apart, clear-covering-not}
 use Rattle.tree.specs.Tree.{slots, tierOrder, height, has, slotMark}

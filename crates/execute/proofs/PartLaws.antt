@@ -1,50 +1,46 @@
 -- What lies outside the part of a command stays (R39 to R41).
-use Prim.Native.Nat.{ℕ, zero, suc, _*_, _^_, _≤_, _<_}
-use mathlib.Core.Path.{_≡_, refl, sym, subst, _∙_}
+use Prim.Native.Nat.{ℕ, zero, suc, _+_, _*_, _^_, _≤_, _<_}
+use mathlib.Core.Path.{_≡_, refl, sym, ap, subst, _∙_}
 use mathlib.Core.Bool.{Bool, true, false}
 use mathlib.Core.Logic.{_≢_}
 use mathlib.Core.List.{List}
 use mathlib.Core.Option.{Option, none, some}
 use native.Mathlib.Omega.{arith}
-use lib.Dec.{leb, ltb, eqb}
+use lib.Dec.{ltb}
 use lib.ListN.{getD}
-use borrow.Author.Tests.{leb-true, leb-false, eqb-false}
+use borrow.Author.Tests.{lt-ltb, eqb-false}
 use Rattle.blocks.specs.Choice.{either}
 use Rattle.blocks.specs.Blocks.{block}
 use Rattle.blocks.proofs.BoolLaws.{byT, clash}
-use Rattle.blocks.proofs.BlockLaws.{block-up, block-at}
+use Rattle.blocks.proofs.BlockLaws.{block-lo, block-hi}
 use Rattle.model.specs.declared.Entry.{Entry}
+use Rattle.model.specs.Model.{aligned}
 use Rattle.model.proofs.RangeLaws.{Apart}
+use Rattle.model.proofs.AlignedLaws.{whole}
 use Rattle.tree.specs.Tree.{tierOrder, height, has, Node}
 use Rattle.layout.specs.Words.{anchorWords, nodeOf, fieldIn, fieldAt, field, IsField}
 use Rattle.layout.specs.Places.{Places, numberIn, newPlaces, allocate, keepIf, wordAt}
 use Rattle.layout.proofs.NumberLaws.{prune-get, allocate-stays, keep-some, in-standing}
 use Rattle.execute.specs.State.{State}
-use Rattle.execute.specs.Part.{Range, meetsRange, isHead, nodePart, inPart}
+use Rattle.execute.specs.Part.{Range, firstOf, meetsRange, isHead, nodePart, inPart}
 use Rattle.execute.proofs.ExecuteLaws.{Kept}
 use Rattle.execute.proofs.LocalLaws.{Agree, field-agree}
 use Rattle.tree.proofs.NodeListLaws.{has-tier}
 
 -- A BLOCK THAT DOES NOT MEET THE RANGE lies apart from it
-pub apart-range : (r : Range) (p : Node) → meetsRange r p ≡ false →
+pub apart-range : (r : Range) (p : Node) → aligned (r .order) (r .index) ≡ true → meetsRange r p ≡ false →
     Apart (r .index) (r .order) (tierOrder (p .tier)) (p .number)
-apart-range r p t y e q =
-    byT (leb (tierOrder (p .tier)) (r .order)) (λ s. wide (leb-true _ _ s) (rw s at t))
-    (λ s. narrow (leb-false _ _ s) (rw s at t))
-  where
-    wide : tierOrder (p .tier) ≤ r .order →
-        eqb (block (r .order) (p .number * 2 ^ tierOrder (p .tier))) (block (r .order) (r .index)) ≡ false → ⊥
-    wide h f =
-        eqb-false _ _ f
-        (block-up {j = tierOrder (p .tier)} {k = r .order} (p .number * 2 ^ tierOrder (p .tier)) y h
-        (block-at (tierOrder (p .tier)) (p .number) ∙ sym e)
-        ∙ q)
-
-    narrow : r .order < tierOrder (p .tier) →
-        eqb (block (tierOrder (p .tier)) (r .index)) (p .number) ≡ false → ⊥
-    narrow h f =
-        eqb-false _ _ f
-        (sym (block-up {j = r .order} {k = tierOrder (p .tier)} y (r .index) (omega arith) q) ∙ e)
+apart-range r p al t y e q =
+    let j : ℕ = tierOrder (p .tier) in
+    let w : block (r .order) (r .index) * 2 ^ r .order ≡ r .index = whole (r .index) (r .order) al in
+    let lo : firstOf p ≤ y = subst (λ (c : ℕ). c * 2 ^ j ≤ y) e (block-lo j y) in
+    let hi : y < firstOf p + 2 ^ j = subst (λ (c : ℕ). y < c * 2 ^ j + 2 ^ j) e (block-hi j y) in
+    let from : r .index ≤ y =
+    subst (λ (b : ℕ). b ≤ y) (ap (λ (c : ℕ). c * 2 ^ r .order) q ∙ w) (block-lo (r .order) y) in
+    let to : y < r .index + 2 ^ r .order =
+    subst (λ (b : ℕ). y < b + 2 ^ r .order) (ap (λ (c : ℕ). c * 2 ^ r .order) q ∙ w) (block-hi (r .order) y) in
+    clash {b = meetsRange r p}
+    (rw (lt-ltb (r .index) (firstOf p + 2 ^ j) (omega arith)) (lt-ltb (firstOf p) (r .index + 2 ^ r .order) (omega arith))) t
 
 either-no-l : (a b : Bool) → either a b ≡ false → a ≡ false
 either-no-l true b t = t
@@ -55,7 +51,7 @@ either-no-r true b t = absurd (clash refl t)
 either-no-r false b t = t
 
 -- A WORD OUTSIDE THE PART, where the list changes only within the range
-module _ (n : ℕ) (s : State) (kp : Kept n s) (r : Range) (l′ : List Entry)
+module _ (n : ℕ) (s : State) (kp : Kept n s) (r : Range) (al : aligned (r .order) (r .index) ≡ true) (l′ : List Entry)
     (ag : Agree (r .index) (r .order) (s .list) l′) where
   -- what stands at a number after the command stood there, or the number was free
   stood : (m : ℕ) {p q : Node} → getD (s .places) m none ≡ some p →
@@ -85,7 +81,7 @@ module _ (n : ℕ) (s : State) (kp : Kept n s) (r : Range) (l′ : List Entry)
           (field-agree (r .index) (r .order) ag n (kp .placed) v (p .number)
           (subst (λ (u : ℕ). has (s .list) u (p .number) ≡ true) e t)
           (subst (λ (u : ℕ). has l′ u (p .number) ≡ true) e t′) (λ x. h (e ∙ x)) (λ x. h′ (e ∙ x))
-          (subst (λ (u : ℕ). Apart (r .index) (r .order) (tierOrder u) (p .number)) e (apart-range r p z)) f lt)
+          (subst (λ (u : ℕ). Apart (r .index) (r .order) (tierOrder u) (p .number)) e (apart-range r p al z)) f lt)
 
   node-same : (m f : ℕ) → IsField f → (o o′ : Option Node) → getD (s .places) m none ≡ o →
       getD (newPlaces (s .list) l′ (s .places)) m none ≡ o′ → nodePart (s .list) l′ r o o′ ≡ false →

@@ -12,7 +12,7 @@ use Rattle.blocks.specs.Blocks.{block}
 use Rattle.blocks.proofs.BoolLaws.{byT}
 use Rattle.blocks.proofs.ListLaws.{first-yes, each, look}
 use Rattle.model.specs.declared.Entry.{Entry}
-use Rattle.model.specs.Model.{EntryOk, Valid, storable, maxOrder, markCount, covers, covering, store}
+use Rattle.model.specs.Model.{EntryOk, Valid, storable, maxOrder, aligned, markCount, covers, covering, store}
 use Rattle.model.proofs.ValidLaws.{sorted-ok}
 use Rattle.tree.specs.Tree.{has, height, tierOrder, topTier}
 use Rattle.lookup.specs.Load.{depth, depthTo}
@@ -97,9 +97,10 @@ module _ (n : ℕ) (l : List Entry) (v : Valid l) where
       go : Valid (execute n l (Store i k w) .list) → FitsReply (execute n l (Store i k w) .reply)
       go u =
           byT (ltb maxOrder k) (λ t. rw t (bare 129 5 (omega arith) (omega arith)))
-          (λ t. byT (not (storable w)) (λ s. rw (t, s) (bare 129 6 (omega arith) (omega arith)))
-          (λ s. byT (short n l (store l i k w)) (λ d. rw (t, s, d) (bare 129 11 (omega arith) (omega arith)))
-          (λ d. rw (t, s, d) (covered-fits (rw (t, s, d) at u) 129 (omega arith) i 0 (omega arith)))))
+          (λ t. byT (not (aligned k i)) (λ a. rw (t, a) (bare 129 14 (omega arith) (omega arith)))
+          (λ a. byT (not (storable w)) (λ s. rw (t, a, s) (bare 129 6 (omega arith) (omega arith)))
+          (λ s. byT (short n l (store l i k w)) (λ d. rw (t, a, s, d) (bare 129 11 (omega arith) (omega arith)))
+          (λ d. rw (t, a, s, d) (covered-fits (rw (t, a, s, d) at u) 129 (omega arith) i 0 (omega arith))))))
 
   mark-fits : (i m : ℕ) → FitsReply (execute n l (Mark i m) .reply)
   unfolding execute

@@ -12,7 +12,7 @@ use borrow.Author.Tests.{leb-true, leb-false, lt-ltb, le-ltb, le-leb, lt-leb, eq
 use Rattle.blocks.specs.Choice.{pick}
 use Rattle.blocks.proofs.BoolLaws.{byT}
 use Rattle.model.specs.declared.Entry.{Entry}
-use Rattle.model.specs.Model.{covering, covered, storable, maxOrder, store, erase, remark, markCount}
+use Rattle.model.specs.Model.{covering, covered, storable, maxOrder, aligned, store, erase, remark, markCount}
 use Rattle.tree.specs.Tree.{nodes, needed}
 use Rattle.marks.proofs.RemarkLaws.{places-remark}
 use Rattle.layout.specs.Places.{Places, newPlaces, prune, freeCount, render}
@@ -36,6 +36,7 @@ use Rattle.execute.specs.Execute.{
   marking,
   orderAbove,
   notStorable,
+  notAligned,
   markAbove,
   firstAbove,
   noBudget,
@@ -137,16 +138,21 @@ module _ (n : ℕ) (l : List Entry) (i k w : ℕ) where
   unfolding execute
   store-order h = rw (lt-ltb maxOrder k h)
 
-  pub store-word : k ≤ maxOrder → storable w ≡ false → execute n l (Store i k w) ≡ refuse l 129 notStorable
+  pub store-index : k ≤ maxOrder → aligned k i ≡ false → execute n l (Store i k w) ≡ refuse l 129 notAligned
   unfolding execute
-  store-word h e = rw (le-ltb maxOrder k h, e)
+  store-index h a = rw (le-ltb maxOrder k h, a)
+
+  pub store-word : k ≤ maxOrder → aligned k i ≡ true → storable w ≡ false →
+      execute n l (Store i k w) ≡ refuse l 129 notStorable
+  unfolding execute
+  store-word h a e = rw (le-ltb maxOrder k h, a, e)
 
 -- done, or short of nodes: exactly as the free nodes are enough
 pub stores : {ws ws′ : List ℕ} (s : WellFormed ws) (i k w : ℕ) {x : Stored} {q : Reply} → k ≤ maxOrder →
-    storable w ≡ true → Stores (s .n) (s .list) (s .places) (store (s .list) i k w) i ws ws′ x →
+    aligned k i ≡ true → storable w ≡ true → Stores (s .n) (s .list) (s .places) (store (s .list) i k w) i ws ws′ x →
     q ≡ storedReply 129 x →
     Executes s (Store i k w) q ws′
-stores {ws} {ws′} s i k w {x} {q} h t r e =
+stores {ws} {ws′} s i k w {x} {q} h g t r e =
     byT (leb (needed (s .list) l′) (freeCount (s .places))) (λ d. full (leb-true _ _ d)) (λ d. less (leb-false _ _ d))
   where
     l′ : List Entry
@@ -160,7 +166,7 @@ stores {ws} {ws′} s i k w {x} {q} h t r e =
         let o : Holding (s .n) (s .list) (s .places) l′ i ws′ x = r .done d in
         let a : execute (s .n) (s .list) (Store i k w)
         ≡ record { reply = replyOf 129 0 (covering l′ i); list = l′ } =
-        enough-0 (s .n) (s .list) i k w h t (omega (arith, free)) in
+        enough-0 (s .n) (s .list) i k w h g t (omega (arith, free)) in
         record {
           reply-is =
               e ∙ ap (storedReply 129) (o .outcome-is) ∙ sym (ap (replyOf 129 0) (o .covering-is))
@@ -172,7 +178,7 @@ stores {ws} {ws′} s i k w {x} {q} h t r e =
     less d =
         let (o, f) = r .short d in
         subst (λ (v : List ℕ). Executes s (Store i k w) q v) (sym f)
-        (leaves s (Store i k w) (short-11 (s .n) (s .list) i k w h t (omega (arith, free)))
+        (leaves s (Store i k w) (short-11 (s .n) (s .list) i k w h g t (omega (arith, free)))
         (e ∙ ap (storedReply 129) o))
 
 -- COMMANDS THAT ONLY READ

@@ -1,4 +1,4 @@
--- Each answer of a reply is given exactly when its row of the table says (R73 to R81).
+-- Each answer of a reply is given exactly when its row of the table says (R73 to R81, R181).
 use Prim.Native.Nat.{ℕ, _≤_}
 use mathlib.Core.Path.{_≡_, refl, sym, ap, subst, _∙_}
 use mathlib.Core.Bool.{Bool, true, false}
@@ -14,6 +14,7 @@ use Rattle.model.specs.Model.{
   Valid,
   storable,
   maxOrder,
+  aligned,
   markCount,
   covering,
   over,
@@ -22,9 +23,10 @@ use Rattle.model.specs.Model.{
   withWord,
   withMark,
   remark,
-  newEntry,
 }
+use Rattle.model.specs.ByBlock as B
 use Rattle.model.proofs.ValidLaws.{room, erase-none}
+use Rattle.model.proofs.AlignedLaws.{store-is}
 use Rattle.tree.proofs.ReadLaws.{over-none}
 use Rattle.tree.proofs.RelabelLaws.{mapO, covering-map}
 use Rattle.tree.proofs.StoreLaws.{store-covering}
@@ -38,6 +40,7 @@ use Rattle.execute.specs.Execute.{Executed, execute, leave, replyOf, fin
 use Rattle.execute.specs.Table.{CommandRow}
 use Rattle.execute.specs.Table.CommandRow.{
   store-5,
+  store-14,
   store-6,
   store-11,
   store-0,
@@ -68,6 +71,7 @@ use Rattle.execute.proofs.ReplyLaws.{
   remark-above,
   remark-runs,
   store-order,
+  store-index,
   store-word,
 }
 
@@ -81,12 +85,12 @@ module _ (l : List Entry) where
   covering-marked i m b q = covering-map (withMark i m b) (λ x. refl) (λ x. refl) i l ∙ ap (mapO (withMark i m b)) q
 
   -- a store leaves an entry over its index
-  pub covering-stored : (i k w : ℕ) → (e : Entry) × (covering (store l i k w) i ≡ some e)
-  covering-stored i k w = byT (any (over i k) l) (λ t. go t (covering l i) refl)
-      (λ t. (newEntry l i k w, rw t (store-covering i k w l (room l i k t) i refl)))
+  pub covering-stored : (i k w : ℕ) → aligned k i ≡ true → (e : Entry) × (covering (store l i k w) i ≡ some e)
+  covering-stored i k w al = rw (store-is i k al l w) (byT (any (over i k) l) (λ t. go t (covering l i) refl)
+      (λ t. (B.newEntry l i k w, rw t (store-covering i k w l (room l i k t) i refl))))
     where
       go : any (over i k) l ≡ true → (o : Option Entry) → covering l i ≡ o →
-          (e : Entry) × (covering (store l i k w) i ≡ some e)
+          (e : Entry) × (covering (B.store l i k w) i ≡ some e)
       go t none q = absurd (clash t (over-none l i k q))
       go t (some e) q =
           (withWord i w e, rw t (covering-map (withWord i w) (λ x. refl) (λ x. refl) i l ∙ ap (mapO (withWord i w)) q))
@@ -121,10 +125,11 @@ module _ (n : ℕ) (l : List Entry) (v : Valid l) where
   -- a row whose condition holds is what the command comes to
   pub row-sole : {c : Command} {x : Executed} → CommandRow n l c x → x ≡ execute n l c
   row-sole (store-5 {i} {k} {w} h) = sym (store-order n l i k w h)
-  row-sole (store-6 {i} {k} {w} h s) = sym (store-word n l i k w h s)
-  row-sole (store-11 {i} {k} {w} h s d) = sym (short-11 n l i k w h s d)
-  row-sole (store-0 {i} {k} {w} h s d q) =
-      sym (enough-0 n l i k w h s d
+  row-sole (store-14 {i} {k} {w} h a) = sym (store-index n l i k w h a)
+  row-sole (store-6 {i} {k} {w} h a s) = sym (store-word n l i k w h a s)
+  row-sole (store-11 {i} {k} {w} h a s d) = sym (short-11 n l i k w h a s d)
+  row-sole (store-0 {i} {k} {w} h a s d q) =
+      sym (enough-0 n l i k w h a s d
       ∙ ap (λ (o : Option Entry). record { reply = replyOf 129 0 o; list = store l i k w }) q)
   row-sole (load-10 {i} q) = loads n l i q
   row-sole (load-0 {i} q) = loads n l i q
@@ -158,11 +163,13 @@ module _ (n : ℕ) (l : List Entry) (v : Valid l) where
   pub rows : (c : Command) → CommandRow n l c (execute n l c)
   rows (Store i k w) =
       byT (ltb maxOrder k) (λ t. given (store-5 (ltb-true _ _ t)))
-      (λ t. byT (storable w)
+      (λ t. byT (aligned k i)
+      (λ a. byT (storable w)
       (λ s. byT (short n l (store l i k w))
-      (λ d. given (store-11 (ltb-false _ _ t) s (ltb-true _ _ d)))
-      (λ d. given (store-0 (ltb-false _ _ t) s (ltb-false _ _ d) (covering-stored l i k w .1))))
-      (λ s. given (store-6 (ltb-false _ _ t) s)))
+      (λ d. given (store-11 (ltb-false _ _ t) a s (ltb-true _ _ d)))
+      (λ d. given (store-0 (ltb-false _ _ t) a s (ltb-false _ _ d) (covering-stored l i k w a .1))))
+      (λ s. given (store-6 (ltb-false _ _ t) a s)))
+      (λ a. given (store-14 (ltb-false _ _ t) a)))
   rows (Load i) = by-cover i (λ q. given (load-10 q)) (λ e q. given (load-0 q))
   rows (Erase i) = by-cover i (λ q. given (erase-10 q)) (λ e q. given (erase-0 q))
   rows (Mark i m) =

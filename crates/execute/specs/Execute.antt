@@ -1,4 +1,4 @@
--- One command on the model: its reply (R50 to R55, R73 to R81) and the list that it leaves (R97 to R101). No word of
+-- One command on the model: its reply (R50 to R55, R73 to R81, R181) and the list that it leaves (R97 to R101). No word of
 -- the pool is read.
 use Prim.Native.Nat.{ℕ, _-_}
 use mathlib.Core.Bool.{Bool, true, false, not}
@@ -8,7 +8,7 @@ use lib.Dec.{leb, ltb, eqb}
 use lib.ListN.{length}
 use Rattle.blocks.specs.Choice.{pick}
 use Rattle.model.specs.declared.Entry.{Entry}
-use Rattle.model.specs.Model.{storable, maxOrder, markCount, covering, store, erase, remark}
+use Rattle.model.specs.Model.{storable, maxOrder, aligned, markCount, covering, store, erase, remark}
 use Rattle.tree.specs.Tree.{nodes, needed}
 use Rattle.lookup.specs.declared.Outcome.{Outcome}
 use Rattle.lookup.specs.declared.Outcome.the-variants.{Found, Ended, Paused}
@@ -46,6 +46,9 @@ findEnded = 12
 
 abbrev pub findPaused : ℕ
 findPaused = 13
+
+abbrev pub notAligned : ℕ
+notAligned = 14
 
 -- what a command comes to
 pub record Executed : Type 0 where
@@ -87,12 +90,13 @@ finding t (Found e n) = answeredBy t e n
 finding t (Ended n) = answered t findEnded 0 n
 finding t (Paused p n) = answered t findPaused p n
 
--- R81: the tests in the order of their numbers
+-- R81, R181: the tests in the order of their numbers, but for 14, between 5 and 6
 module _ (n : ℕ) (l : List Entry) where
   abbrev pub executeAs : (tag : ℕ) → Command → Executed
   executeAs t (Store i k w) =
       pick (ltb maxOrder k) (refuse l t orderAbove)
-      (pick (not (storable w)) (refuse l t notStorable) (storing n t l i (store l i k w)))
+      (pick (not (aligned k i)) (refuse l t notAligned)
+      (pick (not (storable w)) (refuse l t notStorable) (storing n t l i (store l i k w))))
   executeAs t (Load i) = leave l (replyOf t (depth l i) (covering l i))
   executeAs t (Erase i) = erasing t l i
   executeAs t (Mark i m) = pick (leb markCount m) (refuse l t markAbove) (marking t l i m true)

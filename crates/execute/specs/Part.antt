@@ -1,12 +1,11 @@
 -- The part of the pool that a command may write (R39 to R41).
-use Prim.Native.Nat.{ℕ, _*_, _^_}
+use Prim.Native.Nat.{ℕ, _+_, _*_, _^_}
 use mathlib.Core.Bool.{Bool, true, false}
 use mathlib.Core.List.{List}
 use mathlib.Core.Option.{Option, none, some}
 use lib.Dec.{leb, ltb, eqb}
 use lib.ListN.{getD}
 use Rattle.blocks.specs.Choice.{pick, both, either}
-use Rattle.blocks.specs.Blocks.{block}
 use Rattle.model.specs.declared.Entry.{Entry}
 use Rattle.model.specs.Model.{covering}
 use Rattle.tree.specs.Tree.{tierOrder, height, Node}
@@ -17,7 +16,7 @@ use Rattle.execute.specs.Execute.{execute}
 use Rattle.execute.specs.State.{State, next}
 
 -- THE RANGE
--- the 2^order indices of the aligned block that holds an index
+-- 2^order indices, from an index on
 pub record Range : Type 0 where
   pub index : ℕ
   pub order : ℕ
@@ -35,12 +34,13 @@ addressed l (Mark i m) = rangeOf (record { index = i; order = 0 }) (covering l i
 addressed l (Unmark i m) = rangeOf (record { index = i; order = 0 }) (covering l i)
 addressed l (Find a z f k) = record { index = a; order = 0 }
 
--- the block of a node meets the range
+-- the block of a node, from its first index on, meets the range
+abbrev pub firstOf : Node → ℕ
+firstOf p = p .number * 2 ^ tierOrder (p .tier)
+
 abbrev pub meetsRange : Range → Node → Bool
 meetsRange r p =
-    pick (leb (tierOrder (p .tier)) (r .order))
-    (eqb (block (r .order) (p .number * 2 ^ tierOrder (p .tier))) (block (r .order) (r .index)))
-    (eqb (block (tierOrder (p .tier)) (r .index)) (p .number))
+    both (ltb (r .index) (firstOf p + 2 ^ tierOrder (p .tier))) (ltb (firstOf p) (r .index + 2 ^ r .order))
 
 -- THE PART
 -- the head of a list's tree

@@ -1,5 +1,5 @@
--- The table of answers that stand in a reply (R73 to R81): what a command comes to, a row for every answer of every
--- command. A row has its condition and the failure of those of smaller number, so no two rows of a command hold at once.
+-- The table of answers that stand in a reply (R73 to R81, R181): what a command comes to, a row for every answer of every
+-- command. A row has its condition and the failure of those tested before it, so no two rows of a command hold at once.
 -- Tags and answers stand in it as numbers, so that it holds `Execute` to them.
 use Prim.Native.Nat.{ℕ, _+_, _*_, _-_, _≤_, _<_}
 use mathlib.Core.Path.{_≡_}
@@ -9,7 +9,7 @@ use mathlib.Core.List.{List}
 use mathlib.Core.Option.{none, some}
 use lib.ListN.{length}
 use Rattle.model.specs.declared.Entry.{Entry}
-use Rattle.model.specs.Model.{storable, maxOrder, markCount, covering, store, erase, withMark, remark}
+use Rattle.model.specs.Model.{storable, maxOrder, aligned, markCount, covering, store, erase, withMark, remark}
 use Rattle.tree.specs.Tree.{slots, nodes, needed}
 use Rattle.lookup.specs.declared.Outcome.the-variants.{Paused}
 use Rattle.lookup.specs.Load.{depth}
@@ -38,10 +38,12 @@ pub record PausesAt (l : List Entry) (a z f k p : ℕ) : Type 0 where
 pub data CommandRow (n : ℕ) (l : List Entry) : Command → Executed → Type 0 where
   -- a store
   store-5 : {i k w : ℕ} → maxOrder < k → CommandRow n l (Store i k w) (refuse l 129 5)
-  store-6 : {i k w : ℕ} → k ≤ maxOrder → storable w ≡ false → CommandRow n l (Store i k w) (refuse l 129 6)
-  store-11 : {i k w : ℕ} → k ≤ maxOrder → storable w ≡ true → n - length (nodes l) < needed l (store l i k w) →
-      CommandRow n l (Store i k w) (refuse l 129 11)
-  store-0 : {i k w : ℕ} {e : Entry} → k ≤ maxOrder → storable w ≡ true →
+  store-14 : {i k w : ℕ} → k ≤ maxOrder → aligned k i ≡ false → CommandRow n l (Store i k w) (refuse l 129 14)
+  store-6 : {i k w : ℕ} → k ≤ maxOrder → aligned k i ≡ true → storable w ≡ false →
+      CommandRow n l (Store i k w) (refuse l 129 6)
+  store-11 : {i k w : ℕ} → k ≤ maxOrder → aligned k i ≡ true → storable w ≡ true →
+      n - length (nodes l) < needed l (store l i k w) → CommandRow n l (Store i k w) (refuse l 129 11)
+  store-0 : {i k w : ℕ} {e : Entry} → k ≤ maxOrder → aligned k i ≡ true → storable w ≡ true →
       needed l (store l i k w) ≤ n - length (nodes l) → covering (store l i k w) i ≡ some e →
       CommandRow n l (Store i k w) (record { reply = answeredBy 129 e 0; list = store l i k w })
   -- a load

@@ -3,15 +3,16 @@
 // pool: the borrowed words, well-formed; low: every node below it is in use; tag: the reply's.
 use batch::Command;
 use batch::Reply;
+use layout::pow2;
 use lookup::Loaded;
 use lookup::Outcome;
 use model::Covered;
 use model::Entry;
 use store::Stored;
 ghost use mathlib.Core.Path.{_≡_};
-ghost use Prim.Native.Nat.{ℕ};
+ghost use Prim.Native.Nat.{ℕ, _≤_};
 ghost use Rattle.blocks.specs.Choice.{pick};
-ghost use Rattle.model.specs.Model.{storable};
+ghost use Rattle.model.specs.Model.{storable, maxOrder, aligned};
 ghost use Rattle.layout.specs.WellFormed.{WellFormed, InUse};
 ghost use Rattle.batch.specs.Reply.{answered, answeredBy};
 ghost use Rattle.execute.specs.Execute.{finding};
@@ -35,6 +36,8 @@ const TOO_FEW_NODES: u64 = 11;
 const FIND_ENDED: u64 = 12;
 
 const FIND_PAUSED: u64 = 13;
+
+const NOT_ALIGNED: u64 = 14;
 
 const STORED: u64 = 129;
 
@@ -138,6 +141,14 @@ fn is_storable(word: u64) -> bool
     word % 4 != 2
 }
 
+// A store's index is a multiple of 2^order (R180).
+fn is_aligned(index: u64, order: u64) -> bool
+    requires { ⌜ order ≤ maxOrder ⌝ }
+    ensures { λ r. ⌜ r ≡ aligned order index ⌝ }
+{
+    index % pow2(order) == 0
+}
+
 fn run_load(pool: &[u64], index: u64) -> Reply
     requires { ⌜ WellFormed (now pool) ⌝ }
     ensures { λ r. ⌜ ((s : WellFormed (now (pool .entry))) → r ≡ replyTo s (Command.Load index)) ⌝ }
@@ -210,7 +221,15 @@ fn run_store(pool: &mut [u64], index: u64, order: u64, word: u64, low: u64) -> E
             low: low,
         };
     }
-    if !is_storable(word) {
+    let aligned = is_aligned(index, order);
+    let storable = is_storable(word);
+    if !aligned {
+        return Execution {
+            reply: answered(STORED, NOT_ALIGNED, 0, 0),
+            low: low,
+        };
+    }
+    if !storable {
         return Execution {
             reply: answered(STORED, NOT_STORABLE, 0, 0),
             low: low,

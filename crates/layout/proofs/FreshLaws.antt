@@ -10,7 +10,8 @@ use Rattle.blocks.specs.Blocks.{block}
 use Rattle.blocks.proofs.ListLaws.{All-map}
 use Rattle.blocks.proofs.BlockLaws.{block-up, block-at}
 use Rattle.model.specs.declared.Entry.{Entry}
-use Rattle.model.specs.Model.{covers, within, storeNew}
+use Rattle.model.specs.Model.{covers, within}
+use Rattle.model.specs.ByBlock.{storeNew}
 use Rattle.model.proofs.RangeLaws.{Room, Apart}
 use Rattle.tree.specs.Slots.{Numbering, slot}
 use Rattle.tree.specs.Tree.{slots, tierOrder}

@@ -2,3 +2,4 @@ pub mod MarkLaws
 pub mod InsertLaws
 pub mod RangeLaws
 pub mod ValidLaws
+pub mod AlignedLaws

@@ -12,7 +12,8 @@ use Rattle.blocks.proofs.BoolLaws.{clash, byT}
 use Rattle.blocks.proofs.ListLaws.{All-of, All-map, All-without, any-none, any-without, first-without}
 use Rattle.blocks.proofs.BlockLaws.{block-block, block-up}
 use Rattle.model.specs.declared.Entry.{Entry}
-use Rattle.model.specs.Model.{covers, covering, starts, clear}
+use Rattle.model.specs.Model.{covers, covering, starts}
+use Rattle.model.specs.ByBlock.{clear}
 
 module _ (i k : ℕ) where
   -- no entry of a higher order covers i

@@ -31,19 +31,15 @@ use Rattle.model.specs.Model.{
   covers,
   covering,
   starts,
-  inside,
-  clear,
-  newEntry,
-  storeNew,
   over,
   withWord,
-  store,
   erase,
   Sorted,
   done,
   more,
   Valid,
 }
+use Rattle.model.specs.ByBlock.{inside, clear, newEntry, storeNew, store}
 use Rattle.model.proofs.RangeLaws.{Room, clear-uncovered}
 use Rattle.model.proofs.MarkLaws.{marks-lt}
 

@@ -21,6 +21,10 @@ storable w = both (not (eqb w 0)) (not (eqb (w % 4) 2))
 abbrev pub maxOrder : ℕ
 maxOrder = 63
 
+-- R180: a multiple of 2^k
+abbrev pub aligned : (k i : ℕ) → Bool
+aligned k i = eqb (i % 2 ^ k) 0
+
 -- R9
 abbrev pub markCount : ℕ
 markCount = 3
@@ -78,14 +82,17 @@ markOf m l = pick (any (hasMark m) l) (2 ^ m) 0
 abbrev pub marksOf : List Entry → ℕ
 marksOf l = markOf 0 l + markOf 1 l + markOf 2 l
 
--- STORE
--- the target range (document 01: the asked run) is block (block k i) of order k (R10)
--- the entries that start in it, and the list without them
+-- STORE of order k at an aligned index i; its target range (document 01: the asked run) is i .. i + 2^k - 1 (R10)
+-- the entry starts in it
+abbrev pub startsIn : (i k : ℕ) → Entry → Bool
+startsIn i k e = both (leb i (e .base)) (ltb (e .base) (i + 2 ^ k))
+
+-- the entries that do, and the list without them
 abbrev pub inside : List Entry → ℕ → ℕ → List Entry
-inside l i k = keep (starts k (block k i)) l
+inside l i k = keep (startsIn i k) l
 
 abbrev pub clear : List Entry → ℕ → ℕ → List Entry
-clear l i k = without (starts k (block k i)) l
+clear l i k = without (startsIn i k) l
 
 abbrev pub insert : Entry → List Entry → List Entry
 insert e [] = e ∷ []
@@ -93,7 +100,7 @@ insert e (x ∷ xs) = pick (ltb (e .base) (x .base)) (e ∷ x ∷ xs) (x ∷ ins
 
 -- R14: with every mark of what it replaces
 abbrev pub newEntry : List Entry → ℕ → ℕ → ℕ → Entry
-newEntry l i k w = record { base = block k i * 2 ^ k; order = k; word = w; marks = marksOf (inside l i k) }
+newEntry l i k w = record { base = i; order = k; word = w; marks = marksOf (inside l i k) }
 
 -- R12
 abbrev pub storeNew : List Entry → ℕ → ℕ → ℕ → List Entry

@@ -12,7 +12,8 @@ use Rattle.blocks.proofs.BoolLaws.{clash, byT, is-false, both-l, both-r, either
 use Rattle.blocks.proofs.ListLaws.{each, without-all}
 use Rattle.blocks.proofs.BlockLaws.{block-up}
 use Rattle.model.specs.declared.Entry.{Entry}
-use Rattle.model.specs.Model.{within, clear, newEntry, storeNew}
+use Rattle.model.specs.Model.{within}
+use Rattle.model.specs.ByBlock.{clear, newEntry, storeNew}
 use Rattle.model.proofs.InsertLaws.{any-insert}
 use Rattle.model.proofs.RangeLaws.{Room, Inside}
 use Rattle.tree.specs.Tree.{height, has, nodes, newNodes, tierOrder}

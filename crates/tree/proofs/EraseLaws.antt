@@ -28,7 +28,8 @@ use Rattle.blocks.proofs.ListLaws.{
 }
 use Rattle.blocks.proofs.BlockLaws.{block-up, block-at}
 use Rattle.model.specs.declared.Entry.{Entry}
-use Rattle.model.specs.Model.{covers, covering, starts, within, clear, Valid}
+use Rattle.model.specs.Model.{covers, covering, starts, within, Valid}
+use Rattle.model.specs.ByBlock.{clear}
 use Rattle.model.proofs.RangeLaws.{
   Room,
   InRun,

@@ -14,7 +14,8 @@ use Rattle.blocks.proofs.ListLaws.{All-map}
 use Rattle.blocks.proofs.BlockLaws.{block-up, block-at, block-lo}
 use Rattle.blocks.proofs.LeastLaws.{least-fits, least-min, least-most}
 use Rattle.model.specs.declared.Entry.{Entry}
-use Rattle.model.specs.Model.{insert, starts, newEntry, storeNew}
+use Rattle.model.specs.Model.{insert, starts}
+use Rattle.model.specs.ByBlock.{newEntry, storeNew}
 use Rattle.model.proofs.RangeLaws.{Room, InRun, starts-order}
 use Rattle.tree.specs.Tree.{fits, tall, height, tierOrder, topTier}
 

@@ -15,7 +15,8 @@ use Rattle.blocks.proofs.BoolLaws.{clash, byT, is-false, both-no, both-yes}
 use Rattle.blocks.proofs.ListLaws.{All-map, without-all, without-none}
 use Rattle.blocks.proofs.BlockLaws.{block-up, block-at}
 use Rattle.model.specs.declared.Entry.{Entry}
-use Rattle.model.specs.Model.{starts, within, clear, newEntry}
+use Rattle.model.specs.Model.{starts, within}
+use Rattle.model.specs.ByBlock.{clear, newEntry}
 use Rattle.model.proofs.RangeLaws.{InRun}
 use Rattle.tree.specs.Tree.{fits, tall, height, has, addIf, tierOrder}
 use Rattle.tree.proofs.HeightLaws.{

@@ -15,7 +15,8 @@ use Rattle.blocks.proofs.BoolLaws.{clash, byT, both-no, both-yes, either-comm, 
 use Rattle.blocks.proofs.ListLaws.{All-map, All-without, any-same, any-split}
 use Rattle.blocks.proofs.BlockLaws.{block-up, block-at}
 use Rattle.model.specs.declared.Entry.{Entry}
-use Rattle.model.specs.Model.{starts, within, clear, newEntry, storeNew}
+use Rattle.model.specs.Model.{starts, within}
+use Rattle.model.specs.ByBlock.{clear, newEntry, storeNew}
 use Rattle.model.proofs.InsertLaws.{any-insert}
 use Rattle.tree.specs.Tree.{height, has, addIf, blocks, Node, at, nodesTo, newNodes, tierOrder}
 use Rattle.tree.proofs.HeightLaws.{Low, height-fits, fits-order, fits-base, zero-up}

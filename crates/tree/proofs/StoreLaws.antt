@@ -14,7 +14,8 @@ use Rattle.blocks.proofs.BoolLaws.{byT, is-false, both-l, both-r, either-no}
 use Rattle.blocks.proofs.ListLaws.{All-of, All-map, All-keep, any-same, any-split}
 use Rattle.blocks.proofs.BlockLaws.{block-up, block-at}
 use Rattle.model.specs.declared.Entry.{Entry}
-use Rattle.model.specs.Model.{covers, covering, starts, within, hasMark, inside, clear, newEntry, storeNew}
+use Rattle.model.specs.Model.{covers, covering, starts, within, hasMark}
+use Rattle.model.specs.ByBlock.{inside, clear, newEntry, storeNew}
 use Rattle.model.proofs.InsertLaws.{any-insert, first-insert-not, first-insert}
 use Rattle.model.proofs.RangeLaws.{
   Room,

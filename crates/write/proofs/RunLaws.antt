@@ -1,6 +1,7 @@
 -- The slots that an entry takes in its node.
 use Prim.Native.Nat.{ℕ, zero, suc, _+_, _*_, _-_, _/_, _%_, _^_, _≤_, _<_}
 use mathlib.Core.Path.{_≡_, sym, ap, subst, _∙_}
+use mathlib.Core.Bool.{true}
 use mathlib.Core.List.{List}
 use mathlib.Core.Option.{some}
 use native.Mathlib.Omega.{arith}
@@ -10,7 +11,9 @@ use Rattle.blocks.specs.Blocks.{block}
 use Rattle.blocks.proofs.BlockLaws.{block-block, block-at, pow-add, pow-pos}
 use Rattle.blocks.specs.Lists.{All}
 use Rattle.model.specs.declared.Entry.{Entry}
-use Rattle.model.specs.Model.{newEntry, storeNew}
+use Rattle.model.specs.Model as M
+use Rattle.model.specs.ByBlock.{newEntry, storeNew}
+use Rattle.model.proofs.AlignedLaws.{whole}
 use Rattle.model.proofs.RangeLaws.{Room, Inside, inside-down}
 use Rattle.tree.specs.Slots.{slot, entryWord, siblingWord, Numbering}
 use Rattle.tree.proofs.StoreLaws.{slot-inside}
@@ -121,6 +124,13 @@ module _ (i k : ℕ) where
       (mul-assoc (block (tierOrder (k / slotBits)) i / span k) (span k) (2 ^ (tierOrder (k / slotBits))))) in
       ap (λ (y : ℕ). block (tierOrder (k / slotBits)) y) q ∙ block-at (tierOrder (k / slotBits))
       (block (tierOrder (k / slotBits)) i / span k * span k)
+
+  -- of an aligned index the first slot is the index's own
+  pub offset-own : M.aligned k i ≡ true → block (tierOrder (k / slotBits)) i % slots ≡ offset i k
+  offset-own a =
+      let e : block (tierOrder (k / slotBits)) i ≡ block (tierOrder (k / slotBits)) i / span k * span k =
+      ap (block (tierOrder (k / slotBits))) (sym (whole i k a)) ∙ base-slot in
+      ap (λ (y : ℕ). y % slots) e ∙ al .first-is
 
   pub slot-in-run : (t : ℕ) → t < span k → Inside i k (tierOrder (k / slotBits))
       (slots * block (tierOrder (k / slotBits + 1)) i + (offset i k + t))

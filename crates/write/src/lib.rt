@@ -31,10 +31,10 @@ ghost use Prim.Native.Nat.{ℕ, _+_, _-_, _/_, _%_, _<_, _≤_};
 ghost use mathlib.Core.Path.{_≡_};
 ghost use lib.Dec.{ltb};
 ghost use lib.ListN.{getD, length};
-ghost use Rattle.model.specs.Model.{maxOrder};
 ghost use Rattle.tree.specs.Tree.{slots, slotBits, topTier};
 ghost use Rattle.layout.specs.Words.{poolWords, lastPlace, markPlace};
 ghost use Rattle.layout.specs.Spares.{Spared};
+ghost use Rattle.plan.specs.Plan.{Storable};
 ghost use Rattle.write.specs.Writes;
 ghost use Rattle.write.specs.Writes.{Laid};
 
@@ -313,22 +313,21 @@ pub fn span_of(order: u64) -> u64
 }
 
 // The first slot of an entry in its node.
-pub fn offset_of(index: u64, order: u64) -> u64
-    requires { ⌜ order ≤ maxOrder ⌝ }
-    ensures { λ r. ⌜ (r ≡ Writes.offset index order) × (r + Writes.span order ≤ slots) ⌝ }
+pub fn offset_of(target: Target) -> u64
+    requires { ⌜ Storable target ⌝ }
+    ensures { λ r. ⌜ (r ≡ Writes.offset (target .index) (target .order)) × (r + Writes.span (target .order) ≤ slots) ⌝ }
 {
-    let c = span_of(order);
-    block_of(order / SLOT_BITS, index) % SLOTS / c * c
+    block_of(target.order / SLOT_BITS, target.index) % SLOTS
 }
 
 // The slots of the target in its node.
 pub fn seat_of(target: Target, node: u64) -> Seat
-    requires { ⌜ target .order ≤ maxOrder ⌝ }
+    requires { ⌜ Storable target ⌝ }
     ensures { λ r. ⌜ r ≡ Writes.seatOf (target .index) (target .order) node ⌝ }
     ensures { λ r. ⌜ (r .slot + r .count ≤ slots) × (1 ≤ r .count) × (r .count < slots) ⌝ }
 {
     let c = span_of(target.order);
-    let o = offset_of(target.index, target.order);
+    let o = offset_of(target);
     Seat {
         node: node,
         slot: o,
@@ -347,7 +346,7 @@ pub fn rebuild(
     low: u64,
 ) -> u64
     requires { ⌜ length (now pool) ≡ poolWords n ⌝ }
-    requires { ⌜ (target .order ≤ maxOrder) × (target .order / slotBits < heads .new) × (heads .new ≤ topTier) ×
+    requires { ⌜ Storable target × (target .order / slotBits < heads .new) × (heads .new ≤ topTier) ×
         (topTier < length (now path)) ⌝ }
     requires { ⌜ ((u : ℕ) → target .order / slotBits + 1 ≤ u → u ≤ heads .new → getD (now path) u 0 < n) ⌝ }
     ensures { λ _. ⌜ now (pool .exit) ≡ Writes.rebuilt (now (pool .entry)) (now (path .entry))
@@ -369,7 +368,7 @@ pub fn rebuild(
 // Writes a new entry whose target range is empty and lies outside the head's block: a new head over both, the path to
 // the entry and the chain to the old head.
 pub fn extend(pool: &mut [u64], path: &[u64], chain: &[u64], target: Target, heads: Heads)
-    requires { ⌜ (target .order ≤ maxOrder) × (target .order / slotBits < heads .new) × (heads .new ≤ topTier) ×
+    requires { ⌜ Storable target × (target .order / slotBits < heads .new) × (heads .new ≤ topTier) ×
         (heads .old < heads .new) ⌝ }
     requires { ⌜ (topTier < length (now path)) × (topTier < length (now chain)) ⌝ }
     requires { ⌜ ((u : ℕ) → target .order / slotBits + 1 ≤ u → u ≤ heads .new →
@@ -401,7 +400,7 @@ pub fn lay(nums: &[u64], path: &mut [u64], first: u64, v: u64, u: u64)
 
 // The edges below the node of tier u + 1, and the entry in the lowest node.
 pub fn build(pool: &mut [u64], path: &[u64], target: Target, u: u64)
-    requires { ⌜ (target .order ≤ maxOrder) × (target .order / slotBits < u) × (u < topTier) × (topTier < length (now path)) ⌝ }
+    requires { ⌜ Storable target × (target .order / slotBits < u) × (u < topTier) × (topTier < length (now path)) ⌝ }
     requires { ⌜ ((t : ℕ) → target .order / slotBits + 1 ≤ t → t ≤ u + 1 →
         lastPlace (getD (now path) t 0) < length (now pool)) ⌝ }
     ensures { λ _. ⌜ now (pool .exit) ≡ Writes.built (now (pool .entry)) (now (path .entry))

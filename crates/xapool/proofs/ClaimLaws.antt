@@ -14,7 +14,7 @@ use Rattle.blocks.specs.Lists.{All, end, also}
 use Rattle.blocks.proofs.BoolLaws.{byT, not-false}
 use Rattle.blocks.proofs.UpToLaws.{length-upTo, getD-upTo}
 use Rattle.model.specs.declared.Entry.{Entry}
-use Rattle.model.specs.Model.{storable, maxOrder, covering, store}
+use Rattle.model.specs.Model.{storable, maxOrder, aligned, covering, store}
 use Rattle.tree.specs.Tree.{nodes, needed}
 use Rattle.layout.specs.Words.{maxNodes, poolWords}
 use Rattle.layout.specs.Places.{Places, wordAt}
@@ -86,18 +86,20 @@ module _ (n : ℕ) (l : List Entry) (i k w : ℕ) where
   never-11 (some x) e = omega arith
 
   only-11 : execute n l (Store i k w) .reply .answer ≡ 11 →
-      (k ≤ maxOrder) × (storable w ≡ true) × (n - length (nodes l) < needed l (store l i k w))
+      (k ≤ maxOrder) × (aligned k i ≡ true) × (storable w ≡ true) × (n - length (nodes l) < needed l (store l i k w))
   unfolding execute
   only-11 e =
       byT (ltb maxOrder k) (λ t. absurd (let z : _≡_ {A = ℕ} 5 11 = rw t at e in omega arith))
-      (λ t. byT (not (storable w)) (λ s. absurd (let z : _≡_ {A = ℕ} 6 11 = rw (t, s) at e in omega arith))
-      (λ s. byT (short n l (store l i k w)) (λ d. (ltb-false _ _ t, not-false (storable w) s, ltb-true _ _ d))
-      (λ d. absurd (never-11 (covering (store l i k w) i) (rw (t, s, d) at e)))))
+      (λ t. byT (not (aligned k i)) (λ a. absurd (let z : _≡_ {A = ℕ} 14 11 = rw (t, a) at e in omega arith))
+      (λ a. byT (not (storable w)) (λ s. absurd (let z : _≡_ {A = ℕ} 6 11 = rw (t, a, s) at e in omega arith))
+      (λ s. byT (short n l (store l i k w))
+      (λ d. (ltb-false _ _ t, not-false (aligned k i) a, not-false (storable w) s, ltb-true _ _ d))
+      (λ d. absurd (never-11 (covering (store l i k w) i) (rw (t, a, s, d) at e))))))
 
   short-exact : ShortExact n l i k w
   short-exact = record {
     only = only-11;
-    always = λ k≤ st h. ap (λ (x : Executed). x .reply .answer) (short-11 n l i k w k≤ st h);
+    always = λ k≤ al st h. ap (λ (x : Executed). x .reply .answer) (short-11 n l i k w k≤ al st h);
   }
 
 -- ONE COMMAND on a state

@@ -1,4 +1,4 @@
--- The starred cases (R106 to R118) as one table, of batches as bytes. proofs/Cases has the theorem that they all hold.
+-- The starred cases (R106 to R118, R182) as one table, of batches as bytes. proofs/Cases has the theorem that they all hold.
 use Prim.Native.Nat.{ℕ, _+_, _*_, _-_, _^_}
 use mathlib.Core.Bool.{Bool, true}
 use mathlib.Core.List.{List, [], _∷_, _++_, map}
@@ -145,19 +145,24 @@ cases =
     ∷ record {
       n = 1;
       before = [];
-      last = Store 13 3 5;
+      last = Store 8 3 5;
       facts = entry 1 8 3 5 0 0 ∷ word (slotPlace 0 8) 5 ∷ slotsHold 0 9 7 34;
     }
+    -- case 8a (R182): 14, and the tests before it and after it
+    ∷ record { n = 1; before = []; last = Store 13 3 5; facts = answer 1 14 0 0 ∷ asAfter [] ∷ [] }
+    ∷ record { n = 1; before = []; last = Store 13 64 0; facts = answer 1 5 0 0 ∷ asAfter [] ∷ [] }
+    ∷ record { n = 1; before = []; last = Store 13 3 0; facts = answer 1 14 0 0 ∷ asAfter [] ∷ [] }
+    ∷ record { n = 1; before = []; last = Store 8 3 0; facts = answer 1 6 0 0 ∷ asAfter [] ∷ [] }
     -- case 9 (R114): the load, then the erase
     ∷ record {
       n = 1;
-      before = Store 13 3 5 ∷ Store 10 0 9 ∷ [];
+      before = Store 8 3 5 ∷ Store 10 0 9 ∷ [];
       last = Load 15;
       facts = entry 2 8 3 9 0 1 ∷ [];
     }
     ∷ record {
       n = 1;
-      before = Store 13 3 5 ∷ Store 10 0 9 ∷ [];
+      before = Store 8 3 5 ∷ Store 10 0 9 ∷ [];
       last = Erase 11;
       facts = entry 3 8 3 9 0 0 ∷ shifts [] ∷ asAfter [] ∷ [];
     }

@@ -8,7 +8,7 @@ use lib.Dec.{ltb}
 use lib.ListN.{length, getD, take, drop}
 use Rattle.blocks.specs.Choice.{pick}
 use Rattle.model.specs.declared.Entry.{Entry}
-use Rattle.model.specs.Model.{storable, maxOrder, store}
+use Rattle.model.specs.Model.{storable, maxOrder, aligned, store}
 use Rattle.tree.specs.Tree.{nodes, needed}
 use Rattle.layout.specs.Words.{nodeWords, place}
 use Rattle.layout.specs.Places.{Places, newPlaces}
@@ -97,8 +97,8 @@ pub record Stands (n : ℕ) (l : List Entry) (ws : List ℕ) : Type 0 where
 -- R79, R85, R86: a store answers 11 exactly if nothing before it applies and it needs more nodes than are free
 pub record ShortExact (n : ℕ) (l : List Entry) (i k w : ℕ) : Type 0 where
   pub only : execute n l (Store i k w) .reply .answer ≡ tooFewNodes →
-      (k ≤ maxOrder) × (storable w ≡ true) × (n - length (nodes l) < needed l (store l i k w))
-  pub always : k ≤ maxOrder → storable w ≡ true → n - length (nodes l) < needed l (store l i k w) →
+      (k ≤ maxOrder) × (aligned k i ≡ true) × (storable w ≡ true) × (n - length (nodes l) < needed l (store l i k w))
+  pub always : k ≤ maxOrder → aligned k i ≡ true → storable w ≡ true → n - length (nodes l) < needed l (store l i k w) →
       execute n l (Store i k w) .reply .answer ≡ tooFewNodes
 
 -- ONE COMMAND, where the model is l: the words before it are ws, those after it ws′

@@ -1,4 +1,5 @@
-//! Cases 1 to 15 (R106 to R120), with every figure they name and whole pools of words.
+//! Cases 1 to 15 (R106 to R120, and by request P4), with every figure they name and whole pools of
+//! words.
 
 use crate::helpers::*;
 use reference::batch::Command;
@@ -143,7 +144,7 @@ fn case_07_order_6_at_0_is_one_node_of_shift_6() {
 
 fn case_8(count: usize) -> Pool {
     let mut pool = Pool::fresh(count);
-    pool.expect_store(13, 3, 7, gives(8, 3, 7, 0));
+    pool.expect_store(8, 3, 7, gives(8, 3, 7, 0));
     pool
 }
 
@@ -155,8 +156,19 @@ fn case_8_words(word: u64) -> Vec<(usize, u64)> {
 }
 
 #[test]
-fn case_08_order_3_at_13() {
+fn case_08_order_3_at_8() {
     let pool = case_8(1);
+    pool.assert_words(&case_8_words(7));
+}
+
+/// Before case 8 and after it: order 3 at 13 is answer 14 and leaves every word.
+#[test]
+fn case_08_order_3_at_13_is_refused() {
+    let mut pool = Pool::fresh(1);
+    pool.expect_store(13, 3, 7, only(14));
+    pool.assert_words(&[]);
+    let mut pool = case_8(1);
+    pool.expect_store(13, 3, 9, only(14));
     pool.assert_words(&case_8_words(7));
 }
 

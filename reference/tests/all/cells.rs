@@ -30,16 +30,18 @@ impl Cells {
     }
 
     fn store(&mut self, index: u64, order: u8, word: u64) -> Said {
+        if index >> order << order != index {
+            return only(14);
+        }
         match self.cells[index as usize] {
             Some((base, larger, _, marks)) if larger >= order => {
                 self.fill(base, larger, Some((base, larger, word, marks)));
             }
             _ => {
-                let base = index >> order << order;
-                let run = base as usize..(base + (1 << order)) as usize;
+                let run = index as usize..(index + (1 << order)) as usize;
                 let gone = self.cells[run].iter().flatten();
                 let marks = gone.fold(0, |marks, cell| marks | cell.3);
-                self.fill(base, order, Some((base, order, word, marks)));
+                self.fill(index, order, Some((index, order, word, marks)));
             }
         }
         self.said(index)
@@ -102,6 +104,7 @@ fn change(pool: &mut Pool, cells: &mut Cells, random: &mut Random) {
         0..=3 => {
             let order = if random.one_in(8) { random.below(9) } else { random.below(5) } as u8;
             let word = 2 * random.below(900) + 1;
+            let index = if random.one_in(6) { index } else { index >> order << order };
             let said = cells.store(index, order, word);
             pool.expect_store(index, order, word, said);
         }

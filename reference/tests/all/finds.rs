@@ -88,8 +88,8 @@ fn the_last_index_has_none_after_it() {
 #[test]
 fn the_widest_entries() {
     let mut pool = Pool::fresh(1);
-    pool.expect_store(5, 63, 7, gives(0, 63, 7, 0));
-    pool.expect_store(LAST, 63, 9, gives(1 << 63, 63, 9, 0));
+    pool.expect_store(0, 63, 7, gives(0, 63, 7, 0));
+    pool.expect_store(1 << 63, 63, 9, gives(1 << 63, 63, 9, 0));
     pool.expect(find(0, LAST, 0, 9), ended(2));
     pool.expect(find(1 << 62, LAST, 1, 1), paused(1 << 63, 1));
     pool.expect(find(LAST - 5, LAST, 3, 1), counting(gives(1 << 63, 63, 9, 0), 1));

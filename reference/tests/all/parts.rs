@@ -36,6 +36,7 @@ fn nothing_for_load_find_and_refusals() {
     let store = |index, order, word| Command::Store { index, order, word };
     assert_eq!(part_of(&pool(), store(0, 64, 5)), nothing);
     assert_eq!(part_of(&pool(), store(0, 0, 2)), nothing);
+    assert_eq!(part_of(&pool(), store(65, 1, 5)), nothing);
     assert_eq!(part_of(&pool(), store(LAST, 0, 5)), nothing);
 }
 

@@ -72,7 +72,7 @@ fn try_numbers(before: &State, command: Command, done: &Done) {
     match command {
         Command::Store { index, order, word } => {
             let Some(needed) = needed(before, index, order, word) else {
-                assert!([5, 6].contains(&done.reply.answer));
+                assert!([5, 6, 14].contains(&done.reply.answer));
                 return;
             };
             assert!(needed <= 21);

@@ -151,6 +151,55 @@ fn store_fields_lowest_number_first() {
     }
 }
 
+/// 5, then 14, then 6 (request P4).
+#[test]
+fn an_unaligned_store_is_told_after_its_order_and_before_its_word() {
+    let mut pool = Pool::fresh(1);
+    pool.expect_store(13, 64, 0, only(5));
+    pool.expect_store(13, 3, 0, only(14));
+    pool.expect_store(8, 3, 0, only(6));
+    pool.expect_store(13, 64, 7, only(5));
+    pool.expect_store(13, 3, 7, only(14));
+    pool.expect_store(13, 3, 2, only(14));
+    pool.assert_words(&[]);
+}
+
+/// For every order: multiples of 2^order are let through, what is beside one or half way to the next
+/// is not. The word is none of an entry, so that what is let through is answer 6.
+#[test]
+fn what_is_aligned_for_each_order() {
+    let mut pool = Pool::fresh(1);
+    let mut answer = |index, order| {
+        let batch = bytes_of(Command::Store { index, order, word: 2 });
+        pool.run(&batch, 1)[3]
+    };
+    for order in 0..=63 {
+        let width = 1u64 << order;
+        for index in [0, width, 1 << 63, width.wrapping_neg()] {
+            assert_eq!(answer(index, order), 6, "{index} {order}");
+        }
+        for index in [1, width + 1, width - 1, width / 2, LAST, width + width / 2] {
+            let wanted = if order == 0 { 6 } else { 14 };
+            assert_eq!(answer(index, order), wanted, "{index} {order}");
+        }
+    }
+}
+
+/// Neither an entry that covers the index, of that order or a larger one, nor too few nodes change
+/// the answer.
+#[test]
+fn an_unaligned_store_into_entries_and_with_too_few_nodes() {
+    let mut pool = Pool::fresh(1);
+    pool.expect_store(8, 3, 7, gives(8, 3, 7, 0));
+    let before = pool.words.clone();
+    for (index, order) in [(9, 1), (10, 2), (12, 3), (15, 3), (8, 4), (9, 4), (LAST, 1)] {
+        pool.expect_store(index, order, 9, only(14));
+    }
+    assert_eq!(pool.words, before);
+    pool.expect_store(10, 1, 9, gives(8, 3, 9, 0));
+    pool.expect_store(LAST, 0, 9, only(11));
+}
+
 #[test]
 fn mark_fields_lowest_number_first() {
     let mut pool = case_2(1);

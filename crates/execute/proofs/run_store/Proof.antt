@@ -2,27 +2,27 @@
 use mathlib.Core.Path.{sym, subst, _∙_}
 use lib.Dec.{T}
 use Rattle.batch.specs.declared.Command.the-variants.{Store}
-use Rattle.execute.proofs.ReplyLaws.{leaves, store-order, store-word, stores}
+use Rattle.execute.proofs.ReplyLaws.{leaves, store-order, store-index, store-word, stores}
 use Rattle.blocks.proofs.BoolLaws.{not-true, not-false}
 use borrow.Author.Needs.{needs}
 use Rattle.execute.proofs.run_store.Statement.{statement}
 use Rattle.execute.proofs.run_store.Tie as tie
 
 -- THE PLACES IN THE CODE, each from one after it
-abbrev start-from-answered2 : tie.After-answered2 → tie.Start
-start-from-answered2 c = c .before .before .before .before .before
+abbrev start : tie.Else1 → tie.Start
+start c = c .before .before
 
-abbrev start-from-store-arg : tie.After-store-arg → tie.Start
-start-from-store-arg c = c .before .before .before .before .before
+abbrev ordered : tie.After-is-aligned → tie.Else1
+ordered c = c .before
 
-abbrev else2-from-stored-reply : tie.After-stored-reply → tie.Else2
-else2-from-stored-reply c = c .before .before .before .before .before
+abbrev asked : tie.After-is-storable → tie.After-is-aligned
+asked c = c .before
 
-abbrev is-storable-from-stored-reply : tie.After-stored-reply → tie.After-is-storable
-is-storable-from-stored-reply c = else2-from-stored-reply c .before
+abbrev second : tie.After-store-arg → tie.Else2
+second c = c .before .before
 
-abbrev else1-from-stored-reply : tie.After-stored-reply → tie.Else1
-else1-from-stored-reply c = is-storable-from-stored-reply c .before
+abbrev stored : tie.After-stored-reply → tie.After-store-arg
+stored c = c .before .before .before .before
 
 answered-requires : tie.Need-answered-requires
 answered-requires c κs = search needs
@@ -34,6 +34,9 @@ returns c = (
   c .before .before .before .pre .1,
 )
 
+is-aligned-requires : tie.Need-is-aligned-requires
+is-aligned-requires c κs = search needs
+
 is-storable-requires : tie.Need-is-storable-requires
 is-storable-requires c κs = search needs
 
@@ -41,22 +44,35 @@ answered-requires-2 : tie.Need-answered-requires-2
 answered-requires-2 c κs = search needs
 
 returns-2 : tie.Need-returns-2
-returns-2 c = (
+returns-2 c = let x = asked (c .before .before) in (
   (λ s. leaves s (Store _ _ _)
-      (store-word (s .n) (s .list) _ _ _ (c .before .before .before .if1 .left)
-      (sym (c .before .before .is-storable .ensures) ∙ not-true _ (c .before .if2 .taken)))
+      (store-index (s .n) (s .list) _ _ _ (ordered x .if1 .left)
+      (sym (x .is-aligned .ensures) ∙ not-true _ (c .before .if2 .taken)))
       (c .answered2 .ensures)),
-  start-from-answered2 c .pre .1,
+  start (ordered x) .pre .1,
+)
+
+answered-requires-3 : tie.Need-answered-requires-3
+answered-requires-3 c κs = search needs
+
+returns-3 : tie.Need-returns-3
+returns-3 c = let e = c .before .before in let y = e .before in let x = asked y in (
+  (λ s. leaves s (Store _ _ _)
+      (store-word (s .n) (s .list) _ _ _ (ordered x .if1 .left)
+      (sym (x .is-aligned .ensures) ∙ not-false _ (e .if2 .left))
+      (sym (y .is-storable .ensures) ∙ not-true _ (c .before .if3 .taken)))
+      (c .answered3 .ensures)),
+  start (ordered x) .pre .1,
 )
 
 store-requires : tie.Need-store-requires
-store-requires c κs = (
-  start-from-store-arg c .pre .0,
+store-requires c κs = let e = second c in let y = e .before in let x = asked y in (
+  start (ordered x) .pre .0,
   (
-    c .before .before .before .if1 .left,
+    (ordered x .if1 .left, sym (x .is-aligned .ensures) ∙ not-false _ (e .if2 .left)),
     (
-      subst T (sym (sym (c .before .before .is-storable .ensures) ∙ not-false _ (c .before .if2 .left))) tt,
-      start-from-store-arg c .pre .1,
+      subst T (sym (sym (y .is-storable .ensures) ∙ not-false _ (c .before .if3 .left))) tt,
+      start (ordered x) .pre .1,
     ),
   ),
 )
@@ -67,11 +83,11 @@ stored-reply-requires c κs = search needs
 same-length : tie.Need-same-length
 same-length c = search needs
 
-returns-3 : tie.Need-returns-3
-returns-3 c = (
-  (λ s. stores s _ _ _ (else1-from-stored-reply c .if1 .left)
-      (sym (is-storable-from-stored-reply c .is-storable .ensures) ∙ not-false _
-      (else2-from-stored-reply c .if2 .left))
+returns-4 : tie.Need-returns-4
+returns-4 c = let z = stored c in let e = second z in let y = e .before in let x = asked y in (
+  (λ s. stores s _ _ _ (ordered x .if1 .left)
+      (sym (x .is-aligned .ensures) ∙ not-false _ (e .if2 .left))
+      (sym (y .is-storable .ensures) ∙ not-false _ (z .before .if3 .left))
       (c .before .before .before .store .ensures .0 s) (c .stored-reply .ensures)),
   c .before .before .before .store .ensures .1,
 )
@@ -82,10 +98,13 @@ run-store-spec =
     (tie.spec
     answered-requires
     returns
+    is-aligned-requires
     is-storable-requires
     answered-requires-2
     returns-2
+    answered-requires-3
+    returns-3
     store-requires
     stored-reply-requires
     same-length
-    returns-3)
+    returns-4)

@@ -70,7 +70,7 @@ returns-2 : tie.Need-returns-2
 returns-2 c = new c .store-new .ensures
 
 seat-of-requires : tie.Need-seat-of-requires
-seat-of-requires c κs = start c .pre .1 .0 .0 .order-le
+seat-of-requires c κs = start c .pre .1 .0 .0
 
 add-vacant : tie.Need-add-vacant
 add-vacant c = omega (arith, c .before .before .seat-of .ensures .1 .0)
@@ -92,7 +92,7 @@ enter-requires c κs = let x = seat (c .before .before) in
     (node-ok x, (x .seat-of .ensures .1 .0, x .seat-of .ensures .1 .1))
 
 entry-of-requires : tie.Need-entry-of-requires
-entry-of-requires c κs = start (seat (asked (entered-at c)) .before) .pre .1 .0 .0 .order-le
+entry-of-requires c κs = start (seat (asked (entered-at c)) .before) .pre .1 .0 .0
 
 same-length-4 : tie.Need-same-length-4
 same-length-4 c = search needs
