@@ -12,9 +12,9 @@ use store::Stored;
 ghost use mathlib.Core.Path.{_≡_};
 ghost use mathlib.Core.Bool.{false};
 ghost use mathlib.Core.Option.{some};
-ghost use Prim.Native.Nat.{ℕ, _≤_};
+ghost use Prim.Native.Nat.{ℕ, _<_, _≤_};
 ghost use Rattle.blocks.specs.Choice.{pick};
-ghost use Rattle.model.specs.Model.{storable, maxOrder, aligned, matchedMark, covering, covered, remark};
+ghost use Rattle.model.specs.Model.{storable, maxOrder, aligned, markCount, matchedMark, covering, covered, remark};
 ghost use Rattle.layout.specs.Places.{render};
 ghost use Rattle.layout.specs.WellFormed.{WellFormed, InUse};
 ghost use Rattle.batch.specs.Reply.{answered, answeredBy};
@@ -176,6 +176,19 @@ fn remarked_tag(on: bool) -> u64
     if on { MARKED } else { UNMARKED }
 }
 
+// Sets or clears a mark of the entry that covers the index; the reply by the entry as it then stands.
+fn remark_reply(pool: &mut [u64], tag: u64, index: u64, mark: u64, on: bool) -> Reply
+    requires { ⌜ WellFormed (now pool) ⌝ }
+    requires { ⌜ mark < markCount ⌝ }
+    ensures { λ r. ⌜ ((s : WellFormed (now (pool .entry))) →
+        r ≡ coveredReply tag (covered (covering (remark (s .list) index mark on) index))) ⌝ }
+    ensures { λ _. ⌜ ((s : WellFormed (now (pool .entry))) →
+        now (pool .exit) ≡ render (remark (s .list) index mark on) (s .places) (s .n)) ⌝ }
+{
+    let c = marks::set_mark(pool, index, mark, on);
+    covered_reply(tag, c)
+}
+
 // A mark where the bit is on, an unmark where it is off.
 fn run_remark(pool: &mut [u64], index: u64, mark: u64, on: bool) -> Reply
     requires { ⌜ WellFormed (now pool) ⌝ }
@@ -186,8 +199,7 @@ fn run_remark(pool: &mut [u64], index: u64, mark: u64, on: bool) -> Reply
     if mark >= MARKS {
         return answered(tag, MARK_ABOVE, 0, 0);
     }
-    let c = marks::set_mark(pool, index, mark, on);
-    covered_reply(tag, c)
+    remark_reply(pool, tag, index, mark, on)
 }
 
 fn run_erase(pool: &mut [u64], index: u64, low: u64) -> Execution
@@ -205,31 +217,28 @@ fn run_erase(pool: &mut [u64], index: u64, low: u64) -> Execution
     }
 }
 
-// Clears mark 2 of the entry e that covers the index; the entry as it then stands. Where e does not have the mark, this is
-// one test.
-fn unmatch(pool: &mut [u64], index: u64, e: Entry) -> Covered
+// Clears mark 2 of the entry e that covers the index (R190); the reply of a store that left it. Where e does not have the
+// mark, this is one test.
+fn unmatch(pool: &mut [u64], index: u64, e: Entry) -> Reply
     requires { ⌜ WellFormed (now pool) ⌝ }
     ensures { λ r. ⌜ ((s : WellFormed (now (pool .entry))) → covering (s .list) index ≡ some e →
-        r ≡ covered (covering (remark (s .list) index matchedMark false) index)) ⌝ }
+        r ≡ coveredReply 129 (covered (covering (remark (s .list) index matchedMark false) index))) ⌝ }
     ensures { λ _. ⌜ ((s : WellFormed (now (pool .entry))) → covering (s .list) index ≡ some e →
         now (pool .exit) ≡ render (remark (s .list) index matchedMark false) (s .places) (s .n)) ⌝ }
 {
     if (e.marks >> MATCHED) % 2 == 0 {
-        return Covered::By(e);
+        return answered_by(STORED, e, 0);
     }
-    marks::set_mark(pool, index, MATCHED, false)
+    remark_reply(pool, STORED, index, MATCHED, false)
 }
 
-// The reply to a store by what it came to, after the entry that it left has lost mark 2 (R190).
+// The reply to a store by what it came to.
 fn stored_reply(pool: &mut [u64], index: u64, x: Stored) -> Reply
     requires { ⌜ WellFormed (now pool) ⌝ }
     ensures { λ r. ⌜ ((s : WellFormed (now (pool .entry))) → Settles s index x r (now (pool .exit))) ⌝ }
 {
     match x {
-        Stored::Done(e) => {
-            let c = unmatch(pool, index, e);
-            covered_reply(STORED, c)
-        }
+        Stored::Done(e) => unmatch(pool, index, e),
         Stored::Short => answered(STORED, TOO_FEW_NODES, 0, 0),
     }
 }

@@ -1,14 +1,12 @@
 -- `stored_reply`: the last step of a store, and the reply by what it came to.
-use mathlib.Core.Path.{ap, _∙_}
-use Rattle.execute.specs.Contracts.{coveredReply}
 use Rattle.execute.proofs.ReplyLaws.{settles-done, settles-short}
 use borrow.Author.Needs.{needs}
 use Rattle.execute.proofs.stored_reply.Statement.{statement}
 use Rattle.execute.proofs.stored_reply.Tie as tie
 
 -- THE PLACES IN THE CODE, each from one after it
-abbrev cleared : tie.After-covered-reply → tie.After-unmatch
-cleared c = c .before .before .before
+abbrev cleared : tie.After-slice-known2 → tie.After-unmatch
+cleared c = c .before .before
 
 abbrev entry : tie.After-unmatch → tie.After-x
 entry c = c .before .before .before
@@ -18,9 +16,6 @@ enum-known-x c = search needs
 
 unmatch-requires : tie.Need-unmatch-requires
 unmatch-requires c κs = search needs
-
-covered-reply-requires : tie.Need-covered-reply-requires
-covered-reply-requires c κs = search needs
 
 enum-told : tie.Need-enum-told
 enum-told c = search needs
@@ -33,8 +28,7 @@ same-length c = search needs
 
 returns : tie.Need-returns
 returns c = let y = cleared c in let made = y .unmatch .ensures in
-    λ s. settles-done s _ (entry y .x .given .1)
-    (λ q. (c .covered-reply .ensures ∙ ap (coveredReply 129) (made .0 s q), made .1 s q))
+    λ s. settles-done s _ (entry y .x .given .1) (λ q. (made .0 s q, made .1 s q))
 
 returns-2 : tie.Need-returns-2
 returns-2 c = λ s. settles-short s _ (c .before .enum-told .given .1) (c .answered .ensures)
@@ -45,7 +39,6 @@ stored-reply-spec =
     (tie.spec
     enum-known-x
     unmatch-requires
-    covered-reply-requires
     enum-told
     answered-requires
     same-length
