@@ -60,7 +60,7 @@ use Rattle.execute.specs.Execute.{
   tooFewNodes,
 }
 use Rattle.execute.proofs.ExecuteLaws.{erase-new, short-11, enough-0}
-use Rattle.execute.specs.Contracts.{coveredReply, loadedReply, remarking, replyTo, wordsTo, Settles, Executes}
+use Rattle.execute.specs.Contracts.{coveredReply, loadedReply, remarking, replyTo, wordsTo, asStored, Settles, Executes}
 
 -- REPLIES
 pub loaded-is : (t d : ℕ) (o : Option Entry) → loadedReply t (loaded d o) ≡ replyOf t d o
@@ -136,6 +136,25 @@ remarks s c t i m b e r w = record {
       ∙ ap (λ (os : Places). render (remark (s .list) i m b) os (s .n)) (sym (places-remark (s .list) i m b (s .placed)))
       ∙ sym (words-after s c (ap (λ (x : Executed). x .list) e));
 }
+
+-- back from such a command: the words, and the reply with the tag of a store's
+pub unmarked-words : {ws ws′ : List ℕ} (s : WellFormed ws) (i m : ℕ) {q : Reply} → m < markCount →
+    Executes s (remarking i m false) q ws′ → ws′ ≡ render (remark (s .list) i m false) (s .places) (s .n)
+unmarked-words s i m h x =
+    x .words-are
+    ∙ words-after s (remarking i m false) (ap (λ (y : Executed). y .list) (remark-runs (s .n) (s .list) i m false h))
+    ∙ ap (λ (os : Places). render (remark (s .list) i m false) os (s .n)) (places-remark (s .list) i m false (s .placed))
+
+pub unmarked-reply : {ws ws′ : List ℕ} (s : WellFormed ws) (i m : ℕ) {q : Reply} → m < markCount →
+    Executes s (remarking i m false) q ws′ →
+    asStored q ≡ coveredReply 129 (covered (covering (remark (s .list) i m false) i))
+unmarked-reply s i m h x =
+    ap asStored (x .reply-is ∙ ap (λ (y : Executed). y .reply) (remark-runs (s .n) (s .list) i m false h))
+    ∙ go (covering (remark (s .list) i m false) i)
+  where
+    go : (o : Option Entry) → asStored (replyOf 133 0 o) ≡ coveredReply 129 (covered o)
+    go none = refl
+    go (some e) = refl
 
 -- an erase
 pub erases : {ws ws′ : List ℕ} (s : WellFormed ws) (i : ℕ) {q : Reply} →

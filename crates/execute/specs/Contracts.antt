@@ -48,6 +48,19 @@ replyTo s c = execute (s .n) (s .list) c .reply
 abbrev pub wordsTo : {ws : List ℕ} → WellFormed ws → Command → List ℕ
 wordsTo s c = let t = next (s .n) (stateOf s) c in render (t .list) (t .places) (s .n)
 
+-- a reply with the tag of a store's
+abbrev pub asStored : Reply → Reply
+asStored r =
+    record {
+      tag = 129;
+      answer = r .answer;
+      index = r .index;
+      order = r .order;
+      word = r .word;
+      marks = r .marks;
+      count = r .count;
+    }
+
 -- the last step of a store that came to x: mark 2 of the entry that it left over i is cleared, and the reply
 pub record Settles {ws : List ℕ} (s : WellFormed ws) (i : ℕ) (x : Stored) (r : Reply) (ws′ : List ℕ) : Type 0 where
   pub done : {e : Entry} → x ≡ Done e → covering (s .list) i ≡ some e →

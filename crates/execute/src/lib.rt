@@ -12,14 +12,14 @@ use store::Stored;
 ghost use mathlib.Core.Path.{_≡_};
 ghost use mathlib.Core.Bool.{false};
 ghost use mathlib.Core.Option.{some};
-ghost use Prim.Native.Nat.{ℕ, _<_, _≤_};
+ghost use Prim.Native.Nat.{ℕ, _≤_};
 ghost use Rattle.blocks.specs.Choice.{pick};
-ghost use Rattle.model.specs.Model.{storable, maxOrder, aligned, markCount, matchedMark, covering, covered, remark};
+ghost use Rattle.model.specs.Model.{storable, maxOrder, aligned, matchedMark, covering, covered, remark};
 ghost use Rattle.layout.specs.Places.{render};
 ghost use Rattle.layout.specs.WellFormed.{WellFormed, InUse};
 ghost use Rattle.batch.specs.Reply.{answered, answeredBy};
 ghost use Rattle.execute.specs.Execute.{finding};
-ghost use Rattle.execute.specs.Contracts.{coveredReply, loadedReply, remarking, replyTo, Settles, Executes};
+ghost use Rattle.execute.specs.Contracts.{coveredReply, loadedReply, remarking, replyTo, asStored, Settles, Executes};
 
 // The answers that stand in a reply, and the reply's tags.
 const ORDER_ABOVE: u64 = 5;
@@ -176,19 +176,6 @@ fn remarked_tag(on: bool) -> u64
     if on { MARKED } else { UNMARKED }
 }
 
-// Sets or clears a mark of the entry that covers the index; the reply by the entry as it then stands.
-fn remark_reply(pool: &mut [u64], tag: u64, index: u64, mark: u64, on: bool) -> Reply
-    requires { ⌜ WellFormed (now pool) ⌝ }
-    requires { ⌜ mark < markCount ⌝ }
-    ensures { λ r. ⌜ ((s : WellFormed (now (pool .entry))) →
-        r ≡ coveredReply tag (covered (covering (remark (s .list) index mark on) index))) ⌝ }
-    ensures { λ _. ⌜ ((s : WellFormed (now (pool .entry))) →
-        now (pool .exit) ≡ render (remark (s .list) index mark on) (s .places) (s .n)) ⌝ }
-{
-    let c = marks::set_mark(pool, index, mark, on);
-    covered_reply(tag, c)
-}
-
 // A mark where the bit is on, an unmark where it is off.
 fn run_remark(pool: &mut [u64], index: u64, mark: u64, on: bool) -> Reply
     requires { ⌜ WellFormed (now pool) ⌝ }
@@ -199,7 +186,8 @@ fn run_remark(pool: &mut [u64], index: u64, mark: u64, on: bool) -> Reply
     if mark >= MARKS {
         return answered(tag, MARK_ABOVE, 0, 0);
     }
-    remark_reply(pool, tag, index, mark, on)
+    let c = marks::set_mark(pool, index, mark, on);
+    covered_reply(tag, c)
 }
 
 fn run_erase(pool: &mut [u64], index: u64, low: u64) -> Execution
@@ -217,6 +205,21 @@ fn run_erase(pool: &mut [u64], index: u64, low: u64) -> Execution
     }
 }
 
+// The reply to an unmark as the reply to a store that left the entry.
+fn as_stored(r: Reply) -> Reply
+    ensures { λ x. ⌜ x ≡ asStored r ⌝ }
+{
+    Reply {
+        tag: STORED,
+        answer: r.answer,
+        index: r.index,
+        order: r.order,
+        word: r.word,
+        marks: r.marks,
+        count: r.count,
+    }
+}
+
 // Clears mark 2 of the entry e that covers the index (R190); the reply of a store that left it. Where e does not have the
 // mark, this is one test.
 fn unmatch(pool: &mut [u64], index: u64, e: Entry) -> Reply
@@ -229,7 +232,8 @@ fn unmatch(pool: &mut [u64], index: u64, e: Entry) -> Reply
     if (e.marks >> MATCHED) % 2 == 0 {
         return answered_by(STORED, e, 0);
     }
-    remark_reply(pool, STORED, index, MATCHED, false)
+    let r = run_remark(pool, index, MATCHED, false);
+    as_stored(r)
 }
 
 // The reply to a store by what it came to.

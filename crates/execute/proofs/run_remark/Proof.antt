@@ -1,7 +1,6 @@
 -- A mark and an unmark by the laws of either, at the bit.
 use Prim.Native.Nat.{ℕ}
-use mathlib.Core.Path.{ap, _∙_}
-use Rattle.model.specs.Model.{covering, covered, remark}
+use mathlib.Core.Path.{ap, ap₂, _∙_}
 use Rattle.batch.specs.Reply.{answered}
 use Rattle.erase.proofs.FreedLaws.{in-use-remark}
 use Rattle.execute.specs.Execute.{markAbove}
@@ -15,14 +14,11 @@ use Rattle.execute.proofs.run_remark.Tie as tie
 abbrev start-from-answered : tie.After-answered → tie.Start
 start-from-answered c = c .before .before .before .before
 
-abbrev replied : tie.After-slice-known2 → tie.After-remark-reply
-replied c = c .before .before
+abbrev else1-from-covered-reply : tie.After-covered-reply → tie.Else1
+else1-from-covered-reply c = c .before .before .before .before .before
 
-abbrev else1-from-replied : tie.After-remark-reply → tie.Else1
-else1-from-replied c = c .before .before
-
-abbrev tagged-from-replied : tie.After-remark-reply → tie.After-remarked-tag
-tagged-from-replied c = else1-from-replied c .before
+abbrev remarked-tag-from-covered-reply : tie.After-covered-reply → tie.After-remarked-tag
+remarked-tag-from-covered-reply c = else1-from-covered-reply c .before
 
 remarked-tag-requires : tie.Need-remarked-tag-requires
 remarked-tag-requires c κs = search needs
@@ -38,25 +34,25 @@ returns c = let a = start-from-answered c .args in (
   λ low u. u,
 )
 
-remark-reply-requires : tie.Need-remark-reply-requires
-remark-reply-requires c κs = search needs
+set-mark-requires : tie.Need-set-mark-requires
+set-mark-requires c κs = search needs
+
+covered-reply-requires : tie.Need-covered-reply-requires
+covered-reply-requires c κs = search needs
 
 same-length : tie.Need-same-length
 same-length c = search needs
 
 returns-2 : tie.Need-returns-2
 returns-2 c =
-    let y = replied c in
-    let made = y .remark-reply .ensures in
-    let small = else1-from-replied y .if1 .left in
-    let tagged = tagged-from-replied y in
+    let made = c .before .before .before .set-mark .ensures in
+    let small = else1-from-covered-reply c .if1 .left in
+    let tagged = remarked-tag-from-covered-reply c in
     let z = tagged .before .before in
     let a = z .args in (
       (λ s. remarks s (remarking (a .index) (a .mark) (a .on)) _ _ _ (a .on)
           (remark-runs (s .n) (s .list) (a .index) (a .mark) (a .on) small)
-          (made .0 s ∙ ap (λ (t : ℕ). coveredReply t (covered (covering (remark (s .list) (a .index) (a .mark) (a .on)) (a .index))))
-          (tagged .remarked-tag .ensures))
-          (made .1 s)),
+          (c .covered-reply .ensures ∙ ap₂ coveredReply (tagged .remarked-tag .ensures) (made .0 s)) (made .1 s)),
       λ low u. in-use-remark (z .pre) _ _ (a .on) small (made .1 (z .pre)) u,
     )
 
@@ -67,6 +63,7 @@ run-remark-spec =
     remarked-tag-requires
     answered-requires
     returns
-    remark-reply-requires
+    set-mark-requires
+    covered-reply-requires
     same-length
     returns-2)

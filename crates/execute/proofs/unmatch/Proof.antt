@@ -2,11 +2,13 @@
 use mathlib.Core.Path.{sym, ap, _∙_}
 use mathlib.Core.List.{List}
 use mathlib.Core.Option.{Option}
+use native.Mathlib.Omega.{arith}
 use Rattle.model.specs.declared.Entry.{Entry}
 use Rattle.model.specs.Model.{matchedMark, covering, covered}
 use Rattle.layout.specs.Places.{render}
 use Rattle.marks.proofs.RemarkLaws.{remark-clear}
 use Rattle.execute.specs.Contracts.{coveredReply}
+use Rattle.execute.proofs.ReplyLaws.{unmarked-words, unmarked-reply}
 use borrow.Author.Needs.{needs}
 use Rattle.execute.proofs.unmatch.Statement.{statement}
 use Rattle.execute.proofs.unmatch.Tie as tie
@@ -23,14 +25,23 @@ returns c = let x = c .before in let i = x .before .before .before .args .index 
       ∙ ap (λ (l : List Entry). render l (s .places) (s .n)) (sym (remark-clear i matchedMark (s .valid) q z)),
 )
 
-remark-reply-requires : tie.Need-remark-reply-requires
-remark-reply-requires c κs = search needs
+run-remark-requires : tie.Need-run-remark-requires
+run-remark-requires c κs = search needs
+
+as-stored-requires : tie.Need-as-stored-requires
+as-stored-requires c κs = search needs
 
 same-length : tie.Need-same-length
 same-length c = search needs
 
 returns-2 : tie.Need-returns-2
-returns-2 c = let made = c .before .before .remark-reply .ensures in ((λ s q. made .0 s), λ s q. made .1 s)
+returns-2 c =
+    let made = c .before .before .before .run-remark .ensures .0 in (
+      (λ s q. c .as-stored .ensures ∙ unmarked-reply s _ matchedMark (omega arith) (made s)),
+      λ s q. unmarked-words s _ matchedMark (omega arith) (made s),
+    )
 
 pub unmatch-spec : {M : Type 1} → statement M
-unmatch-spec = tie.close (tie.spec answered-by-requires returns remark-reply-requires same-length returns-2)
+unmatch-spec =
+    tie.close
+    (tie.spec answered-by-requires returns run-remark-requires as-stored-requires same-length returns-2)
