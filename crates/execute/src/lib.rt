@@ -229,11 +229,11 @@ fn unmatch(pool: &mut [u64], index: u64, e: Entry) -> Reply
     ensures { λ _. ⌜ ((s : WellFormed (now (pool .entry))) → covering (s .list) index ≡ some e →
         now (pool .exit) ≡ render (remark (s .list) index matchedMark false) (s .places) (s .n)) ⌝ }
 {
-    if (e.marks >> MATCHED) % 2 == 0 {
-        return answered_by(STORED, e, 0);
+    if (e.marks >> MATCHED) % 2 == 1 {
+        let r = run_remark(pool, index, MATCHED, false);
+        return as_stored(r);
     }
-    let r = run_remark(pool, index, MATCHED, false);
-    as_stored(r)
+    answered_by(STORED, e, 0)
 }
 
 // The reply to a store by what it came to.
