@@ -14,6 +14,7 @@ use reference::pool::State;
 use reference::recover::recover;
 use reference::tree::Node;
 use std::collections::BTreeMap;
+use std::sync::OnceLock;
 
 type Counts<T> = BTreeMap<T, usize>;
 
@@ -52,6 +53,16 @@ fn follow(met: &mut Met, list: &CallList) {
             *met.places.entry(outcome.number).or_default() += 1;
         }
     }
+}
+
+/// What 3,000 lists of calls meet, found once for all tests.
+fn met() -> &'static Met {
+    static MET: OnceLock<Met> = OnceLock::new();
+    MET.get_or_init(|| {
+        let mut met = Met::default();
+        (0..3000).for_each(|seed| follow(&mut met, &CallList::random(seed)));
+        met
+    })
 }
 
 fn follow_batch(met: &mut Met, mut state: State, batch: &[u8]) {
@@ -126,8 +137,7 @@ fn over_mark_2(before: &State, command: Command, done: &Done) -> Vec<&'static st
 
 #[test]
 fn stores_are_mostly_good_and_unaligned_in_every_way() {
-    let mut met = Met::default();
-    (0..1500).for_each(|seed| follow(&mut met, &CallList::random(seed)));
+    let met = met();
     let count = |kind: &str| *met.stores.get(kind).unwrap_or(&0);
     let stores: usize =
         ["good", "word", "order", "order and word", "unaligned"].into_iter().map(count).sum();
@@ -141,8 +151,7 @@ fn stores_are_mostly_good_and_unaligned_in_every_way() {
 
 #[test]
 fn stores_go_over_mark_2_in_every_way() {
-    let mut met = Met::default();
-    (0..1500).for_each(|seed| follow(&mut met, &CallList::random(seed)));
+    let met = met();
     let count = |kind: &str| *met.over.get(kind).unwrap_or(&0);
     assert!(30 * count("any") >= met.stores["good"], "{:?}", met.over);
     let often = ["same word", "in a larger entry", "by a wider entry", "several"];
@@ -163,8 +172,7 @@ fn lists_for_finds_go_over_mark_2_beside_brothers() {
 
 #[test]
 fn every_answer_and_both_sides_of_11_are_met() {
-    let mut met = Met::default();
-    (0..3000).for_each(|seed| follow(&mut met, &CallList::random(seed)));
+    let met = met();
     let many = |count: Option<&usize>| *count.unwrap_or(&0) >= 20;
     assert!((0..=4).all(|answer| many(met.calls.get(&answer))), "{:?}", met.calls);
     let replies = [0].into_iter().chain(5..=14);
