@@ -114,8 +114,9 @@ enum xapool_answer {
  *   6    find     19      first (8), last (8), and then filter (1), budget (2)
  *
  * store: one entry over the 2^order indices from index on, which is a multiple of 2^order, in place
- *   of all that lay there; it has the marks of what it replaces. Where an entry of that order or
- *   more covers them, only that entry's word is replaced.
+ *   of all that lay there; it has marks 0 and 1 of what it replaces. Where an entry of that order or
+ *   more covers them, that entry takes the word and keeps marks 0 and 1. Mark 2 ('matched') is clear
+ *   after every store, also of the same word.
  * erase, mark, unmark: the whole entry that covers index.
  * find: the first entry that meets first..last, in index order; filter 0, 1, 2: with that mark,
  *   3: any. It goes at most budget steps. */

@@ -1,5 +1,6 @@
 //! Cases 13 to 15 (R118 to R120), the empty batch, and batches of 8,192 and 8,193 bytes, with the
-//! rules' own figures; unaligned stores (P4) and the listings of listing_cases.rs; and cases 2 to 13 command by command
+//! rules' own figures; unaligned stores (P4), stores over mark 2 (P5) and the listings of
+//! listing_cases.rs; and cases 2 to 13 command by command
 //! against reference, all words and replies (their figures are computed by the proved table and
 //! tested in host/). A case that fails says which commands it ran and the first word or byte that
 //! differs.
@@ -107,6 +108,31 @@ fn unaligned() -> Vec<Case> {
     ]
 }
 
+/// Stores over an entry with mark 2 (P5): by a wider one, with the same word, into a larger one.
+fn over_mark_2() -> [Vec<Command>; 3] {
+    let mark = |index, mark| Command::Mark { index, mark };
+    let (two, three, eight) = (store(0, 3), store(64, 5), store_order(8, 3, 5));
+    [
+        vec![three, mark(64, 0), mark(64, 2), store_order(64, 6, 9)],
+        vec![two, three, mark(0, 2), mark(64, 2), three, two],
+        vec![eight, mark(8, 1), mark(8, 2), store(10, 5)],
+    ]
+}
+
+/// The last reply to each of these: the entry without mark 2.
+fn without_mark_2() -> Vec<Case> {
+    let reply = |base, order, word, marks| {
+        let head = [0x81, 0, 21, 0, 0, 0, 0, 0, 0, 0, 0, base, order];
+        [&head[..], &[0, 0, 0, 0, 0, 0, 0, word, marks, 0, 0]].concat()
+    };
+    let [wider, same, larger] = over_mark_2();
+    vec![
+        ("case 10 with marks 0 and 2", replies(&wider, &reply(64, 6, 9, 1))),
+        ("the same word again", replies(&same, &reply(0, 0, 3, 0))),
+        ("case 9 with marks 1 and 2", replies(&larger, &reply(8, 3, 5, 2))),
+    ]
+}
+
 fn case_14() -> Vec<Case> {
     let stored = [1, 0, 17, 0, 0, 0, 0, 0, 0, 0, 64, 0, 0, 0, 0, 0, 0, 0, 0, 5];
     let loaded = [0x82, 0, 21, 0, 0, 0, 0, 0, 0, 0, 0, 64, 0, 0, 0, 0, 0, 0, 0, 0, 5, 0, 0, 2];
@@ -161,6 +187,7 @@ fn starred() -> Vec<Case> {
     let (two, three) = (store(0, 3), store(64, 5));
     let eight = store_order(8, 3, 5);
     let ten = [store(64, 5), mark(64, 0), store(65, 7), mark(65, 1), store_order(64, 6, 9)];
+    let [wider, same, larger] = over_mark_2();
     let thirteen = [two, three, find(3, 64), find(3, 63), mark(64, 0), find(0, 100)];
     vec![
         ("case 2 against reference", agree(1, &[two])),
@@ -177,6 +204,9 @@ fn starred() -> Vec<Case> {
         ("case 8 against reference, then 13", agree(1, &[eight, store_order(13, 3, 7)])),
         ("case 9 against reference", agree(1, &[eight, store(10, 9), load(15), erase(11)])),
         ("case 10 against reference", agree(2, &ten)),
+        ("case 10 against reference, marks 0 and 2", agree(2, &wider)),
+        ("the same word again against reference", agree(3, &same)),
+        ("case 9 against reference, marks 1 and 2", agree(1, &larger)),
         ("case 11 against reference", agree(3, &[two, three, erase(64)])),
         (
             "case 12 against reference",
@@ -206,8 +236,16 @@ fn programs(with_program: bool) -> Vec<Case> {
 
 /// How many cases there are, and those that failed, with what is wrong.
 pub fn run_all(with_program: bool) -> (usize, Vec<(&'static str, String)>) {
-    let figures =
-        [case_13(), case_14(), case_15(), unaligned(), empty_batch(), listing_cases()].concat();
+    let figures = [
+        case_13(),
+        case_14(),
+        case_15(),
+        unaligned(),
+        without_mark_2(),
+        empty_batch(),
+        listing_cases(),
+    ]
+    .concat();
     let all = [starred(), figures, programs(with_program)].concat();
     let count = all.len();
     (count, all.into_iter().filter_map(|(name, wrong)| Some((name, wrong?))).collect())

@@ -14,6 +14,7 @@ use reference::model::{self, Entry};
 use reference::pool::State;
 use reference::random::Random;
 use reference::tree::{nodes, Tree};
+use xapool_host::MOST_ORDER;
 
 /// Finds in one call.
 const FINDS: u64 = 60;
@@ -76,21 +77,39 @@ fn marks(entry: Entry) -> impl Iterator<Item = Command> {
     set.map(move |mark| Command::Mark { index: entry.base, mark })
 }
 
-/// Some marks, unmarks and erases, done to the list as well.
+/// Some marks, unmarks, erases and stores over entries, done to the list as well.
 fn changes(random: &mut Random, list: &mut Vec<Entry>) -> Vec<Command> {
     let mut commands = Vec::new();
-    for _ in 0..random.below(12) {
+    for _ in 0..random.below(20) {
         let Some(entry) = any(random, list) else { break };
         let (index, mark) = (inside(random, entry), random.below(3) as u8);
-        let (command, after) = match random.below(3) {
+        let (command, after) = match random.below(6) {
             0 => (Command::Mark { index, mark }, model::mark(list, index, mark)),
             1 => (Command::Unmark { index, mark }, model::unmark(list, index, mark)),
-            _ => (Command::Erase { index }, model::erase(list, index)),
+            2 => (Command::Erase { index }, model::erase(list, index)),
+            _ => {
+                let (index, order, word) = store_over(random, entry, index);
+                let store = Command::Store { index, order, word };
+                (store, model::store(list, index, order, word))
+            }
         };
         commands.push(command);
         *list = after;
     }
     commands
+}
+
+/// Index, order and word of a store that replaces the entry and needs no node: into it, at its own
+/// order, or at a higher one that is in the same node. The word is another or the same.
+fn store_over(random: &mut Random, entry: Entry, index: u64) -> (u64, u8, u64) {
+    let word = if random.one_in(3) { entry.word } else { 2 * random.below(500) + 1 };
+    let widest = (entry.order - entry.order % 6 + 5).min(MOST_ORDER);
+    let order = match random.below(4) {
+        0 | 1 => return (index, 0, word),
+        2 => entry.order,
+        _ => entry.order + random.below(u64::from(widest - entry.order) + 1) as u8,
+    };
+    (index >> order << order, order, word)
 }
 
 fn finds(random: &mut Random, list: &[Entry]) -> Vec<Command> {

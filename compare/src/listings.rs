@@ -37,6 +37,8 @@ fn range(random: &mut Random, list: &[Entry]) -> (u64, u64) {
             (one.min(other), one.max(other))
         }
         (4..=7, Some(entry)) => {
+            let wide: Vec<Entry> = list.iter().filter(|entry| entry.order > 0).copied().collect();
+            let entry = any(random, &wide).unwrap_or(entry);
             let to = inside(random, entry);
             (from.min(to), to)
         }

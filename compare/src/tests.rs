@@ -8,11 +8,13 @@ use crate::program::Input;
 use crate::stretch::{counts, FindCounts};
 use reference::batch::{read, Command};
 use reference::calls::{self, check, init, run};
-use reference::command::{execute, needed};
-use reference::model::{self, covering, is_aligned, is_entry_word};
+use reference::command::{execute, needed, Done};
+use reference::model::{self, beginning_in, covering, is_aligned, is_entry_word, marks_of, Entry};
 use reference::pool::State;
 use reference::recover::recover;
+use reference::tree::Node;
 use std::collections::BTreeMap;
+use std::sync::OnceLock;
 
 type Counts<T> = BTreeMap<T, usize>;
 
@@ -25,6 +27,7 @@ struct Met {
     spare: Counts<i64>,
     places: Counts<u64>,
     stores: Counts<&'static str>,
+    over: Counts<&'static str>,
 }
 
 fn follow(met: &mut Met, list: &CallList) {
@@ -52,6 +55,16 @@ fn follow(met: &mut Met, list: &CallList) {
     }
 }
 
+/// What 3,000 lists of calls meet, found once for all tests.
+fn met() -> &'static Met {
+    static MET: OnceLock<Met> = OnceLock::new();
+    MET.get_or_init(|| {
+        let mut met = Met::default();
+        (0..3000).for_each(|seed| follow(&mut met, &CallList::random(seed)));
+        met
+    })
+}
+
 fn follow_batch(met: &mut Met, mut state: State, batch: &[u8]) {
     for command in read(batch).unwrap_or_default() {
         if let Command::Store { index, order, word } = command {
@@ -63,6 +76,8 @@ fn follow_batch(met: &mut Met, mut state: State, batch: &[u8]) {
             }
         }
         let done = execute(&state, command);
+        let over = over_mark_2(&state, command, &done);
+        over.into_iter().for_each(|kind| *met.over.entry(kind).or_default() += 1);
         *met.replies.entry(done.reply.answer).or_default() += 1;
         state = done.state;
     }
@@ -92,10 +107,37 @@ fn store_kinds(state: &State, index: u64, order: u8, word: u64) -> Vec<&'static 
     all.into_iter().filter(|(_, so)| *so).map(|(kind, _)| kind).collect()
 }
 
+/// What a store is that replaced an entry with mark 2; nothing for any other command.
+fn over_mark_2(before: &State, command: Command, done: &Done) -> Vec<&'static str> {
+    let (Command::Store { order, word, .. }, Some(run)) = (command, done.written) else {
+        return Vec::new();
+    };
+    let (gone, others): (Vec<Entry>, Vec<Entry>) =
+        before.list.iter().partition(|entry| entry.range().is_within(run));
+    if marks_of(&gone) & 4 == 0 {
+        return Vec::new();
+    }
+    let kept = done.reply.order;
+    let near = Node::around(kept - kept % 6, done.reply.index).range();
+    let brothers = beginning_in(&others, near);
+    let all = [
+        ("any", true),
+        ("same word", gone.len() == 1 && gone[0].word == word),
+        ("in a larger entry", kept > order),
+        ("by a wider entry", gone[0].order < kept),
+        ("several", gone.len() > 1),
+        ("with mark 0 or 1", marks_of(&gone) & 3 > 0),
+        ("brother has it", marks_of(brothers) & 4 > 0),
+        ("another node has it", marks_of(&others) & 4 > 0 && marks_of(brothers) & 4 == 0),
+        ("none has it now", marks_of(&others) & 4 == 0),
+        ("as head", before.list.len() == 1 && gone[0].base == 0 && gone[0].order == 0),
+    ];
+    all.into_iter().filter(|(_, so)| *so).map(|(kind, _)| kind).collect()
+}
+
 #[test]
 fn stores_are_mostly_good_and_unaligned_in_every_way() {
-    let mut met = Met::default();
-    (0..1500).for_each(|seed| follow(&mut met, &CallList::random(seed)));
+    let met = met();
     let count = |kind: &str| *met.stores.get(kind).unwrap_or(&0);
     let stores: usize =
         ["good", "word", "order", "order and word", "unaligned"].into_iter().map(count).sum();
@@ -108,9 +150,29 @@ fn stores_are_mostly_good_and_unaligned_in_every_way() {
 }
 
 #[test]
-fn every_answer_and_both_sides_of_11_are_met() {
+fn stores_go_over_mark_2_in_every_way() {
+    let met = met();
+    let count = |kind: &str| *met.over.get(kind).unwrap_or(&0);
+    assert!(30 * count("any") >= met.stores["good"], "{:?}", met.over);
+    let often = ["same word", "in a larger entry", "by a wider entry", "several"];
+    let marks = ["with mark 0 or 1", "brother has it", "another node has it", "none has it now"];
+    let mut each = often.iter().chain(&marks);
+    assert!(each.all(|kind| 40 * count(kind) >= count("any")), "{:?}", met.over);
+    assert!(100 * count("as head") >= count("any"), "{:?}", met.over);
+}
+
+/// In their dense nodes a brother slot mostly keeps the mark.
+#[test]
+fn lists_for_finds_go_over_mark_2_beside_brothers() {
     let mut met = Met::default();
-    (0..3000).for_each(|seed| follow(&mut met, &CallList::random(seed)));
+    (0..40).for_each(|seed| follow(&mut met, &random_list(seed)));
+    let count = |kind: &str| *met.over.get(kind).unwrap_or(&0);
+    assert!(count("any") >= 20 && 4 * count("brother has it") >= count("any"), "{:?}", met.over);
+}
+
+#[test]
+fn every_answer_and_both_sides_of_11_are_met() {
+    let met = met();
     let many = |count: Option<&usize>| *count.unwrap_or(&0) >= 20;
     assert!((0..=4).all(|answer| many(met.calls.get(&answer))), "{:?}", met.calls);
     let replies = [0].into_iter().chain(5..=14);
@@ -190,7 +252,7 @@ fn lists_for_finds_have_listings_of_several_nodes() {
     let cut = [Kind::CutByFirst, Kind::CutByLast, Kind::CutByBoth];
     assert_once_in(20, &met, listings, &cut);
     let buffers = [Kind::Exact, Kind::Longer, Kind::OneByteShort, Kind::Short, Kind::NoBuffer];
-    assert_once_in(20, &met, listings, &buffers);
+    assert_once_in(30, &met, listings, &buffers);
 }
 
 #[test]

@@ -79,9 +79,10 @@ impl fmt::Display for Tag {
 /// (order above 63, an index that is not a multiple of 2^order, a word that is no entry, mark above 2, filter above 3).
 #[derive(Clone, Copy, Debug, PartialEq, Eq, Hash)]
 pub enum Command {
-    /// One entry over the 2^order indices from the index on, with the marks of what it replaces. Where
-    /// an entry of that order or more covers them, only that entry's word is replaced: the reply's
-    /// index and order say what was changed.
+    /// One entry over the 2^order indices from the index on, with marks 0 and 1 of what it replaces.
+    /// Where an entry of that order or more covers them, that entry takes the word and keeps marks 0
+    /// and 1: the reply's index and order say what was changed. Mark 2, 'matched', is clear after
+    /// every store, also of the same word.
     Store {
         /// The first index of the run, a multiple of 2^order.
         index: u64,

@@ -1,4 +1,4 @@
-//! The cases (R106 to R120) with their figures, and that no input makes the wrapper panic.
+//! The cases (R106 to R120, R182, R191, R192) with their figures, and that no input makes the wrapper panic.
 
 use crate::*;
 
@@ -54,6 +54,11 @@ fn least_nodes(commands: &[Command]) -> usize {
 
 fn slot(pool: &Pool, node: usize, slot: usize) -> u64 {
     pool.words()[layout::slot_place(node, slot)]
+}
+
+/// The word of a mark, after a node's shift and owner.
+fn mark_word(pool: &Pool, node: usize, mark: usize) -> u64 {
+    pool.words()[layout::node_place(node) + 2 + mark]
 }
 
 fn free_nodes(pool: &Pool) -> usize {
@@ -134,6 +139,37 @@ fn case_10_marks_are_kept() {
     let (reply, after) = run(40, &[&entries[..], &[store(64, 6, 7)]].concat());
     assert_eq!(reply.marks, Marks(3));
     assert_eq!(free_nodes(&after), free_nodes(&before) + 1);
+}
+
+#[test]
+fn case_10a_matched_is_lost_by_a_wider_store() {
+    let matched = [store(4096, 0, 5), mark(4096, 0), mark(4096, 2)];
+    let (reply, pool) = run(40, &[&matched[..], &[store(4096, 3, 9)]].concat());
+    assert_eq!((reply.order, reply.marks, pool.words()[2]), (3, Marks(1), 1));
+    assert!((0..3).all(|node| mark_word(&pool, node, 2) == 0));
+    assert_eq!([0, 1, 2].map(|node| mark_word(&pool, node, 0)), [2, 1, 1]);
+
+    let brother = [store(4160, 0, 7), mark(4160, 2)];
+    let (reply, pool) = run(40, &[&matched[..], &brother, &[store(4096, 3, 9)]].concat());
+    assert_eq!((reply.marks, pool.words()[2]), (Marks(1), 5));
+    assert_eq!([0, 1, 2, 3].map(|node| mark_word(&pool, node, 2)), [2, 2, 0, 1]);
+}
+
+#[test]
+fn case_10b_matched_is_lost_with_the_same_word() {
+    let marked = [store(4096, 0, 5), mark(4096, 0)];
+    let again = [mark(4096, 2), store(4096, 0, 5)];
+    let (reply, pool) = run(40, &[marked, again].concat());
+    assert_eq!(reply.marks, Marks(1));
+    assert_eq!(pool.words(), run(40, &marked).1.words());
+
+    let brother = [store(4160, 0, 7), mark(4160, 2)];
+    let (_, pool) = run(40, &[marked, brother, again].concat());
+    assert_eq!(pool.words(), run(40, &[marked, brother].concat()).1.words());
+
+    let (reply, pool) = run(40, &[CASE_2, mark(0, 2), CASE_2]);
+    assert_eq!(reply.marks, Marks(0));
+    assert_eq!(pool.words(), run(40, &[CASE_2]).1.words());
 }
 
 #[test]

@@ -79,13 +79,18 @@ pub fn target(list: &[Entry], index: u64, order: u8) -> (u64, u8) {
     }
 }
 
-/// The list after a store: what lies in the target range goes, one entry with all its marks comes.
+/// The marks that a store hands on. Mark 2 says that an entry was compared, and its new word never
+/// was (request P5).
+const HANDED_ON: u8 = 0b011;
+
+/// The list after a store: what lies in the target range goes, one entry with its marks comes, but
+/// for mark 2.
 pub fn store(list: &[Entry], index: u64, order: u8, word: u64) -> Vec<Entry> {
     let (base, order) = target(list, index, order);
     let mut new = Entry { base, order, word, marks: 0 };
     let (gone, mut kept): (Vec<Entry>, Vec<Entry>) =
         list.iter().partition(|entry| entry.range().is_within(new.range()));
-    new.marks = marks_of(&gone);
+    new.marks = marks_of(&gone) & HANDED_ON;
     kept.push(new);
     kept.sort_by_key(|entry| entry.base);
     kept

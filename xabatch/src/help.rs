@@ -33,7 +33,7 @@ max is 2^64 - 1.
 
   store 64 order 0 value 2         the entry word 2v + 1; v to 2^63 - 1
   store 64 order 3 handle 0x1000   a multiple of 4 above 0; the index a multiple of 2^order
-  store 64 order 0 word 5          any word, also one that is refused
+  store 64 order 0 word 5          any word, also one that is refused; mark 2 is clear after a store
   load 64
   erase 64
   mark 64 mark 0

@@ -11,9 +11,21 @@ use borrow.Author.Tests.{ltb-false, leb-false, lt-ltb, le-ltb}
 use Rattle.blocks.specs.Lists.{All, end, also}
 use Rattle.blocks.proofs.BoolLaws.{byT, not-false}
 use Rattle.model.specs.declared.Entry.{Entry}
-use Rattle.model.specs.Model.{Valid, storable, maxOrder, aligned, markCount, covering, store, erase, remark, withMark}
-use Rattle.model.proofs.ValidLaws.{erase-valid, erase-clear, erase-none}
-use Rattle.model.proofs.AlignedLaws.{aligned-valid}
+use Rattle.model.specs.Model.{
+  Valid,
+  storable,
+  maxOrder,
+  aligned,
+  markCount,
+  matchedMark,
+  covering,
+  store,
+  erase,
+  remark,
+  withMark,
+}
+use Rattle.model.proofs.ValidLaws.{store-valid, erase-valid, erase-clear, erase-none}
+use Rattle.model.proofs.AlignedLaws.{store-is}
 use Rattle.tree.specs.Tree.{nodes, newNodes, needed}
 use Rattle.tree.proofs.ChangeLaws.{clear-new}
 use Rattle.tree.proofs.RelabelLaws.{new-nodes-map}
@@ -67,6 +79,12 @@ remark-new l i m b = new-nodes-map (withMark i m b) (λ x. refl) (λ x. refl) l
 marked : (n : ℕ) {l : List Entry} (i m : ℕ) (b : Bool) → m < markCount → Valid l → Keeps n l (remark l i m b)
 marked n {l} i m b h v = no-node n l (remark l i m b) (sorted-remark i m b h v) (remark-new l i m b)
 
+-- R10 to R14 and R190 keep a list valid
+store-keeps : (l : List Entry) (i k w : ℕ) → aligned k i ≡ true → Valid l → i < 2 ^ 64 → k ≤ maxOrder → T (storable w) →
+    w < 2 ^ 64 → Valid (store l i k w)
+store-keeps l i k w al v i< k≤ st w< =
+    rw (store-is i k al l w) (sorted-remark i matchedMark false (omega arith) (store-valid i k w v i< k≤ st w<))
+
 module _ (n : ℕ) (l : List Entry) (v : Valid l) where
   stored : (i k w : ℕ) → i < 2 ^ 64 → w < 2 ^ 64 → Keeps n l (execute n l (Store i k w) .list)
   unfolding execute
@@ -78,7 +96,7 @@ module _ (n : ℕ) (l : List Entry) (v : Valid l) where
       (λ d. rw (t, a, s, d)
       (record {
         valid =
-            aligned-valid i k (not-false (aligned k i) a) l w v i< (ltb-false _ _ t)
+            store-keeps l i k w (not-false (aligned k i) a) v i< (ltb-false _ _ t)
             (subst T (sym (not-false (storable w) s)) tt) w<;
         enough = ltb-false _ _ d;
       })))))

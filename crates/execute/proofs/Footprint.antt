@@ -1,5 +1,5 @@
 -- The footprint of every command: no word outside its part changes (R41).
-use Prim.Native.Nat.{ℕ}
+use Prim.Native.Nat.{ℕ, _*_, _^_}
 use mathlib.Core.Path.{_≡_, refl, sym, ap, _∙_}
 use mathlib.Core.Bool.{Bool, true, false, not}
 use mathlib.Core.Logic.{_⊎_, inl, inr}
@@ -8,9 +8,11 @@ use mathlib.Core.Option.{Option, none, some}
 use native.Mathlib.Omega.{arith}
 use lib.Dec.{leb, ltb}
 use borrow.Author.Tests.{le-leb, eqb-true, eq-eqb}
-use Rattle.blocks.specs.Lists.{any}
+use Rattle.blocks.specs.Lists.{any, All}
+use Rattle.blocks.specs.Blocks.{block}
 use Rattle.blocks.proofs.BoolLaws.{byT, clash, not-false}
 use Rattle.blocks.proofs.ListLaws.{first-yes, each, look}
+use Rattle.blocks.proofs.BlockLaws.{block-at}
 use Rattle.model.specs.declared.Entry.{Entry}
 use Rattle.model.specs.Model.{
   Valid,
@@ -18,6 +20,7 @@ use Rattle.model.specs.Model.{
   maxOrder,
   aligned,
   markCount,
+  matchedMark,
   covers,
   covering,
   over,
@@ -26,8 +29,8 @@ use Rattle.model.specs.Model.{
   store,
   remark,
 }
-use Rattle.model.specs.ByBlock as B
 use Rattle.model.proofs.AlignedLaws.{base-aligned, store-is}
+use Rattle.model.proofs.RangeLaws.{Room}
 use Rattle.model.proofs.ValidLaws.{sorted-ok, room, room-some, erase-clear, erase-none}
 use Rattle.tree.proofs.ReadLaws.{over-some, over-none}
 use Rattle.marks.proofs.RemarkLaws.{remark-none}
@@ -39,7 +42,16 @@ use Rattle.execute.specs.Execute.{execute, short}
 use Rattle.execute.specs.State.{State, next}
 use Rattle.execute.specs.Part.{rangeOf, addressed, changing, mayWrite}
 use Rattle.execute.proofs.ExecuteLaws.{Kept, load-list, find-list}
-use Rattle.execute.proofs.LocalLaws.{Agree, agree-store, agree-clear, agree-map, agree-move}
+use Rattle.execute.proofs.LocalLaws.{
+  Agree,
+  agree-store,
+  agree-clear,
+  agree-then,
+  agree-map,
+  agree-move,
+  only-found,
+  only-stored,
+}
 use Rattle.execute.proofs.PartLaws.{word-same}
 use Rattle.execute.proofs.TableLaws.{covered-0, covering-marked, covering-stored}
 
@@ -62,7 +74,7 @@ module _ (n : ℕ) (l : List Entry) (v : Valid l) where
     kept x t = rw t
 
     agree-mark : {e : Entry} → covering l i ≡ some e → Agree (e .base) (e .order) l (remark l i m b)
-    agree-mark q = agree-map (withMark i m b) (λ x. refl) (λ x. refl) i kept v q
+    agree-mark q = agree-map (withMark i m b) (λ x. refl) (λ x. refl) i kept (only-found i v q)
 
   mark-within : (i m : ℕ) → Within n l (Mark i m)
   unfolding execute
@@ -115,28 +127,37 @@ module _ (n : ℕ) (l : List Entry) (v : Valid l) where
   module _ (i k w : ℕ) where
     replaced : {e : Entry} → covering l i ≡ some e → any (over i k) l ≡ true →
         Agree (rangeOf (record { index = i; order = k }) (covering l i) .index)
-        (rangeOf (record { index = i; order = k }) (covering l i) .order) l (B.store l i k w)
+        (rangeOf (record { index = i; order = k }) (covering l i) .order) l (store l i k w)
     replaced {e} q t =
         let h : leb k (e .order) ≡ true = sym (over-some l i k e v q) ∙ t in
-        rw (t, q, h) (agree-map (withWord i w) (λ x. refl) (λ x. refl) i (λ x z. rw z) v q)
+        rw (t, q, h) (agree-map (withWord i w) (λ x. refl) (λ x. refl) i (λ x z. rw z) (only-found i v q))
 
-    fresh : (o : Option Entry) → covering l i ≡ o → any (over i k) l ≡ false →
+    -- the new entry, then its mark 2
+    agree-new : aligned k i ≡ true → any (over i k) l ≡ false → Agree i k l (store l i k w)
+    agree-new al t =
+        let r : All (Room i k) l = room l i k t in
+        rw (store-is i k al l w, t)
+        (agree-then i k (agree-store i k w l r)
+        (agree-move (block k i * 2 ^ k) i k (block-at k (block k i))
+        (agree-map (withMark i matchedMark false) (λ x. refl) (λ x. refl) i (λ x z. rw z) (only-stored i k w l r))))
+
+    fresh : aligned k i ≡ true → (o : Option Entry) → covering l i ≡ o → any (over i k) l ≡ false →
         Agree (rangeOf (record { index = i; order = k }) o .index)
-        (rangeOf (record { index = i; order = k }) o .order) l (B.store l i k w)
-    fresh o q t = rw (t, range o q) (agree-store i k w l (room l i k t))
+        (rangeOf (record { index = i; order = k }) o .order) l (store l i k w)
+    fresh al o q t = rw (range o q) (agree-new al t)
       where
         range : (o : Option Entry) → covering l i ≡ o →
             rangeOf (record { index = i; order = k }) o ≡ record { index = i; order = k }
         range none q = refl
         range (some e) q = rw (sym (over-some l i k e v q) ∙ t)
 
-    done : Agree (rangeOf (record { index = i; order = k }) (covering l i) .index)
-        (rangeOf (record { index = i; order = k }) (covering l i) .order) l (B.store l i k w)
-    done = byT (any (over i k) l) (λ t. found (covering l i) refl t) (λ t. fresh (covering l i) refl t)
+    within-range : aligned k i ≡ true →
+        Agree (addressed l (Store i k w) .index) (addressed l (Store i k w) .order) l (store l i k w)
+    within-range al = byT (any (over i k) l) (λ t. found (covering l i) refl t) (λ t. fresh al (covering l i) refl t)
       where
         found : (o : Option Entry) → covering l i ≡ o → any (over i k) l ≡ true →
             Agree (rangeOf (record { index = i; order = k }) (covering l i) .index)
-            (rangeOf (record { index = i; order = k }) (covering l i) .order) l (B.store l i k w)
+            (rangeOf (record { index = i; order = k }) (covering l i) .order) l (store l i k w)
         found none q t = absurd (clash t (over-none l i k q))
         found (some e) q t = replaced q t
 
@@ -145,9 +166,6 @@ module _ (n : ℕ) (l : List Entry) (v : Valid l) where
         ≡ true
     range-aligned al none q = al
     range-aligned al (some e) q = byT (leb k (e .order)) (λ h. rw h (entry-range i q)) (λ h. rw h al)
-
-    within-range : aligned k i ≡ true → Agree (addressed l (Store i k w) .index) (addressed l (Store i k w) .order) l (store l i k w)
-    within-range al = rw (store-is i k al l w) done
 
     store-within : Within n l (Store i k w)
     unfolding execute

@@ -12,13 +12,14 @@ use borrow.Author.Tests.{le-leb, eqb-true}
 use Rattle.blocks.specs.Lists.{any, All, end, also, In}
 use Rattle.blocks.specs.Blocks.{block}
 use Rattle.blocks.proofs.BoolLaws.{byT, is-false}
-use Rattle.blocks.proofs.ListLaws.{first-yes, each}
+use Rattle.blocks.proofs.ListLaws.{All-map, first-yes, each, look}
 use Rattle.blocks.proofs.BlockLaws.{block-at}
 use Rattle.model.specs.declared.Entry.{Entry}
 use Rattle.model.specs.Model.{Valid, covers, covering, within}
-use Rattle.model.specs.ByBlock.{clear, storeNew}
+use Rattle.model.specs.ByBlock.{clear, newEntry, storeNew}
+use Rattle.model.proofs.InsertLaws.{All-insert}
 use Rattle.model.proofs.ValidLaws.{unique}
-use Rattle.model.proofs.RangeLaws.{Room, InRun, Apart, clear-apart, clear-covering-not}
+use Rattle.model.proofs.RangeLaws.{Room, InRun, Apart, clear-apart, clear-uncovered, clear-covering-not}
 use Rattle.tree.specs.Tree.{slots, tierOrder, height, has, slotMark}
 use Rattle.tree.specs.Slots.{Numbering, slot}
 use Rattle.tree.proofs.RelabelLaws.{mapO, covering-map}
@@ -51,15 +52,29 @@ agree-store i k w l r = record {
   covering-same = λ y f. store-covering-not i k w l r y f;
 }
 
+-- one change after another
+pub agree-then : (i k : ℕ) {l l₁ l₂ : List Entry} → Agree i k l l₁ → Agree i k l₁ l₂ → Agree i k l l₂
+agree-then i k a b = record {
+  any-same = λ p j c o h. b .any-same p j c o h ∙ a .any-same p j c o h;
+  covering-same = λ y f. b .covering-same y f ∙ a .covering-same y f;
+}
+
+-- e is the one entry over i, where it is found there, and after it was stored as a new one
+abbrev pub Only : (i : ℕ) → Entry → List Entry → Type 0
+Only i e l = All (λ x. covers i x ≡ true → x ≡ e) l
+
+pub only-found : (i : ℕ) {l : List Entry} {e : Entry} → Valid l → covering l i ≡ some e → Only i e l
+only-found i {l} v q = let (c, k) = first-yes (covers i) (each l (λ x m. m)) q in each l (λ x m t. unique i v m k t c)
+
+pub only-stored : (i k w : ℕ) (l : List Entry) → All (Room i k) l → Only i (newEntry l i k w) (storeNew l i k w)
+only-stored i k w l r =
+    All-insert (newEntry l i k w) (λ _. refl) (All-map (λ x f t. absurd (f t)) (clear-uncovered i k l r i refl))
+
 -- a map that keeps bases and orders, and all entries but the one over i
 module _ (f : Entry → Entry) (fb : (x : Entry) → f x .base ≡ x .base) (fo : (x : Entry) → f x .order ≡ x .order)
-    (i : ℕ) (fx : (x : Entry) → covers i x ≡ false → f x ≡ x) {l : List Entry} {e : Entry} (v : Valid l)
-    (q : covering l i ≡ some e) where
-  over-e : covers i e ≡ true
-  over-e = first-yes (covers i) (each l (λ x m. m)) q .0
-
+    (i : ℕ) (fx : (x : Entry) → covers i x ≡ false → f x ≡ x) {l : List Entry} {e : Entry} (sole : Only i e l) where
   is-e : {x : Entry} → In x l → covers i x ≡ true → x ≡ e
-  is-e m t = unique i v m (first-yes (covers i) (each l (λ x m. m)) q .1) t over-e
+  is-e m = look sole m
 
   any-kept : (p : Entry → Bool) {s : List Entry} → All (λ x. p (f x) ≡ p x) s → any p (map f s) ≡ any p s
   any-kept p end = refl

@@ -1,5 +1,5 @@
 -- What each command comes to, test by test as the code has them.
-use Prim.Native.Nat.{ℕ, _-_, _≤_, _<_}
+use Prim.Native.Nat.{ℕ, _-_, _^_, _≤_, _<_}
 use mathlib.Core.Path.{_≡_, refl, sym, ap, subst, _∙_}
 use mathlib.Core.Bool.{Bool, true, false}
 use mathlib.Core.Logic.{_≢_}
@@ -7,25 +7,42 @@ use mathlib.Core.List.{List}
 use mathlib.Core.Option.{Option, none, some}
 use native.Mathlib.Omega.{arith}
 use lib.ListN.{length}
-use lib.Dec.{leb}
+use lib.Dec.{leb, T}
 use borrow.Author.Tests.{leb-true, leb-false, lt-ltb, le-ltb, le-leb, lt-leb, eq-eqb, ne-eqb}
 use Rattle.blocks.specs.Choice.{pick}
 use Rattle.blocks.proofs.BoolLaws.{byT}
 use Rattle.model.specs.declared.Entry.{Entry}
-use Rattle.model.specs.Model.{covering, covered, storable, maxOrder, aligned, store, erase, remark, markCount}
+use Rattle.model.specs.Model.{
+  covering,
+  covered,
+  storable,
+  maxOrder,
+  aligned,
+  store,
+  erase,
+  remark,
+  markCount,
+  matchedMark,
+}
+use Rattle.model.specs.ByBlock as B
+use Rattle.model.proofs.AlignedLaws.{store-is}
 use Rattle.tree.specs.Tree.{nodes, needed}
-use Rattle.marks.proofs.RemarkLaws.{places-remark}
+use Rattle.marks.proofs.RemarkLaws.{new-nodes-remark, places-remark, places-then-remark}
 use Rattle.layout.specs.Places.{Places, newPlaces, prune, freeCount, render}
-use Rattle.layout.specs.WellFormed.{WellFormed}
+use Rattle.layout.specs.WellFormed.{WellFormed, InUse}
 use Rattle.layout.proofs.PlacesLaws.{free-places}
 use Rattle.layout.proofs.StayLaws.{same-places, places-prune}
 use Rattle.lookup.specs.Load.{load, loaded, depth}
 use Rattle.lookup.specs.Find.{anyMark, find}
 use Rattle.store.specs.declared.Stored.{Stored}
-use Rattle.store.specs.Stored.{Holding, Stores}
+use Rattle.store.specs.declared.Stored.the-variants.{Done, Short}
+use Rattle.store.specs.Stored.{Stores}
+use Rattle.store.proofs.AfterLaws.{after-done}
+use Rattle.erase.proofs.FreedLaws.{in-use-remark}
 use Rattle.batch.specs.declared.Command.{Command}
 use Rattle.batch.specs.declared.Command.the-variants.{Store, Load, Erase, Find}
 use Rattle.batch.specs.declared.Reply.{Reply}
+use Rattle.batch.specs.Reply.{answered}
 use Rattle.execute.specs.Execute.{
   Executed,
   execute,
@@ -40,9 +57,10 @@ use Rattle.execute.specs.Execute.{
   markAbove,
   firstAbove,
   noBudget,
+  tooFewNodes,
 }
 use Rattle.execute.proofs.ExecuteLaws.{erase-new, short-11, enough-0}
-use Rattle.execute.specs.Contracts.{coveredReply, loadedReply, storedReply, remarking, replyTo, wordsTo, Executes}
+use Rattle.execute.specs.Contracts.{coveredReply, loadedReply, remarking, replyTo, wordsTo, asStored, Settles, Executes}
 
 -- REPLIES
 pub loaded-is : (t d : ℕ) (o : Option Entry) → loadedReply t (loaded d o) ≡ replyOf t d o
@@ -119,6 +137,25 @@ remarks s c t i m b e r w = record {
       ∙ sym (words-after s c (ap (λ (x : Executed). x .list) e));
 }
 
+-- back from such a command: the words, and the reply with the tag of a store's
+pub unmarked-words : {ws ws′ : List ℕ} (s : WellFormed ws) (i m : ℕ) {q : Reply} → m < markCount →
+    Executes s (remarking i m false) q ws′ → ws′ ≡ render (remark (s .list) i m false) (s .places) (s .n)
+unmarked-words s i m h x =
+    x .words-are
+    ∙ words-after s (remarking i m false) (ap (λ (y : Executed). y .list) (remark-runs (s .n) (s .list) i m false h))
+    ∙ ap (λ (os : Places). render (remark (s .list) i m false) os (s .n)) (places-remark (s .list) i m false (s .placed))
+
+pub unmarked-reply : {ws ws′ : List ℕ} (s : WellFormed ws) (i m : ℕ) {q : Reply} → m < markCount →
+    Executes s (remarking i m false) q ws′ →
+    asStored q ≡ coveredReply 129 (covered (covering (remark (s .list) i m false) i))
+unmarked-reply s i m h x =
+    ap asStored (x .reply-is ∙ ap (λ (y : Executed). y .reply) (remark-runs (s .n) (s .list) i m false h))
+    ∙ go (covering (remark (s .list) i m false) i)
+  where
+    go : (o : Option Entry) → asStored (replyOf 133 0 o) ≡ coveredReply 129 (covered o)
+    go none = refl
+    go (some e) = refl
+
 -- an erase
 pub erases : {ws ws′ : List ℕ} (s : WellFormed ws) (i : ℕ) {q : Reply} →
     q ≡ coveredReply 131 (covered (covering (s .list) i)) →
@@ -147,39 +184,95 @@ module _ (n : ℕ) (l : List Entry) (i k w : ℕ) where
   unfolding execute
   store-word h a e = rw (le-ltb maxOrder k h, a, e)
 
--- done, or short of nodes: exactly as the free nodes are enough
-pub stores : {ws ws′ : List ℕ} (s : WellFormed ws) (i k w : ℕ) {x : Stored} {q : Reply} → k ≤ maxOrder →
-    aligned k i ≡ true → storable w ≡ true → Stores (s .n) (s .list) (s .places) (store (s .list) i k w) i ws ws′ x →
-    q ≡ storedReply 129 x →
-    Executes s (Store i k w) q ws′
-stores {ws} {ws′} s i k w {x} {q} h g t r e =
-    byT (leb (needed (s .list) l′) (freeCount (s .places))) (λ d. full (leb-true _ _ d)) (λ d. less (leb-false _ _ d))
-  where
-    l′ : List Entry
-    l′ = store (s .list) i k w
+-- its last step, by what it came to
+module _ {ws : List ℕ} (s : WellFormed ws) (i : ℕ) {x : Stored} {q : Reply} where
+  pub settles-done : {ws′ : List ℕ} {e : Entry} → x ≡ Done e →
+      (covering (s .list) i ≡ some e → (q ≡ coveredReply 129 (covered (covering (remark (s .list) i matchedMark false) i)))
+      × (ws′ ≡ render (remark (s .list) i matchedMark false) (s .places) (s .n))) →
+      Settles s i x q ws′
+  settles-done {e = e} d f = record {
+    done = λ {e = y} o c. let g : y ≡ e = cc in f (subst (λ (z : Entry). covering (s .list) i ≡ some z) g c);
+    short = λ o. let w : _≡_ {A = ℕ} 0 1 = cc in absurd (omega arith);
+  }
 
-    free : freeCount (s .places) ≡ s .n - length (nodes (s .list))
-    free = omega (arith, free-places (s .n) (s .list) (s .places) (s .placed))
+  pub settles-short : x ≡ Short → q ≡ answered 129 tooFewNodes 0 0 → Settles s i x q ws
+  settles-short d e = record {
+    done = λ o c. let w : _≡_ {A = ℕ} 0 1 = cc in absurd (omega arith);
+    short = λ _. (e, refl);
+  }
 
-    full : needed (s .list) l′ ≤ freeCount (s .places) → Executes s (Store i k w) q ws′
-    full d =
-        let o : Holding (s .n) (s .list) (s .places) l′ i ws′ x = r .done d in
-        let a : execute (s .n) (s .list) (Store i k w)
-        ≡ record { reply = replyOf 129 0 (covering l′ i); list = l′ } =
-        enough-0 (s .n) (s .list) i k w h g t (omega (arith, free)) in
-        record {
-          reply-is =
-              e ∙ ap (storedReply 129) (o .outcome-is) ∙ sym (ap (replyOf 129 0) (o .covering-is))
-              ∙ sym (ap (λ (y : Executed). y .reply) a);
-          words-are = o .words-are ∙ sym (words-after s (Store i k w) (ap (λ (y : Executed). y .list) a));
-        }
+-- done, or short of nodes: exactly as the free nodes are enough. Crate store leaves ws₁, in ws′ mark 2 is clear as well
+module _ {ws ws₁ : List ℕ} (s : WellFormed ws) (i k w : ℕ) {x : Stored} (i< : i < 2 ^ 64) (w< : w < 2 ^ 64)
+    (k≤ : k ≤ maxOrder) (st : storable w ≡ true)
+    (r : Stores (s .n) (s .list) (s .places) (B.store (s .list) i k w) i ws ws₁ x) where
+  abbrev l₁ : List Entry
+  l₁ = B.store (s .list) i k w
 
-    less : freeCount (s .places) < needed (s .list) l′ → Executes s (Store i k w) q ws′
-    less d =
-        let (o, f) = r .short d in
-        subst (λ (v : List ℕ). Executes s (Store i k w) q v) (sym f)
-        (leaves s (Store i k w) (short-11 (s .n) (s .list) i k w h g t (omega (arith, free)))
-        (e ∙ ap (storedReply 129) o))
+  abbrev l₂ : List Entry
+  l₂ = remark l₁ i matchedMark false
+
+  abbrev Enough : Type 0
+  Enough = needed (s .list) l₁ ≤ freeCount (s .places)
+
+  abbrev Lacking : Type 0
+  Lacking = freeCount (s .places) < needed (s .list) l₁
+
+  by-room : {A : Type 0} → (Enough → A) → (Lacking → A) → A
+  by-room f g =
+      byT (leb (needed (s .list) l₁) (freeCount (s .places))) (λ d. f (leb-true _ _ d)) (λ d. g (leb-false _ _ d))
+
+  abbrev done-formed : Enough → WellFormed ws₁
+  done-formed d = after-done s i k w i< k≤ (subst T (sym st) tt) w< r d
+
+  pub store-formed : WellFormed ws₁
+  store-formed = by-room done-formed (λ d. subst WellFormed (sym (r .short d .1)) s)
+
+  module _ {ws′ : List ℕ} {q : Reply} (z : (t : WellFormed ws₁) → Settles t i x q ws′) where
+    settled : (d : Enough) → (q ≡ coveredReply 129 (covered (covering l₂ i)))
+        × (ws′ ≡ render l₂ (newPlaces (s .list) l₁ (s .places)) (s .n))
+    settled d = z (done-formed d) .done (r .done d .outcome-is) (r .done d .covering-is)
+
+    pub store-in-use : {low : ℕ} → InUse low ws₁ → InUse low ws′
+    store-in-use u =
+        by-room (λ d. in-use-remark (done-formed d) i matchedMark false (omega arith) (settled d .1) u)
+        (λ d. subst (InUse _) (sym (z store-formed .short (r .short d .0) .1)) u)
+
+    module _ (al : aligned k i ≡ true) where
+      free : freeCount (s .places) ≡ s .n - length (nodes (s .list))
+      free = omega (arith, free-places (s .n) (s .list) (s .places) (s .placed))
+
+      new-is : store (s .list) i k w ≡ l₂
+      new-is = store-is i k al (s .list) w
+
+      -- clearing a mark takes no node, and no node goes
+      same-needed : needed (s .list) (store (s .list) i k w) ≡ needed (s .list) l₁
+      same-needed = ap (needed (s .list)) new-is ∙ ap length (new-nodes-remark (s .list) l₁ i matchedMark false)
+
+      full : Enough → Executes s (Store i k w) q ws′
+      full d =
+          let a : execute (s .n) (s .list) (Store i k w) ≡ record { reply = replyOf 129 0 (covering l₂ i); list = l₂ } =
+          enough-0 (s .n) (s .list) i k w k≤ al st (omega (arith, free, same-needed))
+          ∙ ap (λ (l : List Entry). record { reply = replyOf 129 0 (covering l i); list = l }) new-is in
+          record {
+            reply-is =
+                settled d .0 ∙ covered-is 129 (covering l₂ i) ∙ sym (ap (λ (y : Executed). y .reply) a);
+            words-are =
+                settled d .1
+                ∙ ap (λ (os : Places). render l₂ os (s .n))
+                (sym (places-then-remark (s .list) l₁ (s .places) i matchedMark false))
+                ∙ sym (words-after s (Store i k w) (ap (λ (y : Executed). y .list) a));
+          }
+
+      less : Lacking → Executes s (Store i k w) q ws′
+      less d =
+          let (o, f) = r .short d in
+          let (e, g) = z store-formed .short o in
+          subst (λ (v : List ℕ). Executes s (Store i k w) q v) (sym (g ∙ f))
+          (leaves s (Store i k w)
+          (short-11 (s .n) (s .list) i k w k≤ al st (omega (arith, free, same-needed))) e)
+
+      pub stores : Executes s (Store i k w) q ws′
+      stores = by-room full less
 
 -- COMMANDS THAT ONLY READ
 pub leaves-words : {ws : List ℕ} (s : WellFormed ws) (c : Command) {q : Reply} →

@@ -16,11 +16,11 @@ use Rattle.model.specs.Model.{
   maxOrder,
   aligned,
   markCount,
+  matchedMark,
   covering,
   over,
   store,
   erase,
-  withWord,
   withMark,
   remark,
 }
@@ -85,15 +85,15 @@ module _ (l : List Entry) where
   covering-marked i m b q = covering-map (withMark i m b) (λ x. refl) (λ x. refl) i l ∙ ap (mapO (withMark i m b)) q
 
   -- a store leaves an entry over its index
-  pub covering-stored : (i k w : ℕ) → aligned k i ≡ true → (e : Entry) × (covering (store l i k w) i ≡ some e)
-  covering-stored i k w al = rw (store-is i k al l w) (byT (any (over i k) l) (λ t. go t (covering l i) refl)
-      (λ t. (B.newEntry l i k w, rw t (store-covering i k w l (room l i k t) i refl))))
+  covering-kept : (i k w : ℕ) → (e : Entry) × (covering (B.store l i k w) i ≡ some e)
+  covering-kept i k w = byT (any (over i k) l) (λ t. go t (covering l i) refl)
+      (λ t. (B.newEntry l i k w, rw t (store-covering i k w l (room l i k t) i refl)))
     where
       go : any (over i k) l ≡ true → (o : Option Entry) → covering l i ≡ o →
           (e : Entry) × (covering (B.store l i k w) i ≡ some e)
       go t none q = absurd (clash t (over-none l i k q))
       go t (some e) q =
-          (withWord i w e, rw t (covering-map (withWord i w) (λ x. refl) (λ x. refl) i l ∙ ap (mapO (withWord i w)) q))
+          (B.withWord i w e, rw t (covering-map (B.withWord i w) (λ x. refl) (λ x. refl) i l ∙ ap (mapO (B.withWord i w)) q))
 
   marked-none : (t i m : ℕ) (b : Bool) → covering l i ≡ none → marking t l i m b ≡ leave l (replyOf t 0 none)
   marked-none t i m b q = rw (remark-none l i m b q, q)
@@ -101,6 +101,14 @@ module _ (l : List Entry) where
   marked-some : (t i m : ℕ) (b : Bool) {e : Entry} → covering l i ≡ some e →
       marking t l i m b ≡ record { reply = replyOf t 0 (some (withMark i m b e)); list = remark l i m b }
   marked-some t i m b q = rw (covering-marked i m b q)
+
+pub covering-stored : (l : List Entry) (i k w : ℕ) → aligned k i ≡ true →
+    (e : Entry) × (covering (store l i k w) i ≡ some e)
+covering-stored l i k w al =
+    let (e, q) = covering-kept l i k w in (
+      withMark i matchedMark false e,
+      rw (store-is i k al l w) (covering-marked (B.store l i k w) i matchedMark false q),
+    )
 
 module _ (n : ℕ) (l : List Entry) (i : ℕ) where
   loads : {o : Option Entry} → covering l i ≡ o → leave l (replyOf 130 (depth l i) o) ≡ execute n l (Load i)

@@ -3,8 +3,11 @@ use Prim.Native.Nat.{ℕ}
 use mathlib.Core.Path.{_≡_}
 use mathlib.Core.Bool.{Bool, true, false}
 use mathlib.Core.List.{List}
+use mathlib.Core.Option.{some}
+use Rattle.model.specs.declared.Entry.{Entry}
 use Rattle.model.specs.declared.Covered.{Covered}
 use Rattle.model.specs.declared.Covered.the-variants.{Nothing, By}
+use Rattle.model.specs.Model.{matchedMark, covering, covered, remark}
 use Rattle.layout.specs.Places.{render}
 use Rattle.layout.specs.WellFormed.{WellFormed}
 use Rattle.lookup.specs.declared.Loaded.{Loaded}
@@ -28,11 +31,6 @@ abbrev pub loadedReply : ℕ → Loaded → Reply
 loadedReply t (Absent d) = answered t absent 0 d
 loadedReply t (Present e d) = answeredBy t e d
 
--- the reply by what a store comes to
-abbrev pub storedReply : ℕ → Stored → Reply
-storedReply t (Done e) = answeredBy t e 0
-storedReply t Short = answered t tooFewNodes 0 0
-
 -- the command that sets a mark, or clears it
 abbrev pub remarking : (i m : ℕ) → Bool → Command
 remarking i m true = Mark i m
@@ -49,6 +47,26 @@ replyTo s c = execute (s .n) (s .list) c .reply
 -- the words that it leaves
 abbrev pub wordsTo : {ws : List ℕ} → WellFormed ws → Command → List ℕ
 wordsTo s c = let t = next (s .n) (stateOf s) c in render (t .list) (t .places) (s .n)
+
+-- a reply with the tag of a store's
+abbrev pub asStored : Reply → Reply
+asStored r =
+    record {
+      tag = 129;
+      answer = r .answer;
+      index = r .index;
+      order = r .order;
+      word = r .word;
+      marks = r .marks;
+      count = r .count;
+    }
+
+-- the last step of a store that came to x: mark 2 of the entry that it left over i is cleared, and the reply
+pub record Settles {ws : List ℕ} (s : WellFormed ws) (i : ℕ) (x : Stored) (r : Reply) (ws′ : List ℕ) : Type 0 where
+  pub done : {e : Entry} → x ≡ Done e → covering (s .list) i ≡ some e →
+      (r ≡ coveredReply 129 (covered (covering (remark (s .list) i matchedMark false) i)))
+      × (ws′ ≡ render (remark (s .list) i matchedMark false) (s .places) (s .n))
+  pub short : x ≡ Short → (r ≡ answered 129 tooFewNodes 0 0) × (ws′ ≡ ws)
 
 -- the reply and the words after a command
 pub record Executes {ws : List ℕ} (s : WellFormed ws) (c : Command) (r : Reply) (ws′ : List ℕ) : Type 0 where

@@ -10,13 +10,16 @@ use model::Covered;
 use model::Entry;
 use store::Stored;
 ghost use mathlib.Core.Path.{_≡_};
+ghost use mathlib.Core.Bool.{false};
+ghost use mathlib.Core.Option.{some};
 ghost use Prim.Native.Nat.{ℕ, _≤_};
 ghost use Rattle.blocks.specs.Choice.{pick};
-ghost use Rattle.model.specs.Model.{storable, maxOrder, aligned};
+ghost use Rattle.model.specs.Model.{storable, maxOrder, aligned, matchedMark, covering, covered, remark};
+ghost use Rattle.layout.specs.Places.{render};
 ghost use Rattle.layout.specs.WellFormed.{WellFormed, InUse};
 ghost use Rattle.batch.specs.Reply.{answered, answeredBy};
 ghost use Rattle.execute.specs.Execute.{finding};
-ghost use Rattle.execute.specs.Contracts.{coveredReply, loadedReply, storedReply, remarking, replyTo, Executes};
+ghost use Rattle.execute.specs.Contracts.{coveredReply, loadedReply, remarking, replyTo, asStored, Settles, Executes};
 
 // The answers that stand in a reply, and the reply's tags.
 const ORDER_ABOVE: u64 = 5;
@@ -57,6 +60,9 @@ const MAX_ORDER: u64 = 63;
 const MARKS: u64 = 3;
 
 const ANY_MARK: u64 = 3;
+
+// The mark that no store hands on (R190).
+const MATCHED: u64 = 2;
 
 // A command's reply, and the next command's `low`.
 pub struct Execution {
@@ -119,15 +125,6 @@ fn found_reply(x: Outcome) -> Reply
         Outcome::Found(e, n) => answered_by(FOUND, e, n),
         Outcome::Ended(n) => answered(FOUND, FIND_ENDED, 0, n),
         Outcome::Paused(p, n) => answered(FOUND, FIND_PAUSED, p, n),
-    }
-}
-
-fn stored_reply(x: Stored) -> Reply
-    ensures { λ r. ⌜ r ≡ storedReply 129 x ⌝ }
-{
-    match x {
-        Stored::Done(e) => answered_by(STORED, e, 0),
-        Stored::Short => answered(STORED, TOO_FEW_NODES, 0, 0),
     }
 }
 
@@ -208,6 +205,48 @@ fn run_erase(pool: &mut [u64], index: u64, low: u64) -> Execution
     }
 }
 
+// The reply to an unmark as the reply to a store that left the entry.
+fn as_stored(r: Reply) -> Reply
+    ensures { λ x. ⌜ x ≡ asStored r ⌝ }
+{
+    Reply {
+        tag: STORED,
+        answer: r.answer,
+        index: r.index,
+        order: r.order,
+        word: r.word,
+        marks: r.marks,
+        count: r.count,
+    }
+}
+
+// Clears mark 2 of the entry e that covers the index (R190); the reply of a store that left it. Where e does not have the
+// mark, this is one test.
+fn unmatch(pool: &mut [u64], index: u64, e: Entry) -> Reply
+    requires { ⌜ WellFormed (now pool) ⌝ }
+    ensures { λ r. ⌜ ((s : WellFormed (now (pool .entry))) → covering (s .list) index ≡ some e →
+        r ≡ coveredReply 129 (covered (covering (remark (s .list) index matchedMark false) index))) ⌝ }
+    ensures { λ _. ⌜ ((s : WellFormed (now (pool .entry))) → covering (s .list) index ≡ some e →
+        now (pool .exit) ≡ render (remark (s .list) index matchedMark false) (s .places) (s .n)) ⌝ }
+{
+    if (e.marks >> MATCHED) % 2 == 1 {
+        let r = run_remark(pool, index, MATCHED, false);
+        return as_stored(r);
+    }
+    answered_by(STORED, e, 0)
+}
+
+// The reply to a store by what it came to.
+fn stored_reply(pool: &mut [u64], index: u64, x: Stored) -> Reply
+    requires { ⌜ WellFormed (now pool) ⌝ }
+    ensures { λ r. ⌜ ((s : WellFormed (now (pool .entry))) → Settles s index x r (now (pool .exit))) ⌝ }
+{
+    match x {
+        Stored::Done(e) => unmatch(pool, index, e),
+        Stored::Short => answered(STORED, TOO_FEW_NODES, 0, 0),
+    }
+}
+
 fn run_store(pool: &mut [u64], index: u64, order: u64, word: u64, low: u64) -> Execution
     requires { ⌜ WellFormed (now pool) ⌝ }
     requires { ⌜ InUse low (now pool) ⌝ }
@@ -239,7 +278,7 @@ fn run_store(pool: &mut [u64], index: u64, order: u64, word: u64, low: u64) -> E
     let outcome = r.outcome;
     let next = r.low;
     Execution {
-        reply: stored_reply(outcome),
+        reply: stored_reply(pool, index, outcome),
         low: next,
     }
 }

@@ -1,7 +1,10 @@
--- Places that stay as they are: where a change of the list needs no node and every node stays.
+-- Places that stay as they are: where a change of the list needs no node and every node stays. Changes that leave the
+-- same nodes take the same places.
 use Prim.Native.Nat.{ℕ}
-use mathlib.Core.Path.{_≡_, refl, ap, _∙_}
+use mathlib.Core.Path.{_≡_, refl, ap, ap₂, _∙_}
+use mathlib.Core.Bool.{Bool}
 use mathlib.Core.List.{List, []}
+use Rattle.blocks.specs.Placing as P
 use Rattle.blocks.proofs.ListLaws.{each, without-all}
 use Rattle.model.specs.declared.Entry.{Entry}
 use Rattle.tree.specs.Tree.{has, Node, nodes, newNodes}
@@ -19,6 +22,12 @@ pub places-stay : {n : ℕ} (l l′ : List Entry) {os : Places} → Placed n l o
 places-stay l l′ {os} pl e f =
     places-prune l l′ os e
     ∙ prune-same l′ os (λ p m. f (p .tier) (p .number) ∙ pl .sound p m)
+
+-- the same nodes are new, and the same stay
+pub places-alike : (l l₁ l₂ : List Entry) (os : Places) → newNodes l l₂ ≡ newNodes l l₁ →
+    ((u b : ℕ) → has l₂ u b ≡ has l₁ u b) → newPlaces l l₂ os ≡ newPlaces l l₁ os
+places-alike l l₁ l₂ os e f =
+    ap₂ (λ (t : Node → Bool) (ps : List Node). P.prune t (allocate os ps)) (λ j p. f (p .tier) (p .number) j) e
 
 -- a list that stays needs no node
 pub none-new : (l : List Entry) → newNodes l l ≡ []

@@ -1,5 +1,5 @@
 -- A pool with a mark changed: still well-formed, and what set_mark answers.
-use Prim.Native.Nat.{ℕ, suc, _<_}
+use Prim.Native.Nat.{ℕ, suc, _+_, _*_, _-_, _^_, _<_}
 use mathlib.Core.Path.{_≡_, refl, sym, ap, ap₂, subst, _∙_}
 use mathlib.Core.Bool.{Bool, true, false}
 use mathlib.Core.List.{List, [], _∷_}
@@ -9,14 +9,15 @@ use lib.Dec.{eqb}
 use lib.ListN.{getD, set}
 use borrow.Author.Tests.{eq-eqb, ne-eqb}
 use Rattle.blocks.specs.Choice.{pick}
-use Rattle.blocks.specs.Blocks.{block, bitsTo, setBit}
+use Rattle.blocks.specs.Blocks.{block, bit, bitsTo, setBit}
 use Rattle.blocks.proofs.BoolLaws.{byT}
 use Rattle.blocks.specs.Lists.{All, there, end, also}
-use Rattle.blocks.proofs.ListLaws.{first-yes, each, first-no}
+use Rattle.blocks.proofs.ListLaws.{All-map, first-yes, each, first-no}
 use Rattle.blocks.proofs.BitLaws.{bits-lt}
 use Rattle.model.specs.declared.Entry.{Entry}
 use Rattle.model.specs.Model.{
   Sorted,
+  Valid,
   done,
   more,
   covers,
@@ -29,8 +30,8 @@ use Rattle.model.specs.Model.{
   markCount,
 }
 use Rattle.model.specs.declared.Covered.the-variants.{Nothing, By}
-use Rattle.tree.specs.Tree.{height, tierOrder}
-use Rattle.tree.proofs.RelabelLaws.{mapO, covering-map, has-map, new-nodes-map}
+use Rattle.tree.specs.Tree.{height, tierOrder, newNodes}
+use Rattle.tree.proofs.RelabelLaws.{mapO, covering-map, has-map, new-nodes-map, new-nodes-then}
 use Rattle.tree.specs.Slots.{Numbering}
 use Rattle.layout.specs.Places.{Places, Placed, render, newPlaces}
 use Rattle.layout.specs.WellFormed.{WellFormed}
@@ -40,7 +41,8 @@ use Rattle.marks.proofs.HybridLaws.{hybrid-start, hybrid-end}
 use Rattle.marks.proofs.MarkLaws.{mark-entry}
 use Rattle.layout.specs.Words.{marksWord}
 use Rattle.model.proofs.MarkLaws.{marks-bits}
-use Rattle.layout.proofs.StayLaws.{places-stay}
+use Rattle.model.proofs.ValidLaws.{sole}
+use Rattle.layout.proofs.StayLaws.{places-stay, places-alike}
 
 -- A MARK CHANGED: still a list, at the same places
 set-small : (w m : ℕ) (b : Bool) → w < 8 → m < markCount → setBit m b w < 8
@@ -106,6 +108,26 @@ remark-none l i m b q = go (first-no (covers i) l q)
         off : (x : Entry) → covers i x ≡ false → withMark i m b x ≡ x
         off x t = rw t refl
 
+-- a mark that the entry there does not have
+clear-bit : (m y : ℕ) → bit m y ≡ 0 → setBit m false y ≡ y
+clear-bit m y z = ap (λ (b : ℕ). y - b * 2 ^ m + 0) z ∙ omega arith
+
+pub remark-clear : {l : List Entry} {e : Entry} (i m : ℕ) → Valid l → covering l i ≡ some e → bit m (e .marks) ≡ 0 →
+    remark l i m false ≡ l
+remark-clear {l} {e} i m v q z = go (All-map off (sole i v))
+  where
+    off : (x : Entry) → (covers i x ≡ true → covering l i ≡ some x) → withMark i m false x ≡ x
+    off x f =
+        ap (λ (y : ℕ). record { base = x .base; order = x .order; word = x .word; marks = y })
+        (byT (covers i x)
+        (λ t. let d : e ≡ x = cc (f t) in
+        rw t (clear-bit m (x .marks) (subst (λ (y : Entry). bit m (y .marks) ≡ 0) d z)))
+        (λ t. rw t))
+
+    go : {s : List Entry} → All (λ x. withMark i m false x ≡ x) s → remark s i m false ≡ s
+    go end = refl
+    go (also h a) = ap₂ _∷_ h (go a)
+
 pub words-none : {ws : List ℕ} (s : WellFormed ws) (i m : ℕ) (b : Bool) → covering (s .list) i ≡ none →
     ws ≡ render (remark (s .list) i m b) (s .places) (s .n)
 words-none s i m b q = s .words-are ∙ ap (λ (l : List Entry). render l (s .places) (s .n))
@@ -141,6 +163,15 @@ pub places-remark : {n : ℕ} (l : List Entry) {os : Places} (i m : ℕ) (b : Bo
     newPlaces l (remark l i m b) os ≡ os
 places-remark l i m b pl = places-stay l (remark l i m b) pl
     (new-nodes-map (withMark i m b) (λ x. refl) (λ x. refl) l)
+    (λ u c. has-map (withMark i m b) (λ x. refl) (λ x. refl) u c l)
+
+-- the same after another change of the list: its nodes are those of that change, at the same places
+pub new-nodes-remark : (old l : List Entry) (i m : ℕ) (b : Bool) → newNodes old (remark l i m b) ≡ newNodes old l
+new-nodes-remark old l i m b = new-nodes-then (withMark i m b) (λ x. refl) (λ x. refl) old l
+
+pub places-then-remark : (old l : List Entry) (os : Places) (i m : ℕ) (b : Bool) →
+    newPlaces old (remark l i m b) os ≡ newPlaces old l os
+places-then-remark old l os i m b = places-alike old l (remark l i m b) os (new-nodes-remark old l i m b)
     (λ u c. has-map (withMark i m b) (λ x. refl) (λ x. refl) u c l)
 
 -- THE ANSWER

@@ -1,25 +1,72 @@
--- Of an aligned index the store of `Model` is the one by blocks, so that the laws of the latter are laws of it.
+-- Of an aligned index the store of `Model` is the one by blocks with mark 2 of the entry over the index cleared, so that
+-- the laws of the latter, and of marks, are laws of it.
 use Prim.Native.Nat.{ℕ, _+_, _*_, _%_, _^_, _<_, _≤_}
-use mathlib.Core.Path.{_≡_, sym, ap, subst, _∙_}
-use mathlib.Core.Bool.{true}
-use mathlib.Core.List.{List}
+use mathlib.Core.Path.{_≡_, refl, sym, ap, ap₂, subst, _∙_}
+use mathlib.Core.Bool.{Bool, true, false}
+use mathlib.Core.List.{List, [], _∷_, map}
 use native.Mathlib.Omega.{arith}
 use native.Mathlib.Nat.{div-add-mod', mul-mod-left, zero-div, zero-mul}
-use lib.Dec.{T, leb, eqb}
+use lib.Dec.{leb, eqb}
 use borrow.Author.Tests.{leb-true, ltb-true, le-leb, lt-ltb, eqb-true, eq-eqb}
-use Rattle.blocks.specs.Blocks.{block}
-use Rattle.blocks.proofs.BoolLaws.{both-l, both-r, iff}
+use Rattle.blocks.specs.Choice.{pick}
+use Rattle.blocks.specs.Lists.{any, All, end, also}
+use Rattle.blocks.specs.Blocks.{block, setBit}
+use Rattle.blocks.proofs.BoolLaws.{both-l, both-r, byT, iff, is-false}
 use Rattle.blocks.proofs.ListLaws.{All-of, keep-same, without-same}
-use Rattle.blocks.proofs.BlockLaws.{block-lo, block-hi}
+use Rattle.blocks.proofs.BlockLaws.{block-at, block-lo, block-hi}
 use Rattle.model.specs.declared.Entry.{Entry}
-use Rattle.model.specs.Model.{EntryOk, Valid, storable, maxOrder, aligned, starts, startsIn, inside, clear, newEntry, store}
+use Rattle.model.specs.Model.{
+  EntryOk,
+  aligned,
+  matchedMark,
+  covers,
+  hasMark,
+  marksOf,
+  starts,
+  startsIn,
+  inside,
+  clear,
+  insert,
+  keptMarks,
+  newEntry,
+  over,
+  withWord,
+  store,
+  withMark,
+  remark,
+}
 use Rattle.model.specs.ByBlock as B
-use Rattle.model.proofs.ValidLaws.{block-in, store-valid}
+use Rattle.model.proofs.InsertLaws.{map-insert}
+use Rattle.model.proofs.RangeLaws.{clear-uncovered}
+use Rattle.model.proofs.ValidLaws.{block-in, room}
 
 -- R7: so is the base of an entry
 pub base-aligned : (e : Entry) → EntryOk e → aligned (e .order) (e .base) ≡ true
 base-aligned e ok = eq-eqb (e .base % 2 ^ e .order) 0
     (ap (λ (b : ℕ). b % 2 ^ e .order) (sym (ok .aligned)) ∙ mul-mod-left (block (e .order) (e .base)) (2 ^ e .order))
+
+-- mark 2 cleared: of the marks of a list, of an entry that takes a word, where nothing covers the index
+kept-marks : (l : List Entry) → keptMarks l ≡ setBit matchedMark false (marksOf l)
+kept-marks l = go (any (hasMark 0) l) (any (hasMark 1) l) (any (hasMark 2) l)
+  where
+    go : (a b c : Bool) → pick a (2 ^ 0) 0 + pick b (2 ^ 1) 0
+        ≡ setBit matchedMark false (pick a (2 ^ 0) 0 + pick b (2 ^ 1) 0 + pick c (2 ^ 2) 0)
+    go true true true = refl
+    go true true false = refl
+    go true false true = refl
+    go true false false = refl
+    go false true true = refl
+    go false true false = refl
+    go false false true = refl
+    go false false false = refl
+
+over-is : (l : List Entry) (i w : ℕ) → map (withWord i w) l ≡ remark (map (B.withWord i w) l) i matchedMark false
+over-is [] i w = refl
+over-is (x ∷ l) i w = ap (λ (r : List Entry). withWord i w x ∷ r) (over-is l i w)
+
+remark-off : {l : List Entry} (i m : ℕ) (b : Bool) → All (λ x. covers i x ≡ true → ⊥) l → remark l i m b ≡ l
+remark-off i m b end = refl
+remark-off i m b (also {x} {l} f a) = rw (is-false f, remark-off i m b a)
 
 module _ (i k : ℕ) (al : aligned k i ≡ true) where
   -- rounding leaves the index
@@ -58,12 +105,23 @@ module _ (i k : ℕ) (al : aligned k i ≡ true) where
     clear-is : clear l i k ≡ B.clear l i k
     clear-is = without-same (startsIn i k) (starts k (block k i)) (All-of starts-in l)
 
-    pub new-is : (w : ℕ) → newEntry l i k w ≡ B.newEntry l i k w
-    new-is w = rw (inside-is, whole)
+    -- the new entry covers the index, so its mark 2 is cleared
+    new-covers : (w : ℕ) → covers i (B.newEntry l i k w) ≡ true
+    new-covers w = eq-eqb (block k i) _ (sym (block-at k (block k i)))
 
-    pub store-is : (w : ℕ) → store l i k w ≡ B.store l i k w
-    store-is w = rw (new-is w, clear-is)
+    new-is : (w : ℕ) → newEntry l i k w ≡ withMark i matchedMark false (B.newEntry l i k w)
+    new-is w =
+        ap₂ (λ (b m : ℕ). record { base = b; order = k; word = w; marks = m }) (sym whole)
+        (ap keptMarks inside-is ∙ kept-marks (B.inside l i k)
+        ∙ ap (λ (t : Bool). pick t (setBit matchedMark false x) x) (sym (new-covers w)))
+      where
+        x : ℕ
+        x = marksOf (B.inside l i k)
 
-    -- R10 to R14 keep a list valid
-    pub aligned-valid : (w : ℕ) → Valid l → i < 2 ^ 64 → k ≤ maxOrder → T (storable w) → w < 2 ^ 64 → Valid (store l i k w)
-    aligned-valid w v i< k≤ st w< = rw (store-is w) (store-valid i k w v i< k≤ st w<)
+    -- R11, R14, R190: no other entry is over it
+    pub store-is : (w : ℕ) → store l i k w ≡ remark (B.store l i k w) i matchedMark false
+    store-is w = byT (any (over i k) l) (λ t. rw t (over-is l i w)) (λ t. rw t (ap₂ insert (new-is w) (cleared t)
+        ∙ sym (map-insert (withMark i matchedMark false) (λ x. refl) (B.newEntry l i k w) (B.clear l i k))))
+      where
+        cleared : any (over i k) l ≡ false → clear l i k ≡ remark (B.clear l i k) i matchedMark false
+        cleared t = clear-is ∙ sym (remark-off i matchedMark false (clear-uncovered i k l (room l i k t) i refl))

@@ -1,7 +1,7 @@
--- Searches after an entry is inserted.
-use mathlib.Core.Path.{_≡_, refl}
+-- Searches and maps after an entry is inserted.
+use mathlib.Core.Path.{_≡_, refl, ap₂, _∙_}
 use mathlib.Core.Bool.{Bool, true, false}
-use mathlib.Core.List.{List, [], _∷_}
+use mathlib.Core.List.{List, [], _∷_, map}
 use mathlib.Core.Option.{some}
 use lib.Dec.{ltb}
 use Rattle.blocks.specs.Choice.{either}
@@ -31,3 +31,10 @@ pub first-insert : (p : Entry → Bool) {e : Entry} {l : List Entry} → p e ≡
 first-insert p h end = rw h
 first-insert p {e} h (also {x} {l} g a) =
     byT (ltb (e .base) (x .base)) (λ t. rw (t, h)) (λ t. rw (t, is-false g, first-insert p h a))
+
+pub map-insert : (f : Entry → Entry) → ((x : Entry) → f x .base ≡ x .base) → (e : Entry) (l : List Entry) →
+    map f (insert e l) ≡ insert (f e) (map f l)
+map-insert f fb e [] = refl
+map-insert f fb e (x ∷ l) =
+    let q : ltb (f e .base) (f x .base) ≡ ltb (e .base) (x .base) = ap₂ ltb (fb e) (fb x) in
+    byT (ltb (e .base) (x .base)) (λ t. rw (t, q ∙ t)) (λ t. rw (t, q ∙ t, map-insert f fb e l))

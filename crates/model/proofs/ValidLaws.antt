@@ -32,14 +32,13 @@ use Rattle.model.specs.Model.{
   covering,
   starts,
   over,
-  withWord,
   erase,
   Sorted,
   done,
   more,
   Valid,
 }
-use Rattle.model.specs.ByBlock.{inside, clear, newEntry, storeNew, store}
+use Rattle.model.specs.ByBlock.{inside, clear, newEntry, storeNew, withWord, store}
 use Rattle.model.proofs.RangeLaws.{Room, clear-uncovered}
 use Rattle.model.proofs.MarkLaws.{marks-lt}
 

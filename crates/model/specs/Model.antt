@@ -1,7 +1,7 @@
 -- The model (document 01: the plain list): entries, and what store, erase and mark make of them (R6 to R15).
 use Prim.Native.Nat.{ℕ, _+_, _*_, _%_, _^_, _≤_, _<_}
 use mathlib.Core.Path.{_≡_}
-use mathlib.Core.Bool.{Bool, not}
+use mathlib.Core.Bool.{Bool, false, not}
 use mathlib.Core.List.{List, [], _∷_, map}
 use mathlib.Core.Option.{Option, none, some}
 use lib.Dec.{leb, ltb, eqb, T}
@@ -28,6 +28,10 @@ aligned k i = eqb (i % 2 ^ k) 0
 -- R9
 abbrev pub markCount : ℕ
 markCount = 3
+
+-- R190: the mark that no store hands on
+abbrev pub matchedMark : ℕ
+matchedMark = 2
 
 -- R7: the index lies in the aligned block that begins at the base
 abbrev pub covers : ℕ → Entry → Bool
@@ -98,9 +102,12 @@ abbrev pub insert : Entry → List Entry → List Entry
 insert e [] = e ∷ []
 insert e (x ∷ xs) = pick (ltb (e .base) (x .base)) (e ∷ x ∷ xs) (x ∷ insert e xs)
 
--- R14: with every mark of what it replaces
+-- R14, R190: marks 0 and 1 of what it replaces; mark 2 is clear
+abbrev pub keptMarks : List Entry → ℕ
+keptMarks l = markOf 0 l + markOf 1 l
+
 abbrev pub newEntry : List Entry → ℕ → ℕ → ℕ → Entry
-newEntry l i k w = record { base = i; order = k; word = w; marks = marksOf (inside l i k) }
+newEntry l i k w = record { base = i; order = k; word = w; marks = keptMarks (inside l i k) }
 
 -- R12
 abbrev pub storeNew : List Entry → ℕ → ℕ → ℕ → List Entry
@@ -110,10 +117,15 @@ storeNew l i k w = insert (newEntry l i k w) (clear l i k)
 abbrev pub over : ℕ → ℕ → Entry → Bool
 over i k e = both (covers i e) (leb k (e .order))
 
--- R11: its word alone changes
+-- R11, R190: it takes the word, and mark 2 is clear
 abbrev pub withWord : ℕ → ℕ → Entry → Entry
 withWord i w e =
-    record { base = e .base; order = e .order; word = pick (covers i e) w (e .word); marks = e .marks }
+    record {
+      base = e .base;
+      order = e .order;
+      word = pick (covers i e) w (e .word);
+      marks = pick (covers i e) (setBit matchedMark false (e .marks)) (e .marks);
+    }
 
 abbrev pub store : List Entry → ℕ → ℕ → ℕ → List Entry
 store l i k w = pick (any (over i k) l) (map (withWord i w) l) (storeNew l i k w)

@@ -14,15 +14,15 @@ use Rattle.blocks.specs.Lists.{any}
 use Rattle.blocks.proofs.BoolLaws.{byT}
 use Rattle.blocks.proofs.ListLaws.{All-map}
 use Rattle.model.specs.declared.Entry.{Entry}
-use Rattle.model.specs.Model.{Valid, maxOrder, aligned, over, store, storable, withWord}
+use Rattle.model.specs.Model.{Valid, maxOrder, aligned, matchedMark, over, store, storable, withMark}
 use Rattle.model.specs.ByBlock as B
-use Rattle.model.specs.ByBlock.{storeNew}
+use Rattle.model.specs.ByBlock.{storeNew, withWord}
 use Rattle.model.proofs.ValidLaws.{sorted-ok, store-valid}
 use Rattle.model.proofs.AlignedLaws.{store-is}
 use Rattle.tree.specs.Tree.{at, addIf, height, tierOrder, needed}
 use Rattle.tree.proofs.HeightLaws.{fits-most, height-le}
 use Rattle.tree.proofs.NewNodeLaws.{chained, missing, freshAt, freshTo, new-nodes}
-use Rattle.tree.proofs.RelabelLaws.{new-nodes-map}
+use Rattle.tree.proofs.RelabelLaws.{new-nodes-map, new-nodes-then}
 
 at-length : (u : ℕ) (s : List ℕ) → length (at u s) ≡ length s
 at-length u [] = refl
@@ -85,4 +85,6 @@ by-block {l} i k w v i< k≤ st w< =
 -- R111
 pub needed-most : {l : List Entry} (i k w : ℕ) → aligned k i ≡ true → Valid l → i < 2 ^ 64 → k ≤ maxOrder →
     T (storable w) → w < 2 ^ 64 → needed l (store l i k w) ≤ 21
-needed-most {l} i k w al v i< k≤ st w< = rw (store-is i k al l w) (by-block i k w v i< k≤ st w<)
+needed-most {l} i k w al v i< k≤ st w< =
+    rw (store-is i k al l w, new-nodes-then (withMark i matchedMark false) (λ x. refl) (λ x. refl) l (B.store l i k w))
+    (by-block i k w v i< k≤ st w<)

@@ -1,11 +1,11 @@
 -- Storing over an entry, marking and unmarking: a map that keeps base and order keeps the tree.
 use Prim.Native.Nat.{ℕ, _*_, _^_}
-use mathlib.Core.Path.{_≡_, refl, _∙_}
+use mathlib.Core.Path.{_≡_, refl, ap, _∙_}
 use mathlib.Core.Bool.{Bool}
 use mathlib.Core.List.{List, [], _∷_, map}
 use mathlib.Core.Option.{Option, none, some}
 use Rattle.blocks.specs.Choice.{pick, both}
-use Rattle.blocks.specs.Lists.{any}
+use Rattle.blocks.specs.Lists.{any, without}
 use Rattle.blocks.proofs.BoolLaws.{byT}
 use Rattle.blocks.proofs.ListLaws.{each, without-all}
 use Rattle.model.specs.declared.Entry.{Entry}
@@ -48,6 +48,10 @@ module _ (f : Entry → Entry) (fb : (x : Entry) → f x .base ≡ x .base) (fo 
   pub nodes-map : (l : List Entry) → nodes (map f l) ≡ nodes l
   nodes-map l = rw (height-map l) (nodes-from-same (λ u. blocks u (map f l)) (λ u. blocks u l)
       (λ u. blocks-map (λ e. e .base) finer f fb (λ j x. rw (fo x)) (tierOrder u) l) (height l))
+
+  -- after any change of the list, the same nodes are new
+  pub new-nodes-then : (old l : List Entry) → newNodes old (map f l) ≡ newNodes old l
+  new-nodes-then old l = ap (without (λ p. has old (p .tier) (p .number))) (nodes-map l)
 
   pub new-nodes-map : (l : List Entry) → newNodes l (map f l) ≡ []
   new-nodes-map l = rw (nodes-map l) (without-all (λ p. has l (p .tier) (p .number))

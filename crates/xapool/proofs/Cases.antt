@@ -1,4 +1,4 @@
--- The starred cases (R106 to R118, R182) hold, by computation from the definitions: bytes of a batch in, bytes of the replies
+-- The starred cases (R106 to R118, R182, R191, R192) hold, by computation from the definitions: bytes of a batch in, bytes of the replies
 -- and words of the pool out.
 use mathlib.Core.Path.{_≡_, refl}
 use mathlib.Core.Bool.{true}

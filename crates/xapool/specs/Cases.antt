@@ -1,4 +1,4 @@
--- The starred cases (R106 to R118, R182) as one table, of batches as bytes. proofs/Cases has the theorem that they all hold.
+-- The starred cases (R106 to R118, R182, R191, R192) as one table, of batches as bytes. proofs/Cases has the theorem that they all hold.
 use Prim.Native.Nat.{ℕ, _+_, _*_, _-_, _^_}
 use mathlib.Core.Bool.{Bool, true}
 use mathlib.Core.List.{List, [], _∷_, _++_, map}
@@ -9,7 +9,7 @@ use Rattle.blocks.specs.Lists.{upTo}
 use Rattle.model.specs.declared.Entry.{Entry}
 use Rattle.model.specs.Model.{store}
 use Rattle.tree.specs.Tree.{tierOrder, Node, nodes, needed}
-use Rattle.layout.specs.Words.{poolWords, headWord, marksWord, slotPlace}
+use Rattle.layout.specs.Words.{poolWords, headWord, marksWord, markPlace, slotPlace}
 use Rattle.layout.specs.Decode.{listOf}
 use Rattle.layout.specs.Decide.{equal}
 use Rattle.verify.specs.Answers.{initWords}
@@ -114,6 +114,20 @@ store3 = store2 ++ (Store 64 0 5 ∷ [])
 abbrev slotsHold : (m from count x : ℕ) → List Fact
 slotsHold m from count x = upTo (λ j. word (slotPlace m j) x) from count
 
+-- the words of mark m in nodes 0, 1, ..
+abbrev marksHold : (m : ℕ) → List ℕ → List Fact
+marksHold m xs = upTo (λ j. word (markPlace j m) (getD xs j 0)) 0 (length xs)
+
+-- an entry with mark 0 below nodes 0, 1 and 2, a brother with mark 2 below nodes 0, 1 and 3
+abbrev marked : List Command
+marked = Store 4096 0 5 ∷ Mark 4096 0 ∷ []
+
+abbrev matched : List Command
+matched = marked ++ (Mark 4096 2 ∷ [])
+
+abbrev brother : List Command
+brother = Store 4160 0 7 ∷ Mark 4160 2 ∷ []
+
 abbrev last64 : ℕ
 last64 = 2 ^ 64 - 1
 
@@ -173,6 +187,36 @@ cases =
       last = Store 64 6 9;
       facts = entry 1 64 6 9 3 0 ∷ word marksWord 3 ∷ shifts (6 ∷ []) ∷ [];
     }
+    -- case 10a (R191): alone, and beside a brother that has mark 2
+    ∷ record {
+      n = 3;
+      before = matched;
+      last = Store 4096 3 9;
+      facts =
+          entry 1 4096 3 9 1 0
+          ∷ word marksWord 1
+          ∷ marksHold 0 (2 ∷ 1 ∷ 1 ∷ []) ++ marksHold 2 (0 ∷ 0 ∷ 0 ∷ []);
+    }
+    ∷ record {
+      n = 4;
+      before = matched ++ brother;
+      last = Store 4096 3 9;
+      facts = entry 1 4096 3 9 1 0 ∷ word marksWord 5 ∷ marksHold 2 (2 ∷ 2 ∷ 0 ∷ 1 ∷ []);
+    }
+    -- case 10b (R192): the same, and an entry as head
+    ∷ record {
+      n = 3;
+      before = matched;
+      last = Store 4096 0 5;
+      facts = entry 1 4096 0 5 1 0 ∷ word marksWord 1 ∷ asAfter marked ∷ marksHold 2 (0 ∷ 0 ∷ 0 ∷ []);
+    }
+    ∷ record {
+      n = 4;
+      before = matched ++ brother;
+      last = Store 4096 0 5;
+      facts = entry 1 4096 0 5 1 0 ∷ word marksWord 5 ∷ asAfter (marked ++ brother) ∷ marksHold 2 (2 ∷ 2 ∷ 0 ∷ 1 ∷ []);
+    }
+    ∷ record { n = 1; before = store2 ++ (Mark 0 2 ∷ []); last = Store 0 0 3; facts = entry 1 0 0 3 0 0 ∷ asAfter store2 ∷ [] }
     -- case 11 (R116)
     ∷ record { n = 3; before = store3; last = Erase 64; facts = entry 3 64 0 5 0 0 ∷ asAfter store2 ∷ [] }
     -- case 12 (R117)

@@ -29,19 +29,20 @@ impl Cells {
         }
     }
 
+    /// Marks 0 and 1 are the rest by 4.
     fn store(&mut self, index: u64, order: u8, word: u64) -> Said {
         if index >> order << order != index {
             return only(14);
         }
         match self.cells[index as usize] {
             Some((base, larger, _, marks)) if larger >= order => {
-                self.fill(base, larger, Some((base, larger, word, marks)));
+                self.fill(base, larger, Some((base, larger, word, marks % 4)));
             }
             _ => {
                 let run = index as usize..(index + (1 << order)) as usize;
                 let gone = self.cells[run].iter().flatten();
                 let marks = gone.fold(0, |marks, cell| marks | cell.3);
-                self.fill(index, order, Some((index, order, word, marks)));
+                self.fill(index, order, Some((index, order, word, marks % 4)));
             }
         }
         self.said(index)

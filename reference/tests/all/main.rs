@@ -8,6 +8,7 @@ mod helpers;
 mod invariants;
 mod listing;
 mod lists;
+mod matched;
 mod mistakes;
 mod parts;
 mod program;

@@ -2,7 +2,15 @@
 use mathlib.Core.Path.{sym, subst, _∙_}
 use lib.Dec.{T}
 use Rattle.batch.specs.declared.Command.the-variants.{Store}
-use Rattle.execute.proofs.ReplyLaws.{leaves, store-order, store-index, store-word, stores}
+use Rattle.execute.proofs.ReplyLaws.{
+  leaves,
+  store-order,
+  store-index,
+  store-word,
+  store-formed,
+  store-in-use,
+  stores,
+}
 use Rattle.blocks.proofs.BoolLaws.{not-true, not-false}
 use borrow.Author.Needs.{needs}
 use Rattle.execute.proofs.run_store.Statement.{statement}
@@ -21,8 +29,11 @@ asked c = c .before
 abbrev second : tie.After-store-arg → tie.Else2
 second c = c .before .before
 
-abbrev stored : tie.After-stored-reply → tie.After-store-arg
-stored c = c .before .before .before .before
+abbrev stored : tie.After-stored-reply-arg → tie.After-store
+stored c = c .before .before .before
+
+abbrev replied : tie.After-slice-known3 → tie.After-stored-reply
+replied c = c .before .before
 
 answered-requires : tie.Need-answered-requires
 answered-requires c κs = search needs
@@ -78,19 +89,25 @@ store-requires c κs = let e = second c in let y = e .before in let x = asked y 
 )
 
 stored-reply-requires : tie.Need-stored-reply-requires
-stored-reply-requires c κs = search needs
+stored-reply-requires c κs =
+    let r = stored c in let e = second (r .before) in let y = e .before in let z = start (ordered (asked y)) in
+    store-formed (z .pre .0) _ _ _ (z .fits .index .fits) (z .fits .word .fits) (ordered (asked y) .if1 .left)
+    (sym (y .is-storable .ensures) ∙ not-false _ (r .before .before .if3 .left)) (r .store .ensures .0 (z .pre .0))
 
 same-length : tie.Need-same-length
 same-length c = search needs
 
 returns-4 : tie.Need-returns-4
-returns-4 c = let z = stored c in let e = second z in let y = e .before in let x = asked y in (
-  (λ s. stores s _ _ _ (ordered x .if1 .left)
-      (sym (x .is-aligned .ensures) ∙ not-false _ (e .if2 .left))
-      (sym (y .is-storable .ensures) ∙ not-false _ (z .before .if3 .left))
-      (c .before .before .before .store .ensures .0 s) (c .stored-reply .ensures)),
-  c .before .before .before .store .ensures .1,
-)
+returns-4 c =
+    let p = replied c in let r = stored (p .before) in let e = second (r .before) in let y = e .before in
+    let x = asked y in let z = start (ordered x) in
+    let i< = z .fits .index .fits in let w< = z .fits .word .fits in let k≤ = ordered x .if1 .left in
+    let st = sym (y .is-storable .ensures) ∙ not-false _ (r .before .before .if3 .left) in (
+      (λ s. stores s _ _ _ i< w< k≤ st (r .store .ensures .0 s) (p .stored-reply .ensures)
+          (sym (x .is-aligned .ensures) ∙ not-false _ (e .if2 .left))),
+      store-in-use (z .pre .0) _ _ _ i< w< k≤ st (r .store .ensures .0 (z .pre .0)) (p .stored-reply .ensures)
+          (r .store .ensures .1),
+    )
 
 pub run-store-spec : {M : Type 1} → statement M
 run-store-spec =

@@ -1,15 +1,21 @@
--- `stored_reply`: the reply by what a store came to.
-use mathlib.Core.Path.{sym, ap, _∙_}
-use Rattle.execute.specs.Contracts.{storedReply}
+-- `stored_reply`: the last step of a store, and the reply by what it came to.
+use Rattle.execute.proofs.ReplyLaws.{settles-done, settles-short}
 use borrow.Author.Needs.{needs}
 use Rattle.execute.proofs.stored_reply.Statement.{statement}
 use Rattle.execute.proofs.stored_reply.Tie as tie
 
+-- THE PLACES IN THE CODE, each from one after it
+abbrev cleared : tie.After-slice-known2 → tie.After-unmatch
+cleared c = c .before .before
+
+abbrev entry : tie.After-unmatch → tie.After-x
+entry c = c .before .before .before
+
 enum-known-x : tie.Need-enum-known-x
 enum-known-x c = search needs
 
-answered-by-requires : tie.Need-answered-by-requires
-answered-by-requires c κs = search needs
+unmatch-requires : tie.Need-unmatch-requires
+unmatch-requires c κs = search needs
 
 enum-told : tie.Need-enum-told
 enum-told c = search needs
@@ -17,13 +23,24 @@ enum-told c = search needs
 answered-requires : tie.Need-answered-requires
 answered-requires c κs = search needs
 
+same-length : tie.Need-same-length
+same-length c = search needs
+
 returns : tie.Need-returns
-returns c = c .answered-by .ensures ∙ sym (ap (storedReply 129) (c .before .before .x .given .1))
+returns c = let y = cleared c in let made = y .unmatch .ensures in
+    λ s. settles-done s _ (entry y .x .given .1) (λ q. (made .0 s q, made .1 s q))
 
 returns-2 : tie.Need-returns-2
-returns-2 c = c .answered .ensures ∙ sym (ap (storedReply 129) (c .before .enum-told .given .1))
+returns-2 c = λ s. settles-short s _ (c .before .enum-told .given .1) (c .answered .ensures)
 
 pub stored-reply-spec : {M : Type 1} → statement M
 stored-reply-spec =
     tie.close
-    (tie.spec enum-known-x answered-by-requires enum-told answered-requires returns returns-2)
+    (tie.spec
+    enum-known-x
+    unmatch-requires
+    enum-told
+    answered-requires
+    same-length
+    returns
+    returns-2)

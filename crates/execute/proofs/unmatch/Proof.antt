@@ -1,0 +1,57 @@
+-- `unmatch`: a mark that is clear stays so, else it is cleared.
+use mathlib.Core.Path.{_≡_, sym, ap, _∙_}
+use mathlib.Core.List.{List}
+use mathlib.Core.Option.{Option}
+use native.Mathlib.Omega.{arith}
+use Rattle.blocks.specs.Blocks.{bit}
+use Rattle.model.specs.declared.Entry.{Entry}
+use Rattle.model.specs.Model.{matchedMark, covering, covered}
+use Rattle.layout.specs.Places.{render}
+use Rattle.marks.proofs.RemarkLaws.{remark-clear}
+use Rattle.execute.specs.Contracts.{coveredReply}
+use Rattle.execute.proofs.ReplyLaws.{unmarked-words, unmarked-reply}
+use borrow.Author.Needs.{needs}
+use Rattle.execute.proofs.unmatch.Statement.{statement}
+use Rattle.execute.proofs.unmatch.Tie as tie
+
+run-remark-requires : tie.Need-run-remark-requires
+run-remark-requires c κs = search needs
+
+as-stored-requires : tie.Need-as-stored-requires
+as-stored-requires c κs = search needs
+
+same-length : tie.Need-same-length
+same-length c = search needs
+
+returns : tie.Need-returns
+returns c =
+    let made = c .before .before .before .run-remark .ensures .0 in (
+      (λ s q. c .as-stored .ensures ∙ unmarked-reply s _ matchedMark (omega arith) (made s)),
+      λ s q. unmarked-words s _ matchedMark (omega arith) (made s),
+    )
+
+answered-by-requires : tie.Need-answered-by-requires
+answered-by-requires c κs = search needs
+
+-- a bit that is not 1 is 0
+returns-2 : tie.Need-returns-2
+returns-2 c =
+    let x = c .before in let a = x .before .before .before .args in let i = a .index in
+    let z : bit matchedMark (a .e .marks) ≡ 0 = omega (arith, x .if1 .left) in (
+      (λ s q. c .answered-by .ensures
+          ∙ sym (ap (λ (l : List Entry). coveredReply 129 (covered (covering l i)))
+          (remark-clear i matchedMark (s .valid) q z) ∙ ap (λ (o : Option Entry). coveredReply 129 (covered o)) q)),
+      λ s q. s .words-are
+          ∙ ap (λ (l : List Entry). render l (s .places) (s .n)) (sym (remark-clear i matchedMark (s .valid) q z)),
+    )
+
+pub unmatch-spec : {M : Type 1} → statement M
+unmatch-spec =
+    tie.close
+    (tie.spec
+    run-remark-requires
+    as-stored-requires
+    same-length
+    returns
+    answered-by-requires
+    returns-2)
