@@ -11,15 +11,17 @@
  *
  * Platform   x86-64 Linux. libxapool.a is position-independent, so it can go into a shared library;
  *            of other libraries it needs memset alone. It never allocates.
- * Alignment  a pool begins at a multiple of 8, as any array of uint64_t does. Batch and reply may
- *            begin anywhere.
- * NULL       with length 0 any pointer may be NULL: an empty batch and no reply space are fine, a
- *            pool of no words is refused with 1.
+ * Alignment  a pool begins at a multiple of 8, as any array of uint64_t does. Batch, reply and list
+ *            may begin anywhere.
+ * NULL       with length 0 any pointer may be NULL: an empty batch, no reply space and no space for a
+ *            list are fine, a pool of no words is refused with 1.
  * Stack      a call needs less than 8 KiB of it, whatever the pool holds.
  * Threads    calls on different pools may run at the same time. Two calls at the same time must not
- *            share a pool, not even for finds, and no two buffers of one call may overlap.
- * Time       each run checks the whole pool first, so many commands in one batch are far cheaper
- *            than one command in each of many.
+ *            share a pool, not even for finds, unless both are xapool_check or xapool_list, which
+ *            only read it; and no two buffers of one call may overlap.
+ * Time       each run and each list checks the whole pool first, so many commands in one batch are
+ *            far cheaper than one command in each of many. All else follows what is asked: a list
+ *            takes its time for the entries and nodes of its range, not for those of the pool.
  * Power cut  a run writes word by word and is not atomic: a pool in a mapped file that loses power
  *            in mid-run may be lost. Where that matters, run on a copy and put the copy in place
  *            when it is on disk, as the tool 'xabatch run' does.
@@ -49,6 +51,7 @@ extern "C" {
 #define XAPOOL_MAX_NODES 1000
 #define XAPOOL_BATCH_BYTES 8192 /* a batch has at most so many bytes */
 #define XAPOOL_REPLY_BYTES 24   /* each command's reply has exactly so many */
+#define XAPOOL_LISTED_BYTES 21  /* each entry of a list has exactly so many */
 #define XAPOOL_REFUSAL_BYTES 6  /* a refused call, as the program tamburish writes it */
 #define XAPOOL_MAX_COMMANDS 744 /* no batch has more: the shortest record has 11 bytes */
 #define XAPOOL_MAX_ORDER 63
@@ -61,26 +64,31 @@ extern "C" {
 /* The bytes of the replies to c commands. */
 #define XAPOOL_REPLIES(c) (XAPOOL_REPLY_BYTES * (c))
 
+/* The bytes of a list of n entries. */
+#define XAPOOL_LISTING(n) (XAPOOL_LISTED_BYTES * (n))
+
 /* The word of value v, v from 0 to 2^63 - 1; and the value of an odd word. */
 #define XAPOOL_VALUE(v) (UINT64_C(2) * (v) + 1)
 #define XAPOOL_VALUE_OF(word) ((word) / 2)
 
 /* ---- Answers ----
  *
- * 0 to 4 are the answer of a call. 1 to 4 refuse it: nothing ran, pool and reply bytes are as they
- * were. 0 and 5 to 14 are the answer in one command's reply; whatever it is, the next command runs.
- * Where several apply, the lowest is given, but 14 before 6. */
+ * 0 to 4 are the answer of a call, and of xapool_list also 8. All but 0 refuse it: nothing ran, and
+ * pool, reply and list bytes are as they were. 0 and 5 to 14 are the answer in one command's reply;
+ * whatever it is, the next command runs. Where several apply, the lowest is given, but 14 before 6; and a list is
+ * refused with 8 before it is with 4. */
 enum xapool_answer {
-    XAPOOL_DONE = 0,             /* call: done, number: commands run. reply: done */
+    XAPOOL_DONE = 0,             /* call: done, number: commands run, or entries listed. reply: done */
     XAPOOL_POOL_LENGTH = 1,      /* pool_words is not 4 + 69 N with N from 1 to 1,000; number 0 */
     XAPOOL_NOT_WELL_FORMED = 2,  /* the words are not those of a pool (never initialised, or damaged); number 0 */
     XAPOOL_BAD_BATCH = 3,        /* a record is cut off, or its tag or length is none; number: the place of
                                     its first byte. Over 8,192 bytes: number 8,192 */
-    XAPOOL_REPLY_SPACE = 4,      /* reply_bytes is under 24 a command; number: commands */
+    XAPOOL_REPLY_SPACE = 4,      /* run: reply_bytes is under 24 a command; number: commands.
+                                    list: buffer_bytes is under 21 an entry; number: entries */
     XAPOOL_BAD_ORDER = 5,        /* store: the order is above 63 */
     XAPOOL_BAD_ENTRY = 6,        /* store: the entry is 0 or ends in binary 10 */
     XAPOOL_BAD_MARK = 7,         /* mark, unmark: above 2. find: filter above 3 */
-    XAPOOL_FIRST_ABOVE_LAST = 8, /* find: first is above last */
+    XAPOOL_FIRST_ABOVE_LAST = 8, /* find: first is above last. Call, list: the same; number 0 */
     XAPOOL_NO_BUDGET = 9,        /* find: budget 0 */
     XAPOOL_ABSENT = 10,          /* load, erase, mark, unmark: nothing covers the index */
     XAPOOL_TOO_FEW_NODES = 11,   /* store: it needs more nodes than are free; nothing is stored */
@@ -115,6 +123,7 @@ enum xapool_tag {
     XAPOOL_MARK = 4,
     XAPOOL_UNMARK = 5,
     XAPOOL_FIND = 6,
+    XAPOOL_LISTED = 32,  /* xapool_list only: an entry */
     XAPOOL_REPLY = 128,  /* a reply's tag is its command's plus this */
     XAPOOL_REFUSAL = 255 /* tamburish only: length 3, then answer 1, number 2 */
 };
@@ -151,10 +160,25 @@ enum xapool_tag {
 #define XAPOOL_AT_MARKS 21
 #define XAPOOL_AT_COUNT 22
 
+/* ---- Lists ----
+ *
+ * xapool_list writes 21 bytes for each entry, in index order:
+ *
+ *   place 0  tag 32        1 byte
+ *         1  length 18     2
+ *         3  index         8   the entry's base, also where that lies before the range
+ *        11  order         1
+ *        12  entry         8
+ *        20  marks         1 */
+#define XAPOOL_LISTED_AT_INDEX 3
+#define XAPOOL_LISTED_AT_ORDER 11
+#define XAPOOL_LISTED_AT_ENTRY 12
+#define XAPOOL_LISTED_AT_MARKS 20
+
 /* ---- Calls ---- */
 
 typedef struct xapool_result {
-    uint64_t answer; /* enum xapool_answer, 0 to 4 */
+    uint64_t answer; /* enum xapool_answer, 0 to 4; of xapool_list also 8 */
     uint64_t number; /* see there */
 } xapool_result;
 
@@ -173,6 +197,15 @@ xapool_result xapool_run(uint64_t *pool, size_t pool_words,
 /* How many commands a batch has, by itself: 0 and their number, or 3 and the place of its first bad
  * record, as a run would say. It looks at no pool. */
 xapool_result xapool_count(const uint8_t *batch, size_t batch_bytes);
+
+/* Lists every entry that covers an index of first to last, both included, in index order and each
+ * once; one that begins before first or ends after last is listed whole. It checks the pool first
+ * and only reads it. With answer 0 the first 21 * number bytes of buffer hold the list; bytes past
+ * them stay as they were. Gives 0, or 1, 2, 8, 4 in this order, and then no byte is written: with no
+ * buffer (NULL, 0) and answer 4 the number says how many entries there are to make room for. */
+xapool_result xapool_list(const uint64_t *pool, size_t pool_words,
+                          uint64_t first, uint64_t last,
+                          uint8_t *buffer, size_t buffer_bytes);
 
 /* ---- Building a batch ----
  *
@@ -331,6 +364,33 @@ static inline int xapool_read_reply(const uint8_t *replies, size_t bytes, size_t
     return 1;
 }
 
+/* ---- Reading lists ---- */
+
+typedef struct xapool_listed {
+    uint8_t order;
+    uint8_t marks;
+    uint64_t index; /* the base */
+    uint64_t entry;
+} xapool_listed;
+
+/* Reads entry 'number', from 0, out of the bytes of a list. Gives 0, and leaves *listed, if there is
+ * none: the bytes end before it, or are no entry of a list. */
+static inline int xapool_read_listed(const uint8_t *list, size_t bytes, size_t number, xapool_listed *listed)
+{
+    const uint8_t *at;
+    if (number >= bytes / XAPOOL_LISTED_BYTES)
+        return 0;
+    at = list + XAPOOL_LISTED_BYTES * number;
+    if (at[0] != XAPOOL_LISTED || xapool_number_at(at + 1, 2) != XAPOOL_LISTED_BYTES - 3 ||
+        at[XAPOOL_LISTED_AT_ORDER] > XAPOOL_MAX_ORDER || at[XAPOOL_LISTED_AT_MARKS] >> XAPOOL_MARKS != 0)
+        return 0;
+    listed->index = xapool_number_at(at + XAPOOL_LISTED_AT_INDEX, 8);
+    listed->order = at[XAPOOL_LISTED_AT_ORDER];
+    listed->entry = xapool_number_at(at + XAPOOL_LISTED_AT_ENTRY, 8);
+    listed->marks = at[XAPOOL_LISTED_AT_MARKS];
+    return 1;
+}
+
 /* The last index that an entry covers. The one after it is not this plus 1: at 2^64 - 1 there is none. */
 static inline uint64_t xapool_last_index(uint64_t base, uint8_t order)
 {
@@ -363,7 +423,7 @@ static inline const char *xapool_answer_text(uint64_t answer)
     case XAPOOL_POOL_LENGTH: return "pool length is not 4 + 69 N words, N from 1 to 1,000";
     case XAPOOL_NOT_WELL_FORMED: return "pool is not well-formed";
     case XAPOOL_BAD_BATCH: return "batch too long, or a record is cut, of unknown tag or wrong length";
-    case XAPOOL_REPLY_SPACE: return "reply space under 24 bytes a command";
+    case XAPOOL_REPLY_SPACE: return "space under 24 bytes a command, or 21 an entry of a list";
     case XAPOOL_BAD_ORDER: return "order above 63";
     case XAPOOL_BAD_ENTRY: return "entry is 0 or ends in binary 10";
     case XAPOOL_BAD_MARK: return "mark above 2 or filter above 3";

@@ -4,12 +4,13 @@ use crate::checks;
 use crate::library::{Library, Loaded};
 use crate::loads::{dense, marked_finds, sparse, Load};
 use crate::measure::{Cost, Trial};
-use crate::{finds, stores};
+use crate::{finds, lists, stores};
 
 pub const USAGE: &str = "\
-usage: bench against BEFORE AFTER [--only find|store|check] [--rounds N] [--indices N]
+usage: bench against BEFORE AFTER [--only find|store|check|list] [--rounds N] [--indices N]
   BEFORE, AFTER   shared objects, made of two builds of libxapool.a by scripts/bench-against
-  --only      finds, or stores and all else that writes or loads, or the check; all if not named
+  --only      finds, or stores and all else that writes or loads, or the check, or lists (where both
+              builds have them); all if not named
   --rounds    of all loads by each build, in turns; of each batch the shortest time counts; 20 if not named
   --indices   of the dense loads; 60,000 if not named
 Exit status: 0 fine, 1 the builds differ in a word or a reply, or a call was refused, 2 bad usage.";
@@ -21,6 +22,12 @@ struct Options {
     indices: u64,
 }
 
+impl Options {
+    fn wants(&self, name: &str) -> bool {
+        self.only.as_ref().is_none_or(|only| only == name)
+    }
+}
+
 fn options(mut words: impl Iterator<Item = String>) -> Option<Options> {
     let builds = [words.next()?, words.next()?];
     let mut options = Options { builds, only: None, rounds: 20, indices: 60_000 };
@@ -28,7 +35,7 @@ fn options(mut words: impl Iterator<Item = String>) -> Option<Options> {
         let value = words.next()?;
         match name.as_str() {
             "--only" => {
-                let known = ["find", "store", "check"].contains(&value.as_str());
+                let known = ["find", "store", "check", "list"].contains(&value.as_str());
                 options.only = Some(known.then_some(value)?)
             }
             "--rounds" => options.rounds = value.parse().ok().filter(|n| *n > 0)?,
@@ -55,7 +62,7 @@ struct Loads {
 
 impl Loads {
     fn wanted(options: &Options) -> Loads {
-        let wanted = |name: &str| options.only.as_ref().is_none_or(|only| only == name);
+        let wanted = |name: &str| options.wants(name);
         let count = options.indices;
         let full = || vec![dense(count), sparse(count / 2), marked_finds(count, count / 2)];
         Loads {
@@ -75,13 +82,18 @@ fn measure(options: &Options) -> Result<(), String> {
     let mut sets = [trials(&loads.find)?, trials(&loads.store)?, trials(&loads.full)?];
     let checks = !loads.full.is_empty();
     let mut checks = if checks { checks::trials(&libraries)? } else { Vec::new() };
+    let mut lists = match options.wants("list") {
+        true => lists::trials(&libraries, options.indices)?,
+        false => Vec::new(),
+    };
     // All loads in each round: a machine that is busy for a while is so for a part of each.
     for round in 0..options.rounds {
         sets.iter_mut().flatten().try_for_each(|trial| trial.round(&libraries, round))?;
         checks.iter_mut().try_for_each(|trial| trial.round(&libraries, round))?;
+        lists.iter_mut().try_for_each(|trial| trial.round(&libraries, round))?;
     }
     let [find, store, full] = sets;
-    print!("{}{}", load_table(&find), load_table(&store));
+    print!("{}{}{}", load_table(&find), load_table(&store), list_table(&lists));
     print!("{}{}{}", check_table(&checks), bad_table(&checks), share_table(&full));
     Ok(())
 }
@@ -108,6 +120,18 @@ fn load_table(trials: &[Trial]) -> String {
     };
     let heading =
         "| load | commands | ns a command without the check, before | after | after / before |";
+    table(heading, trials.iter().map(line).collect())
+}
+
+fn list_table(trials: &[lists::Trial]) -> String {
+    let line = |trial: &lists::Trial| {
+        let (about, entries, costs) = (&trial.about, trial.entries, trial.costs());
+        let [before, after] = [costs[0], costs[1]].map(|cost| cost / entries as f64);
+        let ratio = after / before;
+        format!("| {about} | {entries} | {before:.1} | {after:.1} | {ratio:.2} |\n")
+    };
+    let heading =
+        "| list | entries | ns an entry without the check, before | after | after / before |";
     table(heading, trials.iter().map(line).collect())
 }
 

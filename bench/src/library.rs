@@ -8,6 +8,8 @@ pub trait Library {
     fn init(&self, pool: &mut [u64]) -> RawResult;
     fn check(&self, pool: &[u64]) -> RawResult;
     fn run(&self, pool: &mut [u64], batch: &[u8], reply: &mut [u8]) -> RawResult;
+    /// None: this build has no such call yet.
+    fn list(&self, pool: &[u64], first: u64, last: u64, buffer: &mut [u8]) -> Option<RawResult>;
 }
 
 /// The library that this program is linked with.
@@ -25,17 +27,23 @@ impl Library for Linked {
     fn run(&self, pool: &mut [u64], batch: &[u8], reply: &mut [u8]) -> RawResult {
         raw::run(pool, batch, reply)
     }
+
+    fn list(&self, pool: &[u64], first: u64, last: u64, buffer: &mut [u8]) -> Option<RawResult> {
+        Some(raw::list(pool, first, last, buffer))
+    }
 }
 
 type Init = unsafe extern "C" fn(*mut u64, usize) -> RawResult;
 type Check = unsafe extern "C" fn(*const u64, usize) -> RawResult;
 type Run = unsafe extern "C" fn(*mut u64, usize, *const u8, usize, *mut u8, usize) -> RawResult;
+type List = unsafe extern "C" fn(*const u64, usize, u64, u64, *mut u8, usize) -> RawResult;
 
 /// A library loaded from a shared object; it is never unloaded.
 pub struct Loaded {
     init: Init,
     check: Check,
     run: Run,
+    list: Option<List>,
 }
 
 extern "C" {
@@ -62,6 +70,10 @@ impl Loaded {
                 init: std::mem::transmute::<*mut c_void, Init>(symbol(object, init)?),
                 check: std::mem::transmute::<*mut c_void, Check>(symbol(object, check)?),
                 run: std::mem::transmute::<*mut c_void, Run>(symbol(object, run)?),
+                // An older build is measured without it.
+                list: symbol(object, c"xapool_list")
+                    .ok()
+                    .map(|list| std::mem::transmute::<*mut c_void, List>(list)),
             })
         }
     }
@@ -105,5 +117,12 @@ impl Library for Loaded {
                 reply.len(),
             )
         }
+    }
+
+    fn list(&self, pool: &[u64], first: u64, last: u64, buffer: &mut [u8]) -> Option<RawResult> {
+        let list = self.list?;
+        let (words, bytes) = (pool.len(), buffer.len());
+        // SAFETY: two slices borrowed for the call; the one that is written is borrowed alone.
+        Some(unsafe { list(pool.as_ptr(), words, first, last, buffer.as_mut_ptr(), bytes) })
     }
 }

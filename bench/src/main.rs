@@ -1,10 +1,11 @@
-//! bench: three loads through xapool_run, the same over a BTreeMap, and the cost by nodes. With
+//! bench: three loads through xapool_run and lists, the same over a BTreeMap, and the cost by nodes. With
 //! `against`, two builds of the library in one run.
 
 mod against;
 mod checks;
 mod finds;
 mod library;
+mod lists;
 mod loads;
 mod measure;
 mod plain;
@@ -19,7 +20,7 @@ use loads::Load;
 use std::path::Path;
 use std::process::ExitCode;
 use std::{env, fs};
-use table::{ByNodes, Row, NODES};
+use table::{ByNodes, ListRow, Row, NODES};
 
 const USAGE: &str = "\
 usage: bench [--indices N] [--repeats N] [--small-repeats N] [--write DIR]
@@ -86,12 +87,24 @@ fn measure_all(options: &Options) -> Result<(), String> {
     for load in loads::small() {
         by_nodes.push(costs_by_nodes(&load, options.small_repeats)?);
     }
-    let tables = format!("{}\n{}", table::loads(&rows), table::by_nodes(&by_nodes));
+    let lists = lists(count, options.small_repeats)?;
+    let [rows_text, nodes_text] = [table::loads(&rows), table::by_nodes(&by_nodes)];
+    let tables = format!("{rows_text}\n{nodes_text}\n{}", table::lists(&lists));
     println!("{tables}");
     match &options.write {
         Some(folder) => write(folder, &tables, &plot::svg(&rows, &by_nodes)),
         None => Ok(()),
     }
+}
+
+fn lists(indices: u64, repeats: u32) -> Result<Vec<ListRow>, String> {
+    let mut rows = Vec::new();
+    for mut trial in lists::trials(&[&Linked], indices)? {
+        (0..repeats).try_for_each(|round| trial.round(&[&Linked], round))?;
+        let (call, check, map) = (trial.costs()[0], trial.check(), trial.map(repeats));
+        rows.push(ListRow { about: trial.about, entries: trial.entries, call, check, map });
+    }
+    Ok(rows)
 }
 
 fn row(load: Load, repeats: u32) -> Result<Row, String> {
@@ -127,8 +140,8 @@ fn write(folder: &str, tables: &str, svg: &str) -> Result<(), String> {
         "# What a command costs\n\n\
          Made by `cd bench && cargo run --release -- {}`, on {}. Do not edit.\n\n\
          {tables}\n\
-         A run checks its pool first, whose time grows with N and not with the commands; it is timed by itself on \
-         the same pool just before each run, and taken off. Of each batch the shortest time of all repeats counts. \
+         A run and a list check their pool first, whose time grows with N and not with the commands; it is timed by itself on \
+         the same pool just before each, and taken off. Of each batch the shortest time of all repeats counts. \
          The library reads records and writes replies as bytes; the BTreeMap takes its commands from memory, knows \
          order 0 alone and writes plain values.\n\n\
          ![ns a command](benchmarks.svg)\n",

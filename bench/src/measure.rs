@@ -38,15 +38,15 @@ impl Cost {
 
 /// The time of a batch: its run, and the check before it.
 #[derive(Clone, Copy)]
-struct Time {
-    run: f64,
-    check: f64,
+pub struct Time {
+    pub run: f64,
+    pub check: f64,
 }
 
 impl Time {
-    const LONGEST: Time = Time { run: f64::MAX, check: f64::MAX };
+    pub const LONGEST: Time = Time { run: f64::MAX, check: f64::MAX };
 
-    fn least(self, other: Time) -> Time {
+    pub fn least(self, other: Time) -> Time {
         Time { run: self.run.min(other.run), check: self.check.min(other.check) }
     }
 }

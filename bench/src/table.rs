@@ -25,6 +25,30 @@ impl ByNodes {
     }
 }
 
+/// A list, in nanoseconds.
+pub struct ListRow {
+    pub about: String,
+    pub entries: u64,
+    /// The call without the check.
+    pub call: f64,
+    pub check: f64,
+    /// The same bytes out of a BTreeMap.
+    pub map: f64,
+}
+
+pub fn lists(rows: &[ListRow]) -> String {
+    let mut text = String::from(
+        "| list, N = 1,000 | entries listed | ns an entry, without the check | ns a call, without the check | check, ns a call | BTreeMap, ns an entry |\n\
+         |---|---|---|---|---|---|\n",
+    );
+    for ListRow { about, entries, call, check, map } in rows {
+        let [each, map] = [call, map].map(|time| time / *entries as f64);
+        text +=
+            &format!("| {about} | {entries} | {each:.1} | {call:.0} | {check:.0} | {map:.1} |\n");
+    }
+    text
+}
+
 pub fn loads(rows: &[Row]) -> String {
     let mut text = String::from(
         "| load | commands | batches | ns a command, without the check | check, ns a batch | check, ns a command | BTreeMap, ns a command |\n\

@@ -1,10 +1,11 @@
 //! The loads fit the pools they run on.
 
-use crate::library::Linked;
+use crate::library::{Library, Linked};
 use crate::loads::{batches, dense, marked_finds, small, sparse, Load, Work};
 use crate::measure::Trial;
-use crate::{checks, finds, stores};
+use crate::{checks, finds, lists, stores};
 use std::collections::BTreeSet;
+use xapool_host::raw::RawResult;
 use xapool_host::Command;
 
 /// The nodes that stores of order 0 below 2^24 take, at most: a node of each shift over each.
@@ -58,6 +59,45 @@ fn loads_for_two_builds_run() -> Result<(), String> {
         assert!(trial.costs().iter().all(|cost| cost.commands > 0 && cost.run < 1e12));
     }
     Ok(())
+}
+
+/// So is a list that has other bytes than its entries call for.
+#[test]
+fn lists_are_of_their_entries() -> Result<(), String> {
+    let mut trials = lists::trials(&[&Linked, &Linked], 1000)?;
+    let entries: Vec<u64> = trials.iter().map(|trial| trial.entries).collect();
+    assert_eq!((&entries[..4], trials.len()), (&[1000, 1000, 100, 1][..], 5));
+    trials.iter_mut().try_for_each(|trial| trial.round(&[&Linked, &Linked], 0))?;
+    assert!(trials.iter().all(|trial| trial.costs().iter().all(|cost| *cost < 1e12)));
+    Ok(())
+}
+
+/// A build that has no lists yet.
+struct Older;
+
+impl Library for Older {
+    fn init(&self, pool: &mut [u64]) -> RawResult {
+        Linked.init(pool)
+    }
+
+    fn check(&self, pool: &[u64]) -> RawResult {
+        Linked.check(pool)
+    }
+
+    fn run(&self, pool: &mut [u64], batch: &[u8], reply: &mut [u8]) -> RawResult {
+        Linked.run(pool, batch, reply)
+    }
+
+    fn list(&self, _: &[u64], _: u64, _: u64, _: &mut [u8]) -> Option<RawResult> {
+        None
+    }
+}
+
+#[test]
+fn builds_of_which_one_has_no_lists_are_measured_without() -> Result<(), String> {
+    assert!(lists::trials(&[&Older, &Linked], 1000)?.is_empty());
+    let load = dense(1000);
+    Trial::new(&[&Older, &Linked], &load, load.nodes)?.round(&[&Older, &Linked], 0)
 }
 
 /// So is a good pool that the check refuses, or a bad one that it does not.

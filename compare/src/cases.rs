@@ -1,29 +1,31 @@
 //! Cases 13 to 15 (R118 to R120), the empty batch, and batches of 8,192 and 8,193 bytes, with the
-//! rules' own figures; and cases 2 to 13 command by command against reference, all words and
-//! replies (their figures are computed by the proved table and tested in host/). A case that fails
-//! says which commands it ran and the first word or byte that differs.
+//! rules' own figures; the listings of listing_cases.rs; and cases 2 to 13 command by command
+//! against reference, all words and replies (their figures are computed by the proved table and
+//! tested in host/). A case that fails says which commands it ran and the first word or byte that
+//! differs.
 
 use crate::batches::{hex, show};
 use crate::lend::{Call, Given, Lender};
 use crate::list::CallList;
+use crate::listing_cases::listing_cases;
 use crate::program::Input;
 use reference::pool::pool_length;
 use xapool_host::{Command, Word};
 
 /// Its name, and what is wrong.
-type Case = (&'static str, Option<String>);
+pub type Case = (&'static str, Option<String>);
 
-fn records(commands: &[Command]) -> Vec<u8> {
+pub fn records(commands: &[Command]) -> Vec<u8> {
     let mut batch = Vec::new();
     commands.iter().for_each(|command| command.write(&mut batch));
     batch
 }
 
-fn store(index: u64, word: u64) -> Command {
+pub fn store(index: u64, word: u64) -> Command {
     store_order(index, 0, word)
 }
 
-fn store_order(index: u64, order: u8, word: u64) -> Command {
+pub fn store_order(index: u64, order: u8, word: u64) -> Command {
     Command::Store { index, order, word: Word(word) }
 }
 
@@ -43,7 +45,7 @@ fn after_init(words: usize, call: &Call) -> Given {
 }
 
 /// By figures: what a call is to answer on a pool of these words.
-fn answers(words: usize, call: Call, answer: u64, number: u64) -> Option<String> {
+pub fn answers(words: usize, call: Call, answer: u64, number: u64) -> Option<String> {
     let given = after_init(words, &call);
     let found = (given.answer, given.number);
     let list = CallList { words: vec![0; words], calls: vec![Call::Init, call] };
@@ -62,7 +64,7 @@ fn runs(batch: Vec<u8>, reply: usize, answer: u64, number: u64) -> Option<String
 fn replies(commands: &[Command], wanted: &[u8]) -> Option<String> {
     let (batch, reply) = (records(commands), 24 * commands.len());
     let given = after_init(211, &Call::Run { batch: batch.clone(), reply });
-    differs(&batch, &given.reply[reply - 24..], wanted)
+    differs(&batch, &given.bytes[reply - 24..], wanted)
 }
 
 fn differs(batch: &[u8], found: &[u8], wanted: &[u8]) -> Option<String> {
@@ -118,7 +120,7 @@ fn case_15() -> Vec<Case> {
 }
 
 fn empty_batch() -> Vec<Case> {
-    let reply = |batch| after_init(211, &Call::Run { batch, reply: 48 }).reply;
+    let reply = |batch| after_init(211, &Call::Run { batch, reply: 48 }).bytes;
     // A refused batch leaves the reply space as it was.
     let untouched = reply(vec![9]);
     vec![
@@ -187,7 +189,7 @@ fn programs(with_program: bool) -> Vec<Case> {
 
 /// How many cases there are, and those that failed, with what is wrong.
 pub fn run_all(with_program: bool) -> (usize, Vec<(&'static str, String)>) {
-    let figures = [case_13(), case_14(), case_15(), empty_batch()].concat();
+    let figures = [case_13(), case_14(), case_15(), empty_batch(), listing_cases()].concat();
     let all = [starred(), figures, programs(with_program)].concat();
     let count = all.len();
     (count, all.into_iter().filter_map(|(name, wrong)| Some((name, wrong?))).collect())

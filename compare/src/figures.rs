@@ -1,13 +1,14 @@
 //! What was compared so far, counted in memory that the child process shares with us.
 
 use crate::lend::{Call, Given};
+use crate::listings::{kinds, Kind, KINDS};
 use crate::os::shared_numbers;
 use crate::stretch::{counts, FindCounts};
 use std::sync::atomic::{AtomicU64, Ordering::Relaxed};
 
 #[derive(Clone, Copy)]
 pub struct Figures {
-    numbers: &'static [AtomicU64; 64],
+    numbers: &'static [AtomicU64; 128],
 }
 
 /// Which number is what.
@@ -33,11 +34,16 @@ pub enum Of {
     AnyLastInside = 55,
     FromSibling = 56,
     OverRuns = 57,
+    Listings = 64,
+    ListedBytes = 65,
 }
 
 /// The first number of the answers of calls and of those in replies.
 const CALL_ANSWERS: usize = 16;
 const REPLY_ANSWERS: usize = 32;
+
+/// The first number of the kinds of listings.
+const LISTING_KINDS: usize = 96;
 
 impl Figures {
     pub fn new() -> Figures {
@@ -56,29 +62,46 @@ impl Figures {
         self.numbers[of as usize].fetch_add(number as u64, Relaxed);
     }
 
-    /// FindCounts a call on a pool of so many words, by what reference gave.
-    pub fn count(self, call: &Call, words: usize, given: &Given) {
+    /// Counts a call, by reference's pool after it and what it gave.
+    pub fn count(self, call: &Call, pool: &[u64], given: &Given) {
         self.add(Of::Calls, 1);
-        self.add(Of::Words, words);
-        self.add(Of::ReplyBytes, given.reply.len());
+        self.add(Of::Words, pool.len());
         self.numbers[CALL_ANSWERS + given.answer as usize].fetch_add(1, Relaxed);
-        if !matches!(call, Call::Run { .. }) {
-            return;
+        match call {
+            Call::Init | Call::Check => {}
+            Call::Run { .. } => self.count_run(given),
+            Call::List { .. } => self.count_listing(call, pool, given),
         }
+    }
+
+    fn count_run(self, given: &Given) {
         self.add(Of::Batches, 1);
+        self.add(Of::ReplyBytes, given.bytes.len());
         if given.answer == 0 {
             self.add(Of::Commands, given.number as usize);
-            for reply in given.reply.chunks(24).take(given.number as usize) {
+            for reply in given.bytes.chunks(24).take(given.number as usize) {
                 self.numbers[REPLY_ANSWERS + usize::from(reply[3])].fetch_add(1, Relaxed);
             }
         }
     }
 
-    /// FindCounts a call of a list that is made for finds, by reference's pool and what it gave.
+    /// Counts a listing by its kinds.
+    fn count_listing(self, call: &Call, pool: &[u64], given: &Given) {
+        self.add(Of::Listings, 1);
+        self.add(Of::ListedBytes, given.bytes.len());
+        for kind in kinds(call, pool, given) {
+            self.numbers[LISTING_KINDS + kind as usize].fetch_add(1, Relaxed);
+        }
+    }
+
+    /// Counts a call of a list that is made for finds, by reference's pool and what it gave.
     pub fn count_finds(self, call: &Call, pool: &[u64], given: &Given) {
         self.add(Of::FindWords, pool.len());
-        self.add(Of::FindReplyBytes, given.reply.len());
-        let found: FindCounts = counts(call, pool, &given.reply);
+        if matches!(call, Call::List { .. }) {
+            return self.count_listing(call, pool, given);
+        }
+        self.add(Of::FindReplyBytes, given.bytes.len());
+        let found: FindCounts = counts(call, pool, &given.bytes);
         self.add(Of::Finds, found.finds);
         self.add(Of::PausedInside, found.paused_inside);
         self.add(Of::LastInside, found.last_inside);
@@ -107,7 +130,7 @@ impl Figures {
             self.get(Of::Words),
             self.get(Of::ReplyBytes)
         );
-        println!("  answers of calls      {}", self.answers(CALL_ANSWERS, 0..5));
+        println!("  answers of calls      {}", self.answers(CALL_ANSWERS, 0..9));
         println!("  answers in replies    {}", self.answers(REPLY_ANSWERS, 0..14));
     }
 
@@ -131,6 +154,21 @@ impl Figures {
             self.get(Of::AnyLastInside),
             self.get(Of::FromSibling)
         );
+    }
+
+    /// Those of the lists of calls and of the lists made for finds.
+    pub fn print_listings(self) {
+        println!(
+            "listings: {} in lists of both kinds, {} bytes of buffers compared",
+            self.get(Of::Listings),
+            self.get(Of::ListedBytes)
+        );
+        for line in KINDS.chunks(6) {
+            let count = |kind: Kind| self.numbers[LISTING_KINDS + kind as usize].load(Relaxed);
+            let named: Vec<String> =
+                line.iter().map(|(kind, name)| format!("{name}: {}", count(*kind))).collect();
+            println!("  {}", named.join(", "));
+        }
     }
 
     pub fn print_program(self) {

@@ -1,9 +1,11 @@
 //! One call by both: by reference on its own buffers, by the library on buffers that end at an
-//! unreadable page. Result, every word and every reply byte are compared.
+//! unreadable page. Result, every word and every byte lent to be written are compared.
 
 use crate::batches::hex;
 use crate::os::Guarded;
+use reference::batch::REPLY_BYTES;
 use reference::calls;
+use reference::listing::LISTED_BYTES;
 use xapool_host::layout::{ANCHOR_WORDS, NODE_WORDS, SLOT_FIELD};
 use xapool_host::raw;
 
@@ -11,20 +13,49 @@ use xapool_host::raw;
 pub enum Call {
     Init,
     Check,
-    Run { batch: Vec<u8>, reply: usize },
+    Run {
+        batch: Vec<u8>,
+        reply: usize,
+    },
+    /// The listing (P1), into a buffer of so many bytes.
+    List {
+        first: u64,
+        last: u64,
+        buffer: usize,
+    },
+}
+
+impl Call {
+    /// How many bytes it is lent to write: reply space or buffer, if it has any such.
+    fn space(&self) -> Option<usize> {
+        match self {
+            Call::Init | Call::Check => None,
+            Call::Run { reply, .. } => Some(*reply),
+            Call::List { buffer, .. } => Some(*buffer),
+        }
+    }
+
+    /// What it writes there one after the other, and the size of one.
+    fn unit(&self) -> (&'static str, usize) {
+        match self {
+            Call::List { .. } => ("entry", LISTED_BYTES),
+            _ => ("reply", REPLY_BYTES),
+        }
+    }
 }
 
 const MOST_POOL_WORDS: usize = 69_100;
 const MOST_BATCH_BYTES: usize = 12_000;
-const MOST_REPLY_BYTES: usize = 40_000;
+/// Enough for every entry of a pool in which all slots are entries.
+const MOST_SPACE_BYTES: usize = LISTED_BYTES * 64 * 1000 + 1000;
 
 /// How many bytes before a lent buffer are watched.
 const EDGE: usize = 512;
 const EDGE_BYTE: u8 = 0xA5;
 const EDGE_WORD: u64 = 0xA5A5_A5A5_A5A5_A5A5;
 
-/// What is in the reply space before a call.
-fn reply_byte(place: usize) -> u8 {
+/// What is in the reply space or the buffer before a call.
+pub fn space_byte(place: usize) -> u8 {
     (place % 251) as u8 ^ 0x5A
 }
 
@@ -32,7 +63,7 @@ fn reply_byte(place: usize) -> u8 {
 pub struct Lender {
     pool: Guarded,
     batch: Guarded,
-    reply: Guarded,
+    space: Guarded,
 }
 
 /// The last `count` elements with what stands before them.
@@ -43,12 +74,12 @@ fn split<T>(all: &mut [T], count: usize) -> (&mut [T], &mut [T]) {
     (&mut before[from..], lent)
 }
 
-/// What a call gave: the result, and the reply bytes after it.
+/// What a call gave: the result, and the bytes of its reply space or buffer after it.
 #[derive(Clone, Debug, PartialEq, Eq)]
 pub struct Given {
     pub answer: u64,
     pub number: u64,
-    pub reply: Vec<u8>,
+    pub bytes: Vec<u8>,
 }
 
 impl Lender {
@@ -56,7 +87,7 @@ impl Lender {
         Lender {
             pool: Guarded::new(8 * MOST_POOL_WORDS),
             batch: Guarded::new(MOST_BATCH_BYTES),
-            reply: Guarded::new(MOST_REPLY_BYTES),
+            space: Guarded::new(MOST_SPACE_BYTES),
         }
     }
 
@@ -78,31 +109,38 @@ impl Lender {
                 given(result, &[])
             }
             Call::Run { batch, reply } => self.run(batch, *reply, words),
+            Call::List { first, last, buffer } => self.list(*first, *last, *buffer, words),
         }
     }
 
     fn run(&mut self, batch: &[u8], reply: usize, words: usize) -> Given {
-        let (edge, space) = split(self.reply.bytes(), reply);
-        edge.fill(EDGE_BYTE);
-        space.iter_mut().enumerate().for_each(|(place, byte)| *byte = reply_byte(place));
+        let space = fresh_space(&mut self.space, reply);
         split(self.batch.bytes(), batch.len()).1.copy_from_slice(batch);
         self.batch.read_only(true);
         let lent = split(self.batch.bytes(), batch.len()).1;
         let result = raw::run(split(self.pool.words(), words).1, lent, space);
         self.batch.read_only(false);
-        given(result, split(self.reply.bytes(), reply).1)
+        given(result, split(self.space.bytes(), reply).1)
+    }
+
+    fn list(&mut self, first: u64, last: u64, buffer: usize, words: usize) -> Given {
+        let space = fresh_space(&mut self.space, buffer);
+        self.pool.read_only(true);
+        let result = raw::list(split(self.pool.words(), words).1, first, last, space);
+        self.pool.read_only(false);
+        given(result, split(self.space.bytes(), buffer).1)
     }
 
     /// Whether something before a lent buffer was written.
-    fn edge_written(&mut self, words: usize, reply: Option<usize>) -> Option<String> {
+    fn edge_written(&mut self, words: usize, space: Option<usize>) -> Option<String> {
         let pool = split(self.pool.words(), words).0.iter().all(|word| *word == EDGE_WORD);
-        let reply = reply.is_none_or(|reply| {
-            split(self.reply.bytes(), reply).0.iter().all(|byte| *byte == EDGE_BYTE)
+        let space = space.is_none_or(|space| {
+            split(self.space.bytes(), space).0.iter().all(|byte| *byte == EDGE_BYTE)
         });
-        match (pool, reply) {
+        match (pool, space) {
             (true, true) => None,
             (false, _) => Some("a word before the pool was written".into()),
-            _ => Some("a byte before the reply space was written".into()),
+            _ => Some("a byte before the reply space or buffer was written".into()),
         }
     }
 
@@ -127,47 +165,58 @@ impl Lender {
         let expected = by_reference(call, pool);
         let found = self.call(call, pool.len());
         let lent = split(self.pool.words(), pool.len()).1;
-        let difference = results(&expected, &found).or_else(|| words(pool, lent));
-        let reply = matches!(call, Call::Run { .. }).then_some(expected.reply.len());
-        let difference = difference.or_else(|| self.edge_written(pool.len(), reply));
+        let difference = results(&expected, &found)
+            .or_else(|| bytes(call, &expected.bytes, &found.bytes))
+            .or_else(|| words(pool, lent));
+        let difference = difference.or_else(|| self.edge_written(pool.len(), call.space()));
         let difference = difference.or_else(|| self.miscounted(call));
         (expected, difference)
     }
 }
 
-fn given(result: raw::RawResult, reply: &[u8]) -> Given {
-    Given { answer: result.answer, number: result.number, reply: reply.to_vec() }
+/// The space to be lent, with what stands in it and before it.
+fn fresh_space(all: &mut Guarded, count: usize) -> &mut [u8] {
+    let (edge, space) = split(all.bytes(), count);
+    edge.fill(EDGE_BYTE);
+    space.iter_mut().enumerate().for_each(|(place, byte)| *byte = space_byte(place));
+    space
 }
 
-fn by_reference(call: &Call, pool: &mut [u64]) -> Given {
-    let mut space = Vec::new();
+fn given(result: raw::RawResult, bytes: &[u8]) -> Given {
+    Given { answer: result.answer, number: result.number, bytes: bytes.to_vec() }
+}
+
+pub fn by_reference(call: &Call, pool: &mut [u64]) -> Given {
+    let mut space: Vec<u8> = (0..call.space().unwrap_or(0)).map(space_byte).collect();
     let outcome = match call {
         Call::Init => calls::init(pool),
         Call::Check => calls::check(pool),
-        Call::Run { batch, reply } => {
-            space = (0..*reply).map(reply_byte).collect();
-            calls::run(pool, batch, &mut space)
-        }
+        Call::Run { batch, .. } => calls::run(pool, batch, &mut space),
+        Call::List { first, last, .. } => calls::list(pool, *first, *last, &mut space),
     };
-    Given { answer: outcome.answer, number: outcome.number, reply: space }
+    Given { answer: outcome.answer, number: outcome.number, bytes: space }
 }
 
 fn results(expected: &Given, found: &Given) -> Option<String> {
-    if (expected.answer, expected.number) != (found.answer, found.number) {
-        let (a, b) = (expected, found);
-        return Some(format!(
+    let (a, b) = (expected, found);
+    ((a.answer, a.number) != (b.answer, b.number)).then(|| {
+        format!(
             "reference gives answer {}, number {}; the library {}, {}",
             a.answer, a.number, b.answer, b.number
-        ));
-    }
-    let place = (0..expected.reply.len()).find(|at| expected.reply[*at] != found.reply[*at])?;
-    let from = place - place % 24;
-    let part = |reply: &[u8]| hex(&reply[from..reply.len().min(from + 24)]);
+        )
+    })
+}
+
+fn bytes(call: &Call, expected: &[u8], found: &[u8]) -> Option<String> {
+    let place = (0..expected.len()).find(|at| expected[*at] != found[*at])?;
+    let (name, size) = call.unit();
+    let from = place - place % size;
+    let part = |bytes: &[u8]| hex(&bytes[from..bytes.len().min(from + size)]);
     Some(format!(
-        "reply byte {place} differs, in reply {}:\n    reference {}\n    library   {}",
-        place / 24,
-        part(&expected.reply),
-        part(&found.reply)
+        "{name} byte {place} differs, in {name} {}:\n    reference {}\n    library   {}",
+        place / size,
+        part(expected),
+        part(found)
     ))
 }
 

@@ -2,12 +2,29 @@
 
 use crate::batches::{parts, random_batch, show};
 use crate::figures::{Figures, Of};
-use crate::lend::{Call, Given, Lender};
+use crate::lend::{by_reference, Call, Given, Lender};
+use crate::listings::random_listing;
 use crate::pools::random_words;
 use reference::awkward::Commands as Source;
 use reference::batch::read;
 use reference::pool::{node_count, pool_length, State};
 use reference::random::Random;
+
+/// Reference's pool, which lags behind the calls until a listing asks where its entries are.
+struct Followed {
+    words: Vec<u64>,
+    made: usize,
+}
+
+impl Followed {
+    fn after(&mut self, calls: &[Call]) -> &[u64] {
+        for call in &calls[self.made..] {
+            by_reference(call, &mut self.words);
+        }
+        self.made = calls.len();
+        &self.words
+    }
+}
 
 /// The words it starts from, and the calls.
 #[derive(Clone, Debug, PartialEq, Eq)]
@@ -21,15 +38,23 @@ impl CallList {
         let mut random = Random::new(seed);
         let mut source = Source::new(Random::new(random.word()));
         let words = random_words(&mut random, &mut source);
-        let count = 1 + random.below(6);
-        let calls = (0..count).map(|_| random_call(&mut random, &mut source)).collect();
+        let mut pool = Followed { words: words.clone(), made: 0 };
+        let mut calls = Vec::new();
+        for _ in 0..=random.below(6) {
+            let call = if random.one_in(4) {
+                random_listing(&mut random, pool.after(&calls))
+            } else {
+                random_call(&mut random, &mut source)
+            };
+            calls.push(call);
+        }
         CallList { words, calls }
     }
 
     /// The first difference, with the number of the call.
     pub fn difference(&self, figures: Option<Figures>) -> Option<String> {
         let count = |call: &Call, pool: &[u64], given: &Given| {
-            figures.iter().for_each(|figures| figures.count(call, pool.len(), given));
+            figures.iter().for_each(|figures| figures.count(call, pool, given));
         };
         let difference = self.first_difference(count);
         if let (None, Some(figures)) = (&difference, figures) {
@@ -74,6 +99,7 @@ impl CallList {
         all.extend(self.smaller_pools());
         for number in 0..self.calls.len() {
             all.extend(self.fewer_commands(number));
+            all.extend(self.narrower(number));
         }
         all.extend(self.fewer_words());
         all
@@ -147,6 +173,31 @@ impl CallList {
         }
     }
 
+    /// One listing with a smaller range or buffer.
+    fn narrower(&self, number: usize) -> Vec<CallList> {
+        let Call::List { first, last, buffer } = self.calls[number] else {
+            return Vec::new();
+        };
+        let middle = first + last.saturating_sub(first) / 2;
+        let ranges =
+            [(first, first), (last, last), (first, middle), (middle.saturating_add(1), last)];
+        let ranges = ranges.into_iter().filter(|(a, b)| first <= *a && a <= b && *b <= last);
+        let mut all: Vec<Call> =
+            ranges.map(|(first, last)| Call::List { first, last, buffer }).collect();
+        if first > last {
+            all.push(Call::List { first: 1, last: 0, buffer });
+        }
+        let buffers = [0, buffer / 2, buffer.saturating_sub(21), buffer.saturating_sub(1)];
+        all.extend(buffers.map(|buffer| Call::List { first, last, buffer }));
+        all.retain(|call| *call != self.calls[number]);
+        let with = |call| {
+            let mut list = self.clone();
+            list.calls[number] = call;
+            list
+        };
+        all.into_iter().map(with).collect()
+    }
+
     /// One word 0 that was not, but for small pools only.
     fn fewer_words(&self) -> Vec<CallList> {
         let filled = (1..self.words.len()).filter(|place| self.words[*place] != 0);
@@ -176,6 +227,9 @@ impl CallList {
                 Call::Check => "check\n".into(),
                 Call::Run { batch, reply } => {
                     format!("run, reply space {reply}\n{}", show(batch))
+                }
+                Call::List { first, last, buffer } => {
+                    format!("list from {first} to {last}, buffer {buffer}\n")
                 }
             };
         }

@@ -8,8 +8,11 @@ mod cases;
 mod exhaustive;
 mod figures;
 mod finds;
+mod indices;
 mod lend;
 mod list;
+mod listing_cases;
+mod listings;
 mod os;
 mod pools;
 mod program;
@@ -102,6 +105,7 @@ fn compare(seconds: u64, seed: u64) -> Result<bool, String> {
     figures.print_calls();
     same &= random_trials(Kind::Finds, seed, finds, figures);
     figures.print_finds();
+    figures.print_listings();
     if program {
         same &= random_trials(Kind::Program, seed, programs, figures);
         figures.print_program();

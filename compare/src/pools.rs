@@ -2,6 +2,7 @@
 
 use reference::awkward::Commands as Source;
 use reference::command::execute;
+use reference::model::Entry;
 use reference::pool::{node_word, pool_length, sibling_word, State};
 use reference::random::Random;
 use xapool_host::layout::NODE_WORDS;
@@ -30,6 +31,7 @@ pub fn random_words(random: &mut Random, source: &mut Source) -> Vec<u64> {
             words
         }
         11..=20 => well_formed(random, source, nodes),
+        21 | 22 => corner(random, nodes),
         _ => State::empty(nodes).words(),
     }
 }
@@ -55,6 +57,23 @@ pub fn well_formed(random: &mut Random, source: &mut Source, nodes: usize) -> Ve
     }
     shuffle(random, &mut state.places);
     state.words()
+}
+
+/// What random commands seldom leave: an entry as head, or entries of order 63.
+fn corner(random: &mut Random, nodes: usize) -> Vec<u64> {
+    let which = random.below(5);
+    let mut entry = |base, order| {
+        let (word, marks) = (2 * random.below(100) + 1, random.below(8) as u8);
+        Entry { base, order, word, marks }
+    };
+    let list = match which {
+        0 | 1 => vec![entry(0, 0)],
+        2 => vec![entry(0, 63)],
+        3 => vec![entry(1 << 63, 63)],
+        _ => vec![entry(0, 63), entry(1 << 63, 63)],
+    };
+    let state = State::empty(nodes).change_to(list);
+    state.expect("these need one node at most").words()
 }
 
 pub fn shuffle<T>(random: &mut Random, all: &mut [T]) {

@@ -1,12 +1,13 @@
 //! The random lists reach what they are to reach: this is a test of the test, by reference alone.
 
 use crate::finds::random_list;
-use crate::lend::Call;
+use crate::lend::{by_reference, Call};
 use crate::list::CallList;
+use crate::listings::{kinds, Kind, KINDS};
 use crate::program::Input;
 use crate::stretch::{counts, FindCounts};
 use reference::batch::{read, Command};
-use reference::calls::{check, init, run};
+use reference::calls::{self, check, init, run};
 use reference::command::{execute, needed};
 use reference::pool::State;
 use reference::recover::recover;
@@ -30,6 +31,9 @@ fn follow(met: &mut Met, list: &CallList) {
         let outcome = match call {
             Call::Init => init(&mut pool),
             Call::Check => check(&pool),
+            Call::List { first, last, buffer } => {
+                calls::list(&pool, *first, *last, &mut vec![0; *buffer])
+            }
             Call::Run { batch, reply } => {
                 let before = recover(&pool);
                 let outcome = run(&mut pool, batch, &mut vec![0; *reply]);
@@ -100,6 +104,50 @@ fn lists_for_finds_have_every_kind_of_find() {
     // A fourth of the finds have filter 3.
     once_in(60, met.any_paused_inside);
     once_in(60, met.any_last_inside);
+}
+
+/// Counts the listings of a list of calls by their kinds, by reference alone, and all of them.
+fn follow_listings(met: &mut Counts<Kind>, list: &CallList) -> usize {
+    let mut pool = list.words.clone();
+    let mut listings = 0;
+    for call in &list.calls {
+        let given = by_reference(call, &mut pool);
+        kinds(call, &pool, &given).into_iter().for_each(|kind| *met.entry(kind).or_default() += 1);
+        listings += usize::from(matches!(call, Call::List { .. }));
+    }
+    listings
+}
+
+/// Each of these kinds at least once in so many listings.
+fn assert_once_in(times: usize, met: &Counts<Kind>, listings: usize, kinds: &[Kind]) {
+    let share = |kind: &Kind| met.get(kind).unwrap_or(&0) * times >= listings;
+    assert!(kinds.iter().all(share), "of {listings} listings: {met:?}");
+}
+
+#[test]
+fn lists_of_calls_have_every_kind_of_listing() {
+    let mut met = Counts::default();
+    let lists = (0..1500).map(CallList::random);
+    let listings: usize = lists.map(|list| follow_listings(&mut met, &list)).sum();
+    assert!(listings >= 1000, "{listings}");
+    assert_once_in(100, &met, listings, &KINDS.map(|(kind, _)| kind));
+    assert_once_in(40, &met, listings, &[Kind::CutByFirst, Kind::CutByLast, Kind::CutByBoth]);
+    assert_once_in(40, &met, listings, &[Kind::OneByteShort, Kind::FirstAboveLast]);
+}
+
+/// Their pools have more entries, in more nodes.
+#[test]
+fn lists_for_finds_have_listings_of_several_nodes() {
+    let mut met = Counts::default();
+    let lists = (0..40).map(random_list);
+    let listings: usize = lists.map(|list| follow_listings(&mut met, &list)).sum();
+    assert!(listings >= 300, "{listings}");
+    let often = [Kind::SeveralNodes, Kind::OthersBefore, Kind::OthersAfter, Kind::Gap];
+    assert_once_in(10, &met, listings, &often);
+    let cut = [Kind::CutByFirst, Kind::CutByLast, Kind::CutByBoth];
+    assert_once_in(20, &met, listings, &cut);
+    let buffers = [Kind::Exact, Kind::Longer, Kind::OneByteShort, Kind::Short, Kind::NoBuffer];
+    assert_once_in(20, &met, listings, &buffers);
 }
 
 #[test]

@@ -74,6 +74,70 @@ static void replies_are_read_or_not(void)
     }
 }
 
+static void listed_entries_are_read_or_not(void)
+{
+    uint8_t bytes[42] = { 32, 0, 18, 1, 2, 3, 4, 5, 6, 7, 8, 63, 0, 0, 0, 0, 0, 0, 1, 5, 7 };
+    xapool_listed e;
+    memset(&e, 0, sizeof e);
+    CHECK(XAPOOL_LISTING(2) == sizeof bytes);
+    CHECK(xapool_read_listed(bytes, 21, 0, &e));
+    CHECK(e.index == UINT64_C(0x0102030405060708) && e.order == 63 && e.entry == 261 && e.marks == 7);
+    CHECK(!xapool_read_listed(bytes, 20, 0, &e) && !xapool_read_listed(bytes, 21, 1, &e));
+    CHECK(!xapool_read_listed(bytes, 42, 1, &e) && !xapool_read_listed(bytes, 42, SIZE_MAX, &e));
+    memcpy(bytes + 21, bytes, 21);
+    bytes[31] = 9;
+    CHECK(xapool_read_listed(bytes, 42, 1, &e) && e.index == UINT64_C(0x0102030405060709));
+    static const uint8_t wrong[][2] = { { 0, 33 }, { 1, 1 }, { 2, 17 }, { 11, 64 }, { 20, 8 } };
+    for (unsigned i = 0; i < 5; i++) {
+        uint8_t old = bytes[wrong[i][0]];
+        bytes[wrong[i][0]] = wrong[i][1];
+        CHECK(!xapool_read_listed(bytes, 21, 0, &e) && e.entry == 261);
+        bytes[wrong[i][0]] = old;
+    }
+}
+
+/* A call that lists into 'bytes' bytes; 'written' of them change, all others stay. */
+static void lists(const uint64_t *pool, uint64_t first, uint64_t last, size_t bytes, uint64_t answer, uint64_t number,
+                  const uint8_t *written)
+{
+    uint8_t buffer[64];
+    memset(buffer, 0xee, sizeof buffer);
+    xapool_result r = xapool_list(pool, XAPOOL_WORDS(3), first, last, buffer, bytes);
+    CHECK(r.answer == answer && r.number == number);
+    size_t used = answer == XAPOOL_DONE ? XAPOOL_LISTING(r.number) : 0;
+    CHECK(used == 0 || memcmp(buffer, written, used) == 0);
+    for (size_t i = used; i < sizeof buffer; i++)
+        CHECK(buffer[i] == 0xee);
+}
+
+/* Three nodes hold a run of eight at 8 and value 2 at 64, which has marks 0 and 2: 1 + 4. */
+static void a_list_is_whole_or_not_at_all(void)
+{
+    static const uint8_t both[] = { 32, 0, 18, 0, 0, 0, 0, 0, 0, 0, 8,  3, 0, 0, 0, 0, 0, 0, 0, 3, 0,
+                                    32, 0, 18, 0, 0, 0, 0, 0, 0, 0, 64, 0, 0, 0, 0, 0, 0, 0, 0, 5, 5 };
+    static uint64_t pool[XAPOOL_WORDS(3)];
+    uint8_t bytes[100], replies[XAPOOL_REPLIES(4)];
+    xapool_batch b = xapool_batch_over(bytes, sizeof bytes);
+    xapool_put_store(&b, 8, 3, XAPOOL_VALUE(1));
+    xapool_put_store(&b, 64, 0, XAPOOL_VALUE(2));
+    xapool_put_mark(&b, 64, 0);
+    xapool_put_mark(&b, 64, 2);
+    xapool_init(pool, XAPOOL_WORDS(3));
+    CHECK(xapool_run(pool, XAPOOL_WORDS(3), bytes, b.used, replies, sizeof replies).number == 4);
+    lists(pool, 0, UINT64_MAX, 64, XAPOOL_DONE, 2, both);
+    lists(pool, 15, 64, 42, XAPOOL_DONE, 2, both);
+    lists(pool, 15, 64, 41, XAPOOL_REPLY_SPACE, 2, NULL);
+    lists(pool, 15, 64, 0, XAPOOL_REPLY_SPACE, 2, NULL);
+    lists(pool, 9, 9, 21, XAPOOL_DONE, 1, both);
+    lists(pool, 16, UINT64_MAX, 21, XAPOOL_DONE, 1, both + 21);
+    lists(pool, 16, 63, 0, XAPOOL_DONE, 0, NULL);
+    lists(pool, 65, 64, 0, XAPOOL_FIRST_ABOVE_LAST, 0, NULL);
+    CHECK(xapool_list(pool, XAPOOL_WORDS(3), 0, 8, NULL, 0).number == 1);
+    CHECK(xapool_list(NULL, 0, 1, 0, NULL, 0).answer == XAPOOL_POOL_LENGTH);
+    pool[3] = 1;
+    lists(pool, 65, 64, 0, XAPOOL_NOT_WELL_FORMED, 0, NULL);
+}
+
 /* A reply to a find, and where it goes on; 0 and 'first' unchanged is the end. */
 static void next(uint8_t answer, uint64_t index, uint8_t order, uint64_t last, int goes, uint64_t to)
 {
@@ -123,7 +187,7 @@ static void null_with_length_0_is_fine(void)
     CHECK(xapool_run(pool, XAPOOL_WORDS(1), NULL, 0, NULL, 0).answer == XAPOOL_DONE);
 }
 
-/* Batch and reply at every alignment; nothing past the replies is written. */
+/* Batch, reply and list at every alignment; nothing past replies and list is written. */
 static void bytes_may_begin_anywhere(void)
 {
     static uint64_t pool[XAPOOL_WORDS(3)];
@@ -139,6 +203,12 @@ static void bytes_may_begin_anywhere(void)
         CHECK(r.answer == XAPOOL_DONE && xapool_read_reply(replies + at, 48, 1, &load) && load.entry == 5);
         for (unsigned i = 0; i < sizeof replies; i++)
             CHECK((i >= at && i < at + 48) || replies[i] == 0xee);
+        memset(replies, 0xee, sizeof replies);
+        xapool_listed e;
+        r = xapool_list(pool, XAPOOL_WORDS(3), 64, 64, replies + at, 48);
+        CHECK(r.answer == XAPOOL_DONE && xapool_read_listed(replies + at, 48, 0, &e) && e.index == 64 && e.entry == 5);
+        for (unsigned i = 0; i < sizeof replies; i++)
+            CHECK((i >= at && i < at + 21) || replies[i] == 0xee);
     }
 }
 
@@ -147,6 +217,8 @@ int main(void)
     builders_look_at_the_room();
     records_are_those_of_the_document();
     replies_are_read_or_not();
+    listed_entries_are_read_or_not();
+    a_list_is_whole_or_not_at_all();
     finds_go_on_after_the_run();
     answers_have_texts();
     null_with_length_0_is_fine();

@@ -1,5 +1,6 @@
 /* The inspection of a migration of 10,000 regions: store them (growing the pool where nodes run
- * short), mark what was compared, split what differs, save and load, and account for every region.
+ * short), mark what was compared, split what differs, save and load, account for every region, and
+ * list them as evidence.
  *
  * Mark 0 is kept inverted, 'not yet matched': a find has no filter for a missing mark.
  * host/examples/regions.rs is the same job in Rust and prints the same lines. */
@@ -326,6 +327,28 @@ static size_t expect_all(void)
     return number;
 }
 
+/* All entries once more, as an auditor gets them: the bytes of one list. */
+static void keep_evidence(const pool *p, size_t number)
+{
+    size_t size = XAPOOL_LISTING(number);
+    uint8_t *bytes = malloc(size);
+    if (!bytes)
+        fail("no memory");
+    xapool_result r = xapool_list(p->words, XAPOOL_WORDS(p->nodes), 0, UINT64_MAX, bytes, size);
+    if (r.answer != XAPOOL_DONE)
+        fail(xapool_answer_text(r.answer));
+    for (size_t i = 0; i < number; i++) {
+        xapool_listed is;
+        if (!xapool_read_listed(bytes, XAPOOL_LISTING(r.number), i, &is))
+            fail("the list is too short");
+        entry to_be = expected[i];
+        if (is.index != to_be.base || is.order != to_be.order || is.entry != to_be.word || is.marks != to_be.marks)
+            fail("the list has another entry");
+    }
+    printf("%zu bytes of evidence, checksum %016" PRIx64 "\n", size, checksum(bytes, size));
+    free(bytes);
+}
+
 static void account_for_all(pool *p)
 {
     size_t number = expect_all(), found = list(p, XAPOOL_FIND_ANY), marked[XAPOOL_MARKS] = { 0 };
@@ -342,6 +365,7 @@ static void account_for_all(pool *p)
     for (uint8_t mark = 0; mark < XAPOOL_MARKS; mark++)
         if (list(p, mark) != marked[mark])
             fail("a find by mark misses some");
+    keep_evidence(p, number);
 }
 
 int main(void)

@@ -12,6 +12,7 @@
 
 static uint64_t pool[XAPOOL_WORDS(XAPOOL_MAX_NODES)];
 static uint8_t bytes[XAPOOL_BATCH_BYTES], replies[XAPOOL_REPLIES(XAPOOL_MAX_COMMANDS)];
+static uint8_t list[XAPOOL_LISTING(64 * XAPOOL_MAX_NODES)]; /* more entries than any pool has */
 
 /* Commands of all kinds that build trees of every height and free them again. */
 static void put_one(xapool_batch *b, unsigned i)
@@ -30,10 +31,22 @@ static void put_one(xapool_batch *b, unsigned i)
     }
 }
 
+/* The entry at the last index: below the last slot of nodes of every height, where a list that keeps
+ * something for each slot keeps most. */
+static void list_the_last_index(void)
+{
+    xapool_batch b = xapool_batch_over(bytes, sizeof bytes);
+    xapool_put_store(&b, UINT64_MAX, 0, XAPOOL_VALUE(1));
+    xapool_run(pool, XAPOOL_WORDS(XAPOOL_MAX_NODES), b.bytes, b.used, replies, sizeof replies);
+    if (xapool_list(pool, XAPOOL_WORDS(XAPOOL_MAX_NODES), 0, UINT64_MAX, list, sizeof list).number != 1)
+        exit(1);
+}
+
 static void *calls(void *argument)
 {
     size_t *ran = argument;
     xapool_init(pool, XAPOOL_WORDS(XAPOOL_MAX_NODES));
+    list_the_last_index();
     for (unsigned round = 0; round < 40; round++) {
         xapool_batch b = xapool_batch_over(bytes, sizeof bytes);
         for (unsigned i = 0; i < 400; i++)
@@ -41,6 +54,7 @@ static void *calls(void *argument)
         *ran += xapool_run(pool, XAPOOL_WORDS(XAPOOL_MAX_NODES), b.bytes, b.used, replies, sizeof replies).number;
         xapool_check(pool, XAPOOL_WORDS(XAPOOL_MAX_NODES));
         xapool_count(b.bytes, b.used);
+        xapool_list(pool, XAPOOL_WORDS(XAPOOL_MAX_NODES), 0, UINT64_MAX, list, sizeof list);
     }
     return NULL;
 }

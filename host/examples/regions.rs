@@ -1,5 +1,6 @@
 //! The inspection of a migration of 10,000 regions: store them (growing the pool where nodes run
-//! short), mark what was compared, split what differs, save and load, and account for every region.
+//! short), mark what was compared, split what differs, save and load, account for every region, and
+//! list them as evidence.
 //!
 //! Mark 0 is kept inverted, 'not yet matched': a find has no filter for a missing mark.
 //! examples/c/regions.c is the same job in C and prints the same lines.
@@ -196,6 +197,17 @@ fn expected() -> Vec<Entry> {
     entries
 }
 
+/// All entries once more, as an auditor gets them: the bytes of one list.
+fn keep_evidence(pool: &Pool) -> Result<()> {
+    let list = pool.list(..)?;
+    if !list.clone().eq(expected()) {
+        return Err("the list has another entry, or is too short".into());
+    }
+    let bytes = list.bytes();
+    println!("{} bytes of evidence, checksum {:016x}", bytes.len(), checksum(bytes));
+    Ok(())
+}
+
 fn account_for_all(pool: &mut Pool) -> Result<()> {
     let entries: Vec<Entry> = pool.find(.., FIND_ANY).collect::<std::result::Result<_, _>>()?;
     if entries != expected() {
@@ -212,7 +224,7 @@ fn account_for_all(pool: &mut Pool) -> Result<()> {
             return Err("a find by mark misses some".into());
         }
     }
-    Ok(())
+    keep_evidence(pool)
 }
 
 fn main() -> Result<()> {

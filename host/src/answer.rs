@@ -3,7 +3,7 @@
 use crate::raw::RawResult;
 use std::fmt;
 
-/// The answer of a call (0 to 4) or in a reply (0 and 5 to 14). As an error it is what a command was
+/// The answer of a call (0 to 4; of a list also 8) or in a reply (0 and 5 to 14). As an error it is what a command was
 /// answered in place of `Done`: see [`Reply::done`](crate::Reply::done).
 #[derive(Clone, Copy, Debug, PartialEq, Eq, Hash, PartialOrd, Ord)]
 #[repr(u8)]
@@ -17,7 +17,7 @@ pub enum Answer {
     NotWellFormed = 2,
     /// Call: the batch is too long, or has a record that is cut off, or whose tag or length is none.
     BadBatch = 3,
-    /// Call: under 24 bytes of reply space a command.
+    /// Call: under 24 bytes of reply space a command, or 21 bytes an entry of a list.
     ReplySpace = 4,
     /// Store: the order is above 63.
     BadOrder = 5,
@@ -25,7 +25,7 @@ pub enum Answer {
     BadEntry = 6,
     /// Mark, unmark: the mark is above 2. Find: the filter is above 3.
     BadMark = 7,
-    /// Find: first is above last.
+    /// Find, and the call that lists: first is above last.
     FirstAboveLast = 8,
     /// Find: the budget is 0.
     NoBudget = 9,
@@ -80,7 +80,7 @@ impl Answer {
             Answer::BadBatch => {
                 "batch too long, or a record is cut, of unknown tag or wrong length"
             }
-            Answer::ReplySpace => "reply space under 24 bytes a command",
+            Answer::ReplySpace => "space under 24 bytes a command, or 21 an entry of a list",
             Answer::BadOrder => "order above 63",
             Answer::BadEntry => "entry is 0 or ends in binary 10",
             Answer::BadMark => "mark above 2 or filter above 3",
@@ -103,7 +103,7 @@ impl fmt::Display for Answer {
 
 impl std::error::Error for Answer {}
 
-/// A call that was refused: nothing ran, pool and replies are as they were.
+/// A call that was refused: nothing ran, the pool and what was lent for the answer are as they were.
 #[derive(Clone, Copy, Debug, PartialEq, Eq)]
 pub enum Refusal {
     /// The pool's length is not 4 + 69 N words with N from 1 to 1,000.
@@ -120,6 +120,13 @@ pub enum Refusal {
     ReplySpace {
         /// The commands of the batch.
         commands: u64,
+    },
+    /// A list: first is above last.
+    FirstAboveLast,
+    /// A list: so many entries need 21 bytes each.
+    ListSpace {
+        /// The entries that meet the range.
+        entries: u64,
     },
     /// The library gave what it never gives. Is it the right library?
     Unexpected {
@@ -144,13 +151,25 @@ impl Refusal {
         }
     }
 
+    /// The same for a list: the entries, or the refusal. It has no batch.
+    pub(crate) fn unless_listed(result: RawResult) -> Result<u64, Refusal> {
+        let RawResult { answer, number } = result;
+        match Answer::from_number(answer) {
+            Some(Answer::ReplySpace) => Err(Refusal::ListSpace { entries: number }),
+            Some(Answer::FirstAboveLast) => Err(Refusal::FirstAboveLast),
+            Some(Answer::BadBatch) => Err(Refusal::Unexpected { answer, number }),
+            _ => Refusal::unless_done(result),
+        }
+    }
+
     /// The answer by name, where it is one.
     pub fn answer(self) -> Option<Answer> {
         match self {
             Refusal::PoolLength => Some(Answer::PoolLength),
             Refusal::NotWellFormed => Some(Answer::NotWellFormed),
             Refusal::BadBatch { .. } => Some(Answer::BadBatch),
-            Refusal::ReplySpace { .. } => Some(Answer::ReplySpace),
+            Refusal::ReplySpace { .. } | Refusal::ListSpace { .. } => Some(Answer::ReplySpace),
+            Refusal::FirstAboveLast => Some(Answer::FirstAboveLast),
             Refusal::Unexpected { answer, .. } => Answer::from_number(answer),
         }
     }
@@ -164,6 +183,10 @@ impl fmt::Display for Refusal {
             Refusal::BadBatch { place } => write!(f, "{} (at byte {place})", Answer::BadBatch),
             Refusal::ReplySpace { commands } => {
                 write!(f, "{} ({commands} commands)", Answer::ReplySpace)
+            }
+            Refusal::FirstAboveLast => Answer::FirstAboveLast.fmt(f),
+            Refusal::ListSpace { entries } => {
+                write!(f, "{} ({entries} entries)", Answer::ReplySpace)
             }
             Refusal::Unexpected { answer, number } => {
                 write!(f, "unexpected answer {answer}, number {number}")

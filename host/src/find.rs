@@ -157,7 +157,7 @@ fn found(reply: &Reply) -> Result<Option<Entry>, Error> {
 }
 
 /// First and last index of a range; none if it has no index.
-fn ends(range: impl RangeBounds<u64>) -> Option<(u64, u64)> {
+pub(crate) fn ends(range: impl RangeBounds<u64>) -> Option<(u64, u64)> {
     let first = match range.start_bound() {
         Bound::Included(first) => *first,
         Bound::Excluded(before) => before.checked_add(1)?,

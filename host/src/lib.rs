@@ -18,7 +18,7 @@
 //!
 //! A [`Pool`] owns or borrows its words and runs [`Command`]s: [`Pool::run_all`] any number,
 //! [`Pool::run`] one batch that a [`BatchBuilder`] gathered, [`Pool::find`] the finds that go through
-//! a range. Each command has one [`Reply`], whose [`Answer`] says whether it was done. A call that the
+//! a range; [`Pool::list`] gives a range's entries in one call, as bytes to keep. Each command has one [`Reply`], whose [`Answer`] says whether it was done. A call that the
 //! library refuses is a [`Refusal`]: nothing ran. Nothing here panics, whatever it is given, but for
 //! an index past the end of [`Replies`]; `unsafe` is in [`raw`] alone.
 
@@ -29,6 +29,7 @@ mod batch;
 mod command;
 mod find;
 pub mod layout;
+mod list;
 mod pool;
 pub mod raw;
 mod reply;
@@ -43,6 +44,7 @@ pub use batch::{
 };
 pub use command::{Command, Tag, FIND_ANY, MOST_ORDER};
 pub use find::{Finds, MOST_FINDS};
+pub use list::{BadListed, Listing, LISTED_BYTES};
 pub use pool::{bytes_of_words, node_count, pool_words, words_of_bytes, Pool, MOST_NODES};
 pub use reply::{
     BadRecord, Entry, Marks, ProgramError, Record, Records, Replies, Reply, REPLY_BYTES,

@@ -3,8 +3,9 @@
 use crate::answer::{Answer, Refusal};
 use crate::batch::{BatchBuilder, Batches};
 use crate::command::Command;
-use crate::find::Finds;
+use crate::find::{ends, Finds};
 use crate::layout::{node_place, ANCHOR_WORDS, NODE_WORDS};
+use crate::list::{Listing, LISTED_BYTES};
 use crate::raw;
 use crate::reply::{Replies, REPLY_BYTES};
 use std::ops::RangeBounds;
@@ -144,6 +145,52 @@ impl<'a> Pool<'a> {
     /// ```
     pub fn find(&mut self, range: impl RangeBounds<u64>, filter: u8) -> Finds<'_, 'a> {
         Finds::new(self, range, filter)
+    }
+
+    /// Every entry that meets the range, in index order, each once, in one call that only reads: an
+    /// iterator over the entries, whose bytes can be kept as evidence. An entry that begins before
+    /// the range or ends after it is listed whole. A range of no index has no entries.
+    ///
+    /// ```
+    /// # use xapool_host::{Command, Pool, Word};
+    /// # let mut pool = Pool::new(40)?;
+    /// let replies = pool.run_all([
+    ///     Command::Store { index: 8, order: 3, word: Word::value(1)? },
+    ///     Command::Store { index: 64, order: 0, word: Word::value(2)? },
+    ///     Command::Mark { index: 64, mark: 0 },
+    /// ])?;
+    /// assert!(replies.iter().all(|reply| reply.done().is_ok()));
+    /// let list = pool.list(15..)?;
+    /// assert_eq!((list.len(), list.bytes().len()), (2, 2 * 21));
+    /// let lines: Vec<String> = list.map(|entry| entry.to_string()).collect();
+    /// assert_eq!(lines, ["8 order 3 value 1 marks -", "64 order 0 value 2 marks 0"]);
+    /// # Ok::<(), Box<dyn std::error::Error>>(())
+    /// ```
+    pub fn list(&self, range: impl RangeBounds<u64>) -> Result<Listing, Refusal> {
+        let Some((first, last)) = ends(range) else {
+            return self.check().map(|()| Listing::default());
+        };
+        // Without space it says how many there are; and the pool cannot change until it has it.
+        let entries = match self.list_bytes(first, last, &mut []) {
+            Err(Refusal::ListSpace { entries }) => entries,
+            other => return other.map(|_| Listing::default()),
+        };
+        let unexpected = Refusal::Unexpected { answer: 0, number: entries };
+        let bytes = usize::try_from(entries).ok().and_then(|count| count.checked_mul(LISTED_BYTES));
+        let mut space = vec![0; bytes.ok_or(unexpected)?];
+        let listed = self.list_bytes(first, last, &mut space)?;
+        // The library lists what it counted, and good entries alone; another one would be told here.
+        let list = Listing::read(space).map_err(|_| unexpected)?;
+        (list.len() == listed).then_some(list).ok_or(unexpected)
+    }
+
+    /// Lists the entries from first to last into these bytes, 21 for each; gives how many there are.
+    /// Bytes past them stay as they were, and all do where it is refused.
+    pub fn list_bytes(&self, first: u64, last: u64, buffer: &mut [u8]) -> Result<usize, Refusal> {
+        let entries = Refusal::unless_listed(raw::list(self.words(), first, last, buffer))?;
+        let fits =
+            usize::try_from(entries).ok().filter(|count| *count <= buffer.len() / LISTED_BYTES);
+        fits.ok_or(Refusal::Unexpected { answer: 0, number: entries })
     }
 
     /// Runs the bytes of a batch, whatever they are, into this reply space; gives how many

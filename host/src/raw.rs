@@ -5,9 +5,9 @@
 #[derive(Clone, Copy, Debug, PartialEq, Eq)]
 #[must_use]
 pub struct RawResult {
-    /// 0 done, 1 to 4 refused.
+    /// 0 done, 1 to 4 refused; of a list also 8.
     pub answer: u64,
-    /// Commands, or the place of a bad record; see [`Refusal`](crate::Refusal).
+    /// Commands, entries, or the place of a bad record; see [`Refusal`](crate::Refusal).
     pub number: u64,
 }
 
@@ -23,6 +23,14 @@ extern "C" {
         reply_bytes: usize,
     ) -> RawResult;
     fn xapool_count(batch: *const u8, batch_bytes: usize) -> RawResult;
+    fn xapool_list(
+        pool: *const u64,
+        pool_words: usize,
+        first: u64,
+        last: u64,
+        buffer: *mut u8,
+        buffer_bytes: usize,
+    ) -> RawResult;
 }
 
 /// Makes the words an empty pool, whatever stood there.
@@ -56,4 +64,11 @@ pub fn run(pool: &mut [u64], batch: &[u8], reply: &mut [u8]) -> RawResult {
 pub fn count(batch: &[u8]) -> RawResult {
     // SAFETY: as in `check`.
     unsafe { xapool_count(batch.as_ptr(), batch.len()) }
+}
+
+/// Lists the entries of a pool that meet first to last into `buffer`, 21 bytes each.
+pub fn list(pool: &[u64], first: u64, last: u64, buffer: &mut [u8]) -> RawResult {
+    let (words, bytes) = (pool.len(), buffer.len());
+    // SAFETY: two slices borrowed for the call; the one that is written is borrowed alone.
+    unsafe { xapool_list(pool.as_ptr(), words, first, last, buffer.as_mut_ptr(), bytes) }
 }

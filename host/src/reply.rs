@@ -35,7 +35,7 @@ impl fmt::Display for Marks {
     }
 }
 
-/// An entry as a reply gives it.
+/// An entry as a reply or a list gives it.
 #[derive(Clone, Copy, Debug, PartialEq, Eq)]
 pub struct Entry {
     /// The first index that it covers.
@@ -66,6 +66,14 @@ impl Entry {
     #[must_use]
     pub fn covers(self, index: u64) -> bool {
         (self.base..=self.last()).contains(&index)
+    }
+}
+
+/// As xabatch writes it: `64 order 0 value 2 marks -`.
+impl fmt::Display for Entry {
+    fn fmt(&self, f: &mut fmt::Formatter) -> fmt::Result {
+        let Entry { base, order, word, marks } = self;
+        write!(f, "{} order {order} {word} marks {marks}", Position(*base))
     }
 }
 
@@ -160,8 +168,8 @@ impl Reply {
 impl fmt::Display for Reply {
     fn fmt(&self, f: &mut fmt::Formatter) -> fmt::Result {
         write!(f, "{}: {}", self.tag, self.answer)?;
-        if let Some(Entry { base, order, word, marks }) = self.entry() {
-            write!(f, ", {} order {order} {word} marks {marks}", Position(base))?;
+        if let Some(entry) = self.entry() {
+            write!(f, ", {entry}")?;
         }
         if let Some(position) = self.paused_at() {
             write!(f, " at {}", Position(position))?;

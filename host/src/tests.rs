@@ -2,6 +2,8 @@
 
 use crate::*;
 
+mod list;
+
 const LAST: u64 = u64::MAX;
 
 fn store(index: u64, order: u8, word: u64) -> Command {
@@ -337,21 +339,27 @@ fn finds_one_by_one_go_on_after_a_run_or_at_a_pause() {
     assert!(pauses > 10, "{pauses}");
 }
 
+/// Entries of many orders below 2^16, some marked.
+fn random_pool(seed: u64) -> Pool<'static> {
+    let mut pool = Pool::new(200).expect("a good size");
+    let bytes = random_bytes(seed, 600);
+    let commands = bytes.chunks(5).map(|part| {
+        let index = u64::from(part[0]) * 256 + u64::from(part[1]);
+        match part[2] % 8 {
+            0 => Command::Erase { index },
+            1 | 2 => mark(index, part[3] % 3),
+            _ => store(index, part[3] % 9 * (part[4] % 2), 2 * index + 1),
+        }
+    });
+    assert_eq!(pool.run_all(commands).expect("a good pool").len(), 120);
+    pool
+}
+
 /// Entries of many orders: the list by loads, and by finds with all budgets and sizes of batch.
 #[test]
 fn finds_give_each_entry_once() {
     for seed in 0..8 {
-        let mut pool = Pool::new(200).expect("a good size");
-        let bytes = random_bytes(seed, 600);
-        let commands = bytes.chunks(5).map(|part| {
-            let index = u64::from(part[0]) * 256 + u64::from(part[1]);
-            match part[2] % 8 {
-                0 => Command::Erase { index },
-                1 | 2 => mark(index, part[3] % 3),
-                _ => store(index, part[3] % 9 * (part[4] % 2), 2 * index + 1),
-            }
-        });
-        assert_eq!(pool.run_all(commands).expect("a good pool").len(), 120);
+        let mut pool = random_pool(seed);
         let mut listed: Vec<Entry> = Vec::new();
         let loads = pool.run_all((0..1 << 16).map(load)).expect("a good pool");
         listed.extend(loads.iter().filter_map(|reply| reply.entry()));

@@ -1,8 +1,9 @@
-//! The three calls over borrowed slices: init, check, run.
+//! The four calls over borrowed slices: init, check, run, list.
 
 use crate::answers::*;
 use crate::batch::{read, REPLY_BYTES};
 use crate::command::execute_each;
+use crate::listing::{listing, LISTED_BYTES};
 use crate::pool::{node_count, State};
 use crate::recover::recover;
 
@@ -57,4 +58,24 @@ pub fn run(pool: &mut [u64], batch: &[u8], reply: &mut [u8]) -> Outcome {
     let after = all.last().map_or(&before, |done| &done.state);
     pool.copy_from_slice(&after.words());
     outcome(DONE, commands.len())
+}
+
+/// Lists the entries from first to last into the buffer, all of them or none.
+pub fn list(pool: &[u64], first: u64, last: u64, buffer: &mut [u8]) -> Outcome {
+    if node_count(pool.len()).is_none() {
+        return outcome(POOL_LENGTH, 0);
+    }
+    let Some(state) = recover(pool) else {
+        return outcome(NOT_WELL_FORMED, 0);
+    };
+    if first > last {
+        return outcome(FIRST_ABOVE_LAST, 0);
+    }
+    let bytes = listing(&state.list, first, last);
+    let entries = bytes.len() / LISTED_BYTES;
+    let Some(space) = buffer.get_mut(..bytes.len()) else {
+        return outcome(REPLY_SPACE, entries);
+    };
+    space.copy_from_slice(&bytes);
+    outcome(DONE, entries)
 }

@@ -9,6 +9,7 @@ pub mod batch;
 pub mod calls;
 pub mod command;
 pub mod find;
+pub mod listing;
 pub mod lists;
 pub mod model;
 pub mod part;

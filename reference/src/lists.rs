@@ -17,12 +17,16 @@
 //! place NUMBER SHIFT BLOCK                     node NUMBER is in use for this shift and block
 //! place NUMBER free                            (one place line for each of 0 to N - 1)
 //! word PLACE VALUE                             every nonzero word of the pool, places ascending
+//! listing FIRST LAST BYTES                     the bytes listed, as hex digits; FIRST <= LAST
+//! listing FIRST LAST                           nothing is listed (three to five such lines)
 //! end
 //! ```
 
 use crate::awkward::Commands;
 use crate::batch::Command;
 use crate::command::{execute, needed, Done};
+use crate::listing::listing;
+use crate::model::Entry;
 use crate::pool::State;
 use crate::random::Random;
 use std::io::{Result, Write};
@@ -34,8 +38,12 @@ pub fn print(out: &mut impl Write, seed: u64, count: u64, most: u64) -> Result<(
     for _ in 0..count {
         let nodes = 1 + random.below(MOST_NODES) as usize;
         let length = 1 + random.below(most.max(1));
-        let mut commands = Commands::new(Random::new(random.word()));
-        print_list(out, &mut commands, nodes, length)?;
+        let seed = random.word();
+        let mut commands = Commands::new(Random::new(seed));
+        let state = print_list(out, &mut commands, nodes, length)?;
+        // Of their own numbers, so that they leave the lists of a seed as they are.
+        print_listings(out, &mut Random::new(!seed), &state.list)?;
+        writeln!(out, "end")?;
     }
     Ok(())
 }
@@ -45,7 +53,7 @@ fn print_list(
     commands: &mut Commands,
     nodes: usize,
     length: u64,
-) -> Result<()> {
+) -> Result<State> {
     writeln!(out, "list {nodes}")?;
     let mut state = State::empty(nodes);
     for _ in 0..length {
@@ -55,14 +63,11 @@ fn print_list(
         state = done.state;
     }
     print_state(out, &state)?;
-    writeln!(out, "end")
+    Ok(state)
 }
 
 fn print_command(out: &mut impl Write, state: &State, command: Command, done: &Done) -> Result<()> {
-    write!(out, "{} ", fields(command))?;
-    for byte in done.reply.bytes() {
-        write!(out, "{byte:02x}")?;
-    }
+    write!(out, "{} {}", fields(command), hex(&done.reply.bytes()))?;
     if let Command::Store { index, order, word } = command {
         if let Some(count) = needed(state, index, order, word) {
             write!(out, " needed {count}")?;
@@ -98,4 +103,51 @@ fn print_state(out: &mut impl Write, state: &State) -> Result<()> {
         writeln!(out, "word {place} {word}")?;
     }
     Ok(())
+}
+
+fn hex(bytes: &[u8]) -> String {
+    bytes.iter().map(|byte| format!("{byte:02x}")).collect()
+}
+
+fn print_listings(out: &mut impl Write, random: &mut Random, list: &[Entry]) -> Result<()> {
+    for (first, last) in ranges(random, list) {
+        let bytes = hex(&listing(list, first, last));
+        let space = if bytes.is_empty() { "" } else { " " };
+        writeln!(out, "listing {first} {last}{space}{bytes}")?;
+    }
+    Ok(())
+}
+
+/// Everything; where there are entries, from inside one to inside one, from just after one to just
+/// before one, and an index inside one; and any ranges.
+fn ranges(random: &mut Random, list: &[Entry]) -> Vec<(u64, u64)> {
+    let mut all = vec![(0, u64::MAX)];
+    if !list.is_empty() {
+        let mut any = || list[random.below(list.len() as u64) as usize];
+        let (one, other) = (any(), any());
+        let (from, to) = (inside(random, one), inside(random, other));
+        all.push(in_order(from, to));
+        all.push(in_order(end(one).saturating_add(1), other.base.saturating_sub(1)));
+        all.push((from, from));
+    }
+    let mut any = || random.word() >> random.below(64);
+    all.push(in_order(any(), any()));
+    if list.is_empty() {
+        all.push(in_order(any(), any()));
+    }
+    all
+}
+
+fn in_order(one: u64, other: u64) -> (u64, u64) {
+    (one.min(other), one.max(other))
+}
+
+/// The last index that the entry covers.
+fn end(entry: Entry) -> u64 {
+    (entry.range().end - 1) as u64
+}
+
+/// An index that the entry covers.
+fn inside(random: &mut Random, entry: Entry) -> u64 {
+    entry.base + random.below(end(entry) - entry.base + 1)
 }

@@ -19,6 +19,7 @@ pub fn act(name: &str, words: &[OsString]) -> Result<(), Failure> {
             words,
             &[("--summary", false), ("--findings", false), ("--range", true), ("--all", false)],
         )?),
+        "list" => list(Arguments::of(words, &[("--bytes", false)])?),
         "new" => new_pool(Arguments::of(words, &[])?),
         "run" => run(Arguments::of(words, &[("--no-wait", false)])?),
         _ => Err(usage(format!("'{name}': no such command; try 'xabatch --help'"))),
@@ -95,6 +96,7 @@ fn decode_records(arguments: Arguments) -> Result<(), Failure> {
         return Err(malformed(""));
     }
     match batch {
+        Some(_) if decoded.listed > 0 => Err(of_file(&file, "entries of a list are no replies")),
         Some(tags) => answers_all(&file, &tags, &decoded.replies),
         None => Ok(()),
     }
@@ -150,17 +152,32 @@ fn view_of(arguments: &Arguments) -> Result<draw::View, Failure> {
         (false, true) => draw::Part::Findings,
         (false, false) => draw::Part::Tree,
     };
-    let range = match arguments.value("--range") {
-        None => (0, u64::MAX),
-        Some(range) => {
-            let range = range.to_string_lossy();
-            text::range_of(&range).map_err(|error| usage(format!("--range {range}: {error}")))?
-        }
-    };
+    let range = range_of("--range ", arguments.value("--range"))?;
     if range != (0, u64::MAX) && part != draw::Part::Tree {
         return Err(usage("--range is for the tree"));
     }
     Ok(draw::View { part, range, all: arguments.has("--all") })
+}
+
+/// All indices if no range is named; `before` stands before it in a message.
+fn range_of(before: &str, range: Option<&OsStr>) -> Result<(u64, u64), Failure> {
+    let Some(range) = range.map(OsStr::to_string_lossy) else {
+        return Ok((0, u64::MAX));
+    };
+    text::range_of(&range).map_err(|error| usage(format!("{before}{range}: {error}")))
+}
+
+/// As `show`, it reads without the lock: a run puts a whole new file in the place of the old one.
+fn list(arguments: Arguments) -> Result<(), Failure> {
+    let named = arguments.between(1, 2)?;
+    let (first, last) = range_of("", named.get(1).map(OsString::as_os_str))?;
+    let file = &named[0];
+    let pool = Pool::from_words(words_of(file, &files::read(file)?)?);
+    let list = pool.list(first..=last).map_err(|refusal| of_file(file, refusal))?;
+    if arguments.has("--bytes") {
+        return files::write(list.bytes());
+    }
+    files::write_lines(&list.map(|entry| entry.to_string()).collect::<Vec<_>>())
 }
 
 fn new_pool(arguments: Arguments) -> Result<(), Failure> {

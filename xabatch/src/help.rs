@@ -8,8 +8,9 @@ pub const VERSION: &str = concat!("xabatch ", env!("CARGO_PKG_VERSION"), "\n");
 
 const HELP: &str = "\
 usage: xabatch encode [--long | --split PREFIX] [FILE]     text to a batch
-       xabatch decode [--batch BATCHFILE] [FILE]           replies, a refused call or a batch to text
+       xabatch decode [--batch BATCHFILE] [FILE]           replies, a refused call, a batch or a list to text
        xabatch show [OPTIONS] POOLFILE                     a pool as a tree, and what is wrong with it
+       xabatch list [--bytes] POOLFILE [FIRST..LAST]       the entries of a pool, as evidence
        xabatch new NODES [POOLFILE]                        an empty pool of 1 to 1,000 nodes
        xabatch run [--no-wait] POOLFILE [FILE]             a batch on a pool file; replies to standard output
        xabatch help COMMAND                                more on one of these; also xabatch COMMAND --help
@@ -50,7 +51,8 @@ Where the text has an error, nothing is written.
 const DECODE: &str = "\
 usage: xabatch decode [--batch BATCHFILE] [FILE]
 
-Writes a line for each record: replies, the record of a refused call, or the commands of a batch.
+Writes a line for each record: replies, the record of a refused call, the commands of a batch, or
+the entries of a list that was kept as bytes.
 The exit status is 1 if a call was refused or a record is bad; the lines before it are written.
 
   --batch BATCHFILE   the replies are those to this batch: the exit status is 1 unless there is one
@@ -71,6 +73,24 @@ much follows from that.
 
 The exit status is 1 if the pool is not well-formed. A well-formed pool can hold wrong entries: the
 check knows the structure, not what you stored.
+";
+
+const LIST: &str = "\
+usage: xabatch list [--bytes] POOLFILE [FIRST..LAST]
+
+Writes a line for each entry that covers an index from FIRST to LAST, both included (all if they are
+not named), in index order and each once: its first index, order, word and marks. An entry that
+begins before FIRST or ends after LAST is written whole. The pool is only read.
+
+  64 order 0 value 2 marks 0,1       index 64 alone, marks 0 and 1 are set
+  4096 order 3 handle 0x1000 marks - the 2^3 indices from 4096 on, no mark is set
+
+  --bytes   the list as the library gives it, 21 bytes an entry: tag 32, length 18 (2 bytes), index
+            (8), order, entry (8), marks, each number highest byte first. Keep it as evidence;
+            'xabatch decode' writes its lines
+
+The exit status is 1, and nothing is written, if the pool is not well-formed: 'xabatch show' says
+what is wrong.
 ";
 
 const NEW: &str = "\
@@ -104,6 +124,7 @@ fn text_of(command: &str) -> Option<&'static str> {
         "encode" => ENCODE,
         "decode" => DECODE,
         "show" => SHOW,
+        "list" => LIST,
         "new" => NEW,
         "run" => RUN,
         _ => return None,

@@ -300,7 +300,7 @@ well-formed
     assert_eq!(tool(&["show", "--summary", "--findings", "-"], &[]).0, 2);
 }
 
-const COMMANDS: [&str; 5] = ["encode", "decode", "show", "new", "run"];
+const COMMANDS: [&str; 6] = ["encode", "decode", "show", "list", "new", "run"];
 
 #[test]
 fn version_help_and_the_man_page() {
@@ -376,7 +376,11 @@ fn control_characters_are_written_out() {
 fn outputs_that_cannot_be_written_fail() {
     let folder = tool::Folder::new();
     let pool = folder.pool(3).display().to_string();
-    for command in ["new 3", "encode", "decode", &format!("show {pool}"), "--help", "--version"] {
+    let batch = tool::batch("store 0 order 0 value 1\n");
+    assert_eq!(tool(&["run", &pool], &batch).0, 0);
+    let [show, list] = ["show", "list"].map(|name| format!("{name} {pool}"));
+    let bytes = format!("list --bytes {pool}");
+    for command in ["new 3", "encode", "decode", &show, &list, &bytes, "--help", "--version"] {
         let input =
             if command == "decode" { &[2, 0, 8, 0, 0, 0, 0, 0, 0, 0, 1][..] } else { b"load 1" };
         let (status, _, errors) = tool::bash(&format!("\"$X\" {command} > /dev/full"), input);

@@ -263,14 +263,14 @@ pub fn count(batch: &[u8]) -> Counted
     count_records(batch)
 }
 
-fn put1(out: &mut [u8], at: usize, x: u64)
+pub fn put1(out: &mut [u8], at: usize, x: u64)
     requires { ⌜ at + 1 ≤ length (now out) ⌝ }
     ensures { λ _. ⌜ now (out .exit) ≡ overwrite (now (out .entry)) at (bytesThen 1 x []) ⌝ }
 {
     out[at + 0] = (x / 1 % 256) as u8;
 }
 
-fn put2(out: &mut [u8], at: usize, x: u64)
+pub fn put2(out: &mut [u8], at: usize, x: u64)
     requires { ⌜ at + 2 ≤ length (now out) ⌝ }
     ensures { λ _. ⌜ now (out .exit) ≡ overwrite (now (out .entry)) at (bytesThen 2 x []) ⌝ }
 {
@@ -278,7 +278,7 @@ fn put2(out: &mut [u8], at: usize, x: u64)
     out[at + 1] = (x / 1 % 256) as u8;
 }
 
-fn put8(out: &mut [u8], at: usize, x: u64)
+pub fn put8(out: &mut [u8], at: usize, x: u64)
     requires { ⌜ at + 8 ≤ length (now out) ⌝ }
     ensures { λ _. ⌜ now (out .exit) ≡ overwrite (now (out .entry)) at (bytesThen 8 x []) ⌝ }
 {

@@ -33,6 +33,10 @@ markCount = 3
 abbrev pub covers : ℕ → Entry → Bool
 covers i e = eqb (block (e .order) i) (block (e .order) (e .base))
 
+-- the run meets first .. last, both included (R143)
+abbrev pub meets : (first last : ℕ) → Entry → Bool
+meets a z e = both (leb (e .base) z) (ltb a (e .base + 2 ^ e .order))
+
 -- R9: the marks as bits of a byte
 abbrev pub hasMark : ℕ → Entry → Bool
 hasMark m e = eqb (bit m (e .marks)) 1

@@ -35,13 +35,14 @@ use Rattle.execute.specs.Part.{mayWrite}
 use Rattle.execute.proofs.ExecuteLaws.{Kept, next-kept, states-kept, short-11}
 use Rattle.execute.proofs.Footprint.{footprint, refused-words}
 use Rattle.execute.proofs.ReplyFits.{reply-fits}
-use Rattle.xapool.specs.Calls.{Called, run, runParsed, replies, result, done}
+use Rattle.xapool.specs.Calls.{Called, run, runParsed, replies, result, done, listOver}
 use Rattle.xapool.specs.Running.{wordsOf}
 use Rattle.xapool.specs.Demand.{
   Call,
   Call.init,
   Call.check,
   Call.batch,
+  Call.list,
   wordsAfterAll,
   executeAll,
   listAfterAll,
@@ -56,6 +57,7 @@ use Rattle.xapool.specs.Demand.{
   Demand3,
   Starts,
 }
+use Rattle.xapool.proofs.ListCallLaws.{list-checked}
 use Rattle.xapool.proofs.DemandLaws.{
   states-list,
   sized,
@@ -200,6 +202,8 @@ module _ {n : ℕ} {l : List Entry} {os : Places} {ws : List ℕ} (lo : 1 ≤ n)
     at-call Call.init b = rw (sized-is (sized lo hi p)) refl
     at-call Call.check b = ap (λ (a : ℕ). result a 0) (prescribed-0 (sized lo hi p) p)
     at-call (Call.batch bs rs) b = at-batch bs rs b (parse bs) refl
+    at-call (Call.list a z bs) b =
+        list-checked ws a z bs (prescribed-0 (sized lo hi p) p) ∙ ap (λ (x : List Entry). listOver x a z bs) (decode-list p)
 
 -- R102
 pub demand-3-whole : {n : ℕ} {l : List Entry} {ws : List ℕ} → Starts n l ws → {cs : List Call} → All Bytewise cs →

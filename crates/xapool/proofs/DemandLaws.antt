@@ -39,6 +39,7 @@ use Rattle.xapool.specs.Demand.{
   Call.init,
   Call.check,
   Call.batch,
+  Call.list,
   wordsAfter,
   wordsAfterAll,
   executeAll,
@@ -121,6 +122,7 @@ module _ {n : ℕ} {l : List Entry} {os : Places} {ws : List ℕ} (lo : 1 ≤ n)
     call-stands Call.init b = init-stands
     call-stands Call.check b = stay
     call-stands (Call.batch bs rs) b = batch-stands bs rs b
+    call-stands (Call.list a z bs) b = stay
 
 pub getD-out : (xs : List ℕ) (i : ℕ) → length xs ≤ i → getD xs i 0 ≡ 0
 getD-out [] i h = refl

@@ -4,3 +4,4 @@ pub mod DemandLaws
 pub mod CallLaws
 pub mod RefusalLaws
 pub mod ClaimLaws
+pub mod ListCallLaws

@@ -1,4 +1,4 @@
--- The calls: the result, and every word and byte after the call (R68 to R72, R81 to R84, R87).
+-- The calls: the result, and every word and byte after the call (R68 to R72, R81 to R84, R87, R145 to R148).
 use Prim.Native.Nat.{ℕ, _*_}
 use mathlib.Core.List.{List, [], _∷_, _++_}
 use lib.Dec.{ltb, eqb}
@@ -12,6 +12,9 @@ use Rattle.verify.specs.Answers.{checkAnswer, initAnswer}
 use Rattle.batch.specs.declared.Command.{Command}
 use Rattle.batch.specs.Batch.{Parsed, Parsed.commands, Parsed.refused, parse}
 use Rattle.batch.specs.Reply.{replyBytes, encode}
+use Rattle.listing.specs.Listing.{listed, outcome, filledWith}
+use Rattle.listing.specs.declared.Listed.{Listed}
+use Rattle.listing.specs.declared.Listed.the-variants.{Short, Done}
 use Rattle.execute.specs.Execute.{execute}
 use Rattle.execute.specs.State.{State, states}
 pub use Rattle.xapool.specs.declared.Result.{Result}
@@ -25,6 +28,9 @@ badRecord = 3
 
 abbrev pub replyShort : ℕ
 replyShort = 4
+
+abbrev pub badRange : ℕ
+badRange = 8
 
 abbrev pub result : ℕ → ℕ → Result
 result a n = record { answer = a; number = n }
@@ -82,3 +88,27 @@ module _ (n : ℕ) where
 unfoldable pub run : (pool batch reply : List ℕ) → Called
 run ws bs rs =
     pick (eqb (checkAnswer ws) done) (runParsed (nodeCount ws) ws rs (parse bs)) (refuseCall ws rs (checkAnswer ws) 0)
+
+-- LIST
+-- what a listing leaves: its result and the buffer's bytes; it writes nothing in the pool (R147)
+pub record Evidence : Type 0 where
+  pub result : Result
+  pub buffer : List ℕ
+
+abbrev pub evidence : List ℕ → ℕ → ℕ → Evidence
+evidence bs a n = record { result = result a n; buffer = bs }
+
+-- R145, R146: where it does not fit, the answer is that of a reply space too small
+abbrev pub listResult : Listed → Result
+listResult (Short n) = result replyShort n
+listResult (Done n) = result done n
+
+-- R148: on a well-formed pool, of the list that it holds
+abbrev pub listOver : List Entry → (first last : ℕ) → (buffer : List ℕ) → Evidence
+listOver l a z bs =
+    pick (ltb z a) (evidence bs badRange 0)
+    (record { result = listResult (outcome (listed l a z) bs); buffer = filledWith (listed l a z) bs })
+
+-- R148: 1 and 2 go first
+unfoldable pub list : (pool : List ℕ) → (first last : ℕ) → (buffer : List ℕ) → Evidence
+list ws a z bs = pick (eqb (checkAnswer ws) done) (listOver (listOf ws) a z bs) (evidence bs (checkAnswer ws) 0)

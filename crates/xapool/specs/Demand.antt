@@ -34,19 +34,24 @@ use Rattle.xapool.specs.Calls.{
   refuseCall,
   initResult,
   checkResult,
+  listOver,
 }
+use Rattle.xapool.specs.Calls as C
 
 -- R105: each run with a batch (document 01: a sheet) and a reply space of its own
 pub data Call : Type 0 where
   init : Call
   check : Call
   batch : (bytes reply : List ℕ) → Call
+  -- R149
+  list : (first last : ℕ) (buffer : List ℕ) → Call
 
 -- THE POOL
 abbrev pub wordsAfter : List ℕ → Call → List ℕ
 wordsAfter ws init = initWords ws
 wordsAfter ws check = ws
 wordsAfter ws (batch bs rs) = run ws bs rs .words
+wordsAfter ws (list a z bs) = ws
 
 abbrev pub wordsAfterAll : List ℕ → List Call → List ℕ
 wordsAfterAll ws [] = ws
@@ -64,11 +69,12 @@ module _ (n : ℕ) where
   feed l k (refused at) = l
   feed l k (commands cs) = pick (ltb k (replyBytes * length cs)) l (executeAll l cs)
 
-  -- R93, R94
+  -- R93, R94, R149
   abbrev pub listAfter : List Entry → Call → List Entry
   listAfter l init = []
   listAfter l check = l
   listAfter l (batch bs rs) = feed l (length rs) (parse bs)
+  listAfter l (list a z bs) = l
 
   abbrev pub listAfterAll : List Entry → List Call → List Entry
   listAfterAll l [] = l
@@ -80,6 +86,7 @@ abbrev pub Bytewise : Call → Type 0
 Bytewise init = Unit
 Bytewise check = Unit
 Bytewise (batch bs rs) = Bytes bs
+Bytewise (list a z bs) = Unit
 
 -- R103: the words are those that the list prescribes at some numbering, and every node without a place is free (R30)
 pub record Stands (n : ℕ) (l : List Entry) (ws : List ℕ) : Type 0 where
@@ -137,6 +144,7 @@ module _ (n : ℕ) (l : List Entry) (ws : List ℕ) where
   AtCall init = initResult ws ≡ result done 0
   AtCall check = checkResult ws ≡ result done 0
   AtCall (batch bs rs) = AtBatch bs rs (parse bs)
+  AtCall (list a z bs) = C.list ws a z bs ≡ listOver l a z bs
 
 -- ALL CALLS (R102): the words after the list, and every call of it at its moment
 pub record Demand3 (n : ℕ) (l : List Entry) (ws : List ℕ) (cs : List Call) : Type 0 where

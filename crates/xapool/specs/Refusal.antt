@@ -1,8 +1,8 @@
--- The rows of the table of a call's answers (R68 to R72, R81).
+-- The rows of the table of a call's answers (R68 to R72, R81), and of a listing's (R148).
 use Prim.Native.Nat.{ℕ, _*_, _≤_, _<_}
 use mathlib.Core.Path.{_≡_}
-use mathlib.Core.List.{List}
-use lib.ListN.{length}
+use mathlib.Core.List.{List, _++_}
+use lib.ListN.{length, drop}
 use Rattle.model.specs.declared.Entry.{Entry}
 use Rattle.layout.specs.Places.{Places}
 use Rattle.layout.specs.WellFormed.{WellFormed, Sized, Prescribed}
@@ -11,7 +11,19 @@ use Rattle.layout.specs.Decide.{nodeCount}
 use Rattle.batch.specs.declared.Command.{Command}
 use Rattle.batch.specs.Batch.{Parsed, Parsed.commands, Parsed.refused, parse}
 use Rattle.batch.specs.Reply.{replyBytes}
-use Rattle.xapool.specs.Calls.{Called, refuseCall, badRecord, replyShort, running}
+use Rattle.listing.specs.Listing.{listed, entryBytes, listing}
+use Rattle.xapool.specs.Calls.{
+  Called,
+  refuseCall,
+  badRecord,
+  replyShort,
+  badRange,
+  running,
+  done,
+  Evidence,
+  evidence,
+  result,
+}
 
 -- the rows of the table for a run, each under the conditions that the ones above it leave
 pub data CallRow (ws bs rs : List ℕ) : Called → Type 0 where
@@ -23,3 +35,18 @@ pub data CallRow (ws bs rs : List ℕ) : Called → Type 0 where
       CallRow ws bs rs (refuseCall ws rs replyShort (length cs))
   row-0 : WellFormed ws → (cs : List Command) → parse bs ≡ Parsed.commands cs → replyBytes * length cs ≤ length rs →
       CallRow ws bs rs (running (nodeCount ws) (record { list = listOf ws; places = placesOf ws }) cs rs)
+
+-- the rows for a listing
+pub data ListRow (ws : List ℕ) (a z : ℕ) (bs : List ℕ) : Evidence → Type 0 where
+  list-1 : ((n : ℕ) → Sized n ws → ⊥) → ListRow ws a z bs (evidence bs 1 0)
+  list-2 : (n : ℕ) → Sized n ws → ((l : List Entry) (os : Places) → Prescribed n l os ws → ⊥) →
+      ListRow ws a z bs (evidence bs 2 0)
+  list-8 : WellFormed ws → z < a → ListRow ws a z bs (evidence bs badRange 0)
+  list-4 : WellFormed ws → a ≤ z → length bs < entryBytes * length (listed (listOf ws) a z) →
+      ListRow ws a z bs (evidence bs replyShort (length (listed (listOf ws) a z)))
+  list-0 : WellFormed ws → a ≤ z → entryBytes * length (listed (listOf ws) a z) ≤ length bs →
+      ListRow ws a z bs
+      (record {
+        result = result done (length (listed (listOf ws) a z));
+        buffer = listing (listed (listOf ws) a z) ++ drop (entryBytes * length (listed (listOf ws) a z)) bs;
+      })

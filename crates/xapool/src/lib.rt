@@ -1,4 +1,4 @@
-// The calls that a host can make: init, check and run, and the count of a batch by itself. None has a `requires`: each
+// The calls that a host can make: init, check, run and list, and the count of a batch by itself. None has a `requires`: each
 // refuses what it cannot use, and says what its result is and what is in all that it was lent (R138).
 //
 // pool: the borrowed words; batch: the borrowed bytes of the commands; reply: the borrowed bytes for their replies;
@@ -7,6 +7,7 @@ use batch::Command;
 use batch::Counted;
 use batch::REPLY_BYTES;
 use batch::Read;
+use listing::Listed;
 ghost use mathlib.Core.Path.{_≡_};
 ghost use mathlib.Core.List.{List};
 ghost use Prim.Native.Nat.{_+_, _*_, _≤_};
@@ -27,6 +28,8 @@ const DONE: u64 = 0;
 const BAD_RECORD: u64 = 3;
 
 const REPLY_SHORT: u64 = 4;
+
+const BAD_RANGE: u64 = 8;
 
 const REPLY_SIZE: u64 = 24;
 
@@ -165,6 +168,39 @@ pub extern "C" fn xapool_count(batch: &[u8]) -> Result
             number: place,
         },
         Counted::Commands(k) => Result {
+            answer: DONE,
+            number: k,
+        },
+    }
+}
+
+/// Lists the entries whose run meets first to last, in index order, 21 bytes each. Answers 0, 1, 2, 4 or 8; writes nothing
+/// in the pool, and in the buffer only with 0.
+#[no_mangle]
+pub extern "C" fn xapool_list(pool: &[u64], first: u64, last: u64, buffer: &mut [u8]) -> Result
+    ensures { λ r. ⌜ r ≡ Calls.list (now (pool .entry)) first last (now (buffer .entry)) .result ⌝ }
+    ensures { λ _. ⌜ now (buffer .exit) ≡ Calls.list (now (pool .entry)) first last (now (buffer .entry)) .buffer ⌝ }
+{
+    let answer = verify::check(pool);
+    if answer != DONE {
+        return Result {
+            answer: answer,
+            number: 0,
+        };
+    }
+    if last < first {
+        return Result {
+            answer: BAD_RANGE,
+            number: 0,
+        };
+    }
+    let listed = listing::list(pool, first, last, buffer);
+    match listed {
+        Listed::Short(k) => Result {
+            answer: REPLY_SHORT,
+            number: k,
+        },
+        Listed::Done(k) => Result {
             answer: DONE,
             number: k,
         },

@@ -216,13 +216,6 @@ fn case_13_find_after_case_3() {
     pool.expect_find(1, 0, 63, counting(gives(64, 0, 5, 1), 2));
 }
 
-/// The bytes of a text of hex digits and spaces.
-fn hex(text: &str) -> Vec<u8> {
-    let digits: Vec<u8> =
-        text.chars().filter_map(|c| c.to_digit(16)).map(|digit| digit as u8).collect();
-    digits.chunks(2).map(|pair| 16 * pair[0] + pair[1]).collect()
-}
-
 #[test]
 fn case_14_bytes_of_a_store_and_of_a_reply() {
     let store = hex("01 0011 0000000000000040 00 0000000000000005");

@@ -2,6 +2,7 @@
 
 use crate::helpers::*;
 use reference::batch::Command;
+use reference::calls::list;
 use reference::random::Random;
 
 const SEED: u64 = 97;
@@ -68,6 +69,16 @@ impl Cells {
             None => only(12),
         }
     }
+
+    /// What is listed from first to last: each entry where the cells of another begin.
+    fn listing(&self, first: u64, last: u64) -> Vec<u8> {
+        let mut found: Vec<Cell> = self.cells[first as usize..=last as usize].to_vec();
+        found.dedup();
+        let bytes = |(base, order, word, marks): (u64, u8, u64, u8)| {
+            record(32, 18, &[&base.to_be_bytes(), &[order], &word.to_be_bytes(), &[marks]])
+        };
+        found.into_iter().flatten().flat_map(bytes).collect()
+    }
 }
 
 #[test]
@@ -105,6 +116,7 @@ fn look(pool: &mut Pool, cells: &Cells, random: &mut Random) {
     for _ in 0..10 {
         let (one, other) = (random.below(CELLS as u64), random.below(CELLS as u64));
         let (first, last, filter) = (one.min(other), one.max(other), random.below(4) as u8);
+        list_cells(pool, cells, first, last);
         let find = Command::Find { first, last, filter, budget: 1000 };
         for (command, said) in [
             (Command::Load { index: one }, cells.said(one)),
@@ -115,4 +127,12 @@ fn look(pool: &mut Pool, cells: &Cells, random: &mut Random) {
             assert_eq!(reply[..22], said.bytes(record[0])[..22], "{command:?}");
         }
     }
+}
+
+fn list_cells(pool: &Pool, cells: &Cells, first: u64, last: u64) {
+    let wanted = cells.listing(first, last);
+    let mut found = vec![UNTOUCHED; wanted.len()];
+    let entries = wanted.len() as u64 / 21;
+    assert_eq!(list(&pool.words, first, last, &mut found), outcome(0, entries));
+    assert_eq!(found, wanted, "{first} to {last}");
 }

@@ -45,7 +45,15 @@ pub fn node(number: usize, shift: u64, owner: u64, slots: &[(usize, u64)]) -> Ve
     named
 }
 
-fn record(tag: u8, length: u8, fields: &[&[u8]]) -> Vec<u8> {
+/// The bytes of a text of hex digits and spaces.
+pub fn hex(text: &str) -> Vec<u8> {
+    let digits: Vec<u8> =
+        text.chars().filter_map(|c| c.to_digit(16)).map(|digit| digit as u8).collect();
+    digits.chunks(2).map(|pair| 16 * pair[0] + pair[1]).collect()
+}
+
+/// Tagged fields whose length fits one byte.
+pub fn record(tag: u8, length: u8, fields: &[&[u8]]) -> Vec<u8> {
     let mut bytes = vec![tag, 0, length];
     bytes.extend(fields.concat());
     bytes

@@ -18,6 +18,7 @@ fn fields(name: &str) -> &'static [usize] {
         "mark" | "unmark" => &[3],
         "find" => &[5],
         "entry" => &[4],
+        "listing" => &[2, 3],
         "place" => &[2, 3],
         _ => &[],
     }
@@ -49,4 +50,36 @@ fn one_place_line_for_each_node() {
         assert_eq!(places.count(), count);
         assert!(list.contains(&format!("word 0 {count}\n")));
     }
+}
+
+/// Of everything, a listing has the entries that the list ends with: tag 32 and length 18 are 20
+/// and 0012 in hex.
+#[test]
+fn three_to_five_listings_and_the_first_is_of_everything() {
+    let text = printed(3);
+    for list in text.split_terminator("end\n") {
+        let listings: Vec<&str> =
+            list.lines().filter_map(|line| line.strip_prefix("listing ")).collect();
+        assert!((3..=5).contains(&listings.len()), "{list}");
+        let entries = list.lines().filter_map(|line| line.strip_prefix("entry "));
+        let bytes: String = entries.map(listed_hex).collect();
+        assert_eq!(listings[0], format!("0 18446744073709551615 {bytes}").trim_end());
+    }
+}
+
+#[test]
+fn listings_have_their_first_and_last_in_order() {
+    let text = printed(4);
+    let listings = text.lines().filter_map(|line| line.strip_prefix("listing "));
+    for listing in listings {
+        let ends: Vec<u64> =
+            listing.split(' ').take(2).map(|text| text.parse().expect("a number")).collect();
+        assert!(ends[0] <= ends[1], "{listing}");
+    }
+}
+
+fn listed_hex(entry: &str) -> String {
+    let number = |text: &str| text.parse::<u64>().expect("a number");
+    let fields: Vec<u64> = entry.split(' ').map(number).collect();
+    format!("200012{:016x}{:02x}{:016x}{:02x}", fields[0], fields[1], fields[2], fields[3])
 }

@@ -6,6 +6,7 @@ mod damaged;
 mod finds;
 mod helpers;
 mod invariants;
+mod listing;
 mod lists;
 mod mistakes;
 mod parts;

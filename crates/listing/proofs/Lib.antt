@@ -1,0 +1,5 @@
+pub mod EmitLaws
+pub mod BetweenLaws
+pub mod CountLaws
+pub mod VisitLaws
+pub mod ListedLaws

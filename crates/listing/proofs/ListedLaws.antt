@@ -1,0 +1,59 @@
+-- The listing is in index order, has each entry once, and has exactly those whose run meets the range (R143).
+use Prim.Native.Nat.{ℕ, _+_, _^_, _≤_, _<_, max}
+use mathlib.Core.Path.{_≡_}
+use mathlib.Core.Bool.{true}
+use mathlib.Core.List.{List, [], _∷_}
+use native.Mathlib.Omega.{arith}
+use lib.Dec.{leb, ltb}
+use borrow.Author.Tests.{leb-true, ltb-true}
+use Rattle.blocks.specs.Choice.{both}
+use Rattle.blocks.specs.Lists.{In, Distinct, d-end, d-more}
+use Rattle.blocks.proofs.BoolLaws.{both-l, both-r}
+use Rattle.blocks.proofs.BlockLaws.{pow-pos}
+use Rattle.blocks.proofs.ListLaws.{look}
+use Rattle.model.specs.declared.Entry.{Entry}
+use Rattle.model.specs.Model.{Sorted, done, more, Valid, covers, meets}
+use Rattle.model.proofs.ValidLaws.{covers-i, covers-lo, covers-hi, sorted-ok}
+use Rattle.listing.specs.Listing.{listed}
+use Rattle.listing.proofs.BetweenLaws.{keep-in, in-keep, sorted-keep, sorted-above, meets-i}
+
+-- in index order, and apart
+pub listed-sorted : {l : List Entry} (a z : ℕ) → Valid l → Valid (listed l a z)
+listed-sorted a z v = sorted-keep (meets a z) v
+
+distinct : {n : ℕ} {l : List Entry} → Sorted n l → Distinct l
+distinct done = d-end
+distinct (more {e} h ok s) = d-more {p = e} (λ m. omega (arith, sorted-above s m, pow-pos (e .order))) (distinct s)
+
+-- each once
+pub listed-once : {l : List Entry} (a z : ℕ) → Valid l → Distinct (listed l a z)
+listed-once a z v = distinct (listed-sorted a z v)
+
+-- the entry covers an index of the range
+pub record Meets (a z : ℕ) (e : Entry) : Type 0 where
+  pub index : ℕ
+  pub from : a ≤ index
+  pub to : index ≤ z
+  pub covered : covers index e ≡ true
+
+-- exactly those
+module _ {l : List Entry} (a z : ℕ) (v : Valid l) {e : Entry} where
+  pub listed-meets : a ≤ z → In e (listed l a z) → In e l × Meets a z e
+  listed-meets le m =
+      let (i, t) = keep-in (meets a z) l m in
+      let lo : e .base ≤ z = leb-true _ _ (both-l (leb (e .base) z) (ltb a (e .base + 2 ^ e .order)) t) in
+      let hi : a < e .base + 2 ^ e .order = ltb-true _ _ (both-r (leb (e .base) z) (ltb a (e .base + 2 ^ e .order)) t) in (
+        i,
+        record {
+          index = max a (e .base);
+          from = omega arith;
+          to = omega arith;
+          covered = covers-i e (max a (e .base)) (look (sorted-ok v) i) (omega arith) (omega (arith, pow-pos (e .order)));
+        },
+      )
+
+  pub meets-listed : In e l → Meets a z e → In e (listed l a z)
+  meets-listed i m =
+      let lo : e .base ≤ m .index = covers-lo e (m .index) (look (sorted-ok v) i) (m .covered) in
+      let hi : m .index < e .base + 2 ^ e .order = covers-hi e (m .index) (look (sorted-ok v) i) (m .covered) in
+      in-keep (meets a z) i (meets-i a z e (omega (arith, m .to)) (omega (arith, m .from)))

@@ -1,0 +1,93 @@
+-- `visit_head`: all entries that meet the range.
+use mathlib.Core.Path.{_≡_, ap, sym, subst}
+use mathlib.Core.List.{List, [], _∷_}
+use native.Mathlib.Omega.{arith}
+use Rattle.model.specs.declared.Entry.{Entry}
+use Rattle.listing.specs.Listing.{listed}
+use Rattle.listing.specs.Visits.{Emits}
+use Rattle.listing.proofs.EmitLaws.{emits-nothing}
+use Rattle.listing.proofs.VisitLaws.{head-none, head-lone, head-fits, head-ready, head-low, head-all}
+use borrow.Author.Needs.{needs}
+use Rattle.listing.proofs.visit_head.Statement.{statement}
+use Rattle.listing.proofs.visit_head.Tie as tie
+
+enter-requires : tie.Need-enter-requires
+enter-requires c κs = search needs
+
+enum-told : tie.Need-enum-told
+enum-told c = search needs
+
+enum-known-head : tie.Need-enum-known-head
+enum-known-head c = search needs
+
+offer-requires : tie.Need-offer-requires
+offer-requires c κs =
+    let s = c .before .before .before .before .before .before .before .pre .0 in
+    let (o, e) = head-fits s (c .before .before .before .before .enter .ensures s) _ (c .before .before .head .given .1) in
+    (c .before .before .before .before .before .before .before .pre .1 .1, (omega arith, (o, e)))
+
+enum-known-head-2 : tie.Need-enum-known-head-2
+enum-known-head-2 c = search needs
+
+visit-node-requires : tie.Need-visit-node-requires
+visit-node-requires c κs =
+    let s = c .before .before .before .before .before .before .before .pre .0 in (
+      s,
+      (
+        head-low s (c .before .before .before .before .enter .ensures s) _ _ (c .before .before .head2 .given .1),
+        (
+          omega arith,
+          (
+            c .before .before .before .before .before .before .before .pre .1,
+            λ s. head-ready s
+                (c .before .before .before .before .enter .ensures s) _ _ (c .before .before .head2 .given .1),
+          ),
+        ),
+      ),
+    )
+
+returns : tie.Need-returns
+returns c = λ s.
+    let a = c .before .before .before .before .before .args in
+    emits-nothing (a .range .room) _ 0 (ap (λ (es : List Entry). listed es (a .range .first) (a .range .last))
+    (head-none s (c .before .before .enter .ensures s) (c .enum-told .given .1)))
+
+same-length : tie.Need-same-length
+same-length c = search needs
+
+returns-2 : tie.Need-returns-2
+returns-2 c = λ s.
+    let a = c .before .before .before .before .before .before .before .before .before .before .args in
+    subst (λ (es : List Entry). Emits (a .range .room) (listed es (a .range .first) (a .range .last)) (a .buffer .now) 0
+    (c .before .before .offer .last .0) (c .before .before .offer .result)) (sym (head-lone s
+    (c .before .before .before .before .before .before .before .enter .ensures s) _
+    (c .before .before .before .before .before .head .given .1)))
+    (c .before .before .offer .ensures)
+
+same-length-2 : tie.Need-same-length-2
+same-length-2 c = search needs
+
+returns-3 : tie.Need-returns-3
+returns-3 c = λ s.
+    let a = c .before .before .before .before .before .before .before .before .before .before .args in
+    subst (λ (es : List Entry). Emits (a .range .room) (listed es (a .range .first) (a .range .last)) (a .buffer .now) 0
+    (c .before .before .visit-node .last .1 .1 .1 .1 .1 .0) (c .before .before .visit-node .result)) (head-all s
+    (c .before .before .before .before .before .before .before .enter .ensures s) _ _
+    (c .before .before .before .before .before .head2 .given .1))
+    (c .before .before .visit-node .ensures s)
+
+pub visit-head-spec : {M : Type 1} → statement M
+visit-head-spec =
+    tie.close
+    (tie.spec
+    enter-requires
+    enum-told
+    enum-known-head
+    offer-requires
+    enum-known-head-2
+    visit-node-requires
+    returns
+    same-length
+    returns-2
+    same-length-2
+    returns-3)

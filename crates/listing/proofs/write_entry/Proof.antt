@@ -1,0 +1,87 @@
+-- `write_entry`: the bytes of an entry, from a place on.
+use Rattle.listing.proofs.EmitLaws.{entry-written}
+use borrow.Author.Needs.{needs}
+use Rattle.listing.proofs.write_entry.Statement.{statement}
+use Rattle.listing.proofs.write_entry.Tie as tie
+
+-- THE PLACES IN THE CODE, each from one after it
+abbrev put13-from-slice-known7 : tie.After-slice-known7 → tie.After-put13
+put13-from-slice-known7 c = c .before .before
+
+abbrev put82-from-slice-known7 : tie.After-slice-known7 → tie.After-put82
+put82-from-slice-known7 c = put13-from-slice-known7 c .before .before .before .before
+
+abbrev put12-from-slice-known7 : tie.After-slice-known7 → tie.After-put12
+put12-from-slice-known7 c = put82-from-slice-known7 c .before .before .before .before
+
+abbrev put8-from-slice-known7 : tie.After-slice-known7 → tie.After-put8
+put8-from-slice-known7 c = put12-from-slice-known7 c .before .before .before .before
+
+abbrev put2-from-slice-known7 : tie.After-slice-known7 → tie.After-put2
+put2-from-slice-known7 c = put8-from-slice-known7 c .before .before .before .before
+
+abbrev put1-from-slice-known7 : tie.After-slice-known7 → tie.After-put1
+put1-from-slice-known7 c = put2-from-slice-known7 c .before .before .before .before
+
+add-put1 : tie.Need-add-put1
+add-put1 c = search needs
+
+put1-requires : tie.Need-put1-requires
+put1-requires c κs = search needs
+
+add-put2 : tie.Need-add-put2
+add-put2 c = search needs
+
+put2-requires : tie.Need-put2-requires
+put2-requires c κs = search needs
+
+add-put8 : tie.Need-add-put8
+add-put8 c = search needs
+
+put8-requires : tie.Need-put8-requires
+put8-requires c κs = search needs
+
+add-put1-2 : tie.Need-add-put1-2
+add-put1-2 c = search needs
+
+put1-requires-2 : tie.Need-put1-requires-2
+put1-requires-2 c κs = search needs
+
+add-put8-2 : tie.Need-add-put8-2
+add-put8-2 c = search needs
+
+put8-requires-2 : tie.Need-put8-requires-2
+put8-requires-2 c κs = search needs
+
+add-put1-3 : tie.Need-add-put1-3
+add-put1-3 c = search needs
+
+put1-requires-3 : tie.Need-put1-requires-3
+put1-requires-3 c κs = search needs
+
+same-length : tie.Need-same-length
+same-length c = search needs
+
+returns : tie.Need-returns
+returns c = entry-written _ _ (put1-from-slice-known7 c .before .before .before .args .e) (put1-from-slice-known7 c .put1 .ensures)
+    (put2-from-slice-known7 c .put2 .ensures) (put8-from-slice-known7 c .put8 .ensures) (put12-from-slice-known7 c .put12 .ensures)
+    (put82-from-slice-known7 c .put82 .ensures) (put13-from-slice-known7 c .put13 .ensures)
+
+pub write-entry-spec : {M : Type 1} → statement M
+write-entry-spec =
+    tie.close
+    (tie.spec
+    add-put1
+    put1-requires
+    add-put2
+    put2-requires
+    add-put8
+    put8-requires
+    add-put1-2
+    put1-requires-2
+    add-put8-2
+    put8-requires-2
+    add-put1-3
+    put1-requires-3
+    same-length
+    returns)
