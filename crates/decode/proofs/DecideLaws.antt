@@ -23,13 +23,6 @@ use Rattle.layout.specs.Decide.{nodeCount, isSized, isEntry, isSorted, isPlaced
 use Rattle.layout.proofs.PlacesLaws.{same-is, same-refl}
 use Rattle.decode.proofs.DecodeLaws.{decode-list, decode-places}
 
-both-i : {a b : Bool} → a ≡ true → b ≡ true → both a b ≡ true
-both-i e d = rw (e, d)
-
-T-true : (b : Bool) → T b → b ≡ true
-T-true true t = refl
-T-true false t = absurd t
-
 -- THE LENGTH
 module _ {n : ℕ} {ws : List ℕ} (s : Sized n ws) where
   pub count-of : nodeCount ws ≡ n

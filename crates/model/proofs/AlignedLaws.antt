@@ -1,20 +1,35 @@
 -- Of an aligned index the store of `Model` is the one by blocks, so that the laws of the latter are laws of it.
 use Prim.Native.Nat.{ℕ, _+_, _*_, _%_, _^_, _<_, _≤_}
 use mathlib.Core.Path.{_≡_, sym, ap, subst, _∙_}
-use mathlib.Core.Bool.{true}
+use mathlib.Core.Bool.{true, false}
 use mathlib.Core.List.{List}
 use native.Mathlib.Omega.{arith}
 use native.Mathlib.Nat.{div-add-mod', mul-mod-left, zero-div, zero-mul}
 use lib.Dec.{T, leb, eqb}
 use borrow.Author.Tests.{leb-true, ltb-true, le-leb, lt-ltb, eqb-true, eq-eqb}
+use Rattle.blocks.specs.Lists.{any}
 use Rattle.blocks.specs.Blocks.{block}
 use Rattle.blocks.proofs.BoolLaws.{both-l, both-r, iff}
 use Rattle.blocks.proofs.ListLaws.{All-of, keep-same, without-same}
 use Rattle.blocks.proofs.BlockLaws.{block-lo, block-hi}
 use Rattle.model.specs.declared.Entry.{Entry}
-use Rattle.model.specs.Model.{EntryOk, Valid, storable, maxOrder, aligned, starts, startsIn, inside, clear, newEntry, store}
+use Rattle.model.specs.Model.{
+  EntryOk,
+  Valid,
+  storable,
+  enterable,
+  maxOrder,
+  aligned,
+  starts,
+  startsIn,
+  over,
+  inside,
+  clear,
+  newEntry,
+  store,
+}
 use Rattle.model.specs.ByBlock as B
-use Rattle.model.proofs.ValidLaws.{block-in, store-valid}
+use Rattle.model.proofs.ValidLaws.{block-in, store-valid, store-at-valid}
 
 -- R7: so is the base of an entry
 pub base-aligned : (e : Entry) → EntryOk e → aligned (e .order) (e .base) ≡ true
@@ -67,3 +82,8 @@ module _ (i k : ℕ) (al : aligned k i ≡ true) where
     -- R10 to R14 keep a list valid
     pub aligned-valid : (w : ℕ) → Valid l → i < 2 ^ 64 → k ≤ maxOrder → T (storable w) → w < 2 ^ 64 → Valid (store l i k w)
     aligned-valid w v i< k≤ st w< = rw (store-is w) (store-valid i k w v i< k≤ st w<)
+
+    -- and so does a reservation (R201)
+    pub aligned-new : (w : ℕ) → Valid l → any (over i k) l ≡ false → i < 2 ^ 64 → k ≤ maxOrder → T (enterable k w) →
+        w < 2 ^ 64 → Valid (store l i k w)
+    aligned-new w v n i< k≤ st w< = rw (store-is w, n) (store-at-valid i k w l v n i< k≤ st w<)
