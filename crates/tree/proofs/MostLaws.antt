@@ -14,10 +14,10 @@ use Rattle.blocks.specs.Lists.{any}
 use Rattle.blocks.proofs.BoolLaws.{byT}
 use Rattle.blocks.proofs.ListLaws.{All-map}
 use Rattle.model.specs.declared.Entry.{Entry}
-use Rattle.model.specs.Model.{Valid, maxOrder, aligned, over, store, storable, withWord}
+use Rattle.model.specs.Model.{Valid, maxOrder, aligned, over, store, enterable, withWord}
 use Rattle.model.specs.ByBlock as B
 use Rattle.model.specs.ByBlock.{storeNew}
-use Rattle.model.proofs.ValidLaws.{sorted-ok, store-valid}
+use Rattle.model.proofs.ValidLaws.{sorted-ok, store-at-valid}
 use Rattle.model.proofs.AlignedLaws.{store-is}
 use Rattle.tree.specs.Tree.{at, addIf, height, tierOrder, needed}
 use Rattle.tree.proofs.HeightLaws.{fits-most, height-le}
@@ -68,14 +68,14 @@ module _ (l : List Entry) (i k : ℕ) where
       (λ t. let e : u ≡ 11 = omega (arith, leb-false u 10 t) in
       subst (λ (x : ℕ). length (freshTo l i k x) ≤ 21) (sym e) (fresh-top h))
 
-by-block : {l : List Entry} (i k w : ℕ) → Valid l → i < 2 ^ 64 → k ≤ maxOrder → T (storable w) → w < 2 ^ 64 →
+by-block : {l : List Entry} (i k w : ℕ) → Valid l → i < 2 ^ 64 → k ≤ maxOrder → T (enterable k w) → w < 2 ^ 64 →
     needed l (B.store l i k w) ≤ 21
 by-block {l} i k w v i< k≤ st w< =
     byT (any (over i k) l)
     (λ t. let z : needed l (map (withWord i w) l) ≡ 0 =
     ap length (new-nodes-map (withWord i w) (λ x. refl) (λ x. refl) l) in
     rw t (omega (arith, z)))
-    (λ t. let vs : Valid (storeNew l i k w) = rw t at (store-valid i k w v i< k≤ st w<) in
+    (λ t. let vs : Valid (storeNew l i k w) = store-at-valid i k w l v t i< k≤ st w< in
     let h : height (storeNew l i k w) ≤ 11 =
     height-le (All-map (λ x ok. fits-most x (ok .order-le, ok .in-range)) (sorted-ok vs)) in
     let e : needed l (storeNew l i k w) ≡ length (freshTo l i k (height (storeNew l i k w))) =
@@ -84,5 +84,5 @@ by-block {l} i k w v i< k≤ st w< =
 
 -- R111
 pub needed-most : {l : List Entry} (i k w : ℕ) → aligned k i ≡ true → Valid l → i < 2 ^ 64 → k ≤ maxOrder →
-    T (storable w) → w < 2 ^ 64 → needed l (store l i k w) ≤ 21
+    T (enterable k w) → w < 2 ^ 64 → needed l (store l i k w) ≤ 21
 needed-most {l} i k w al v i< k≤ st w< = rw (store-is i k al l w) (by-block i k w v i< k≤ st w<)
