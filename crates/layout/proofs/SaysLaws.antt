@@ -7,6 +7,7 @@ use lib.Dec.{eqb, ltb}
 use borrow.Author.Tests.{eqb-true, eqb-false, eq-eqb, ne-eqb, ltb-true, ltb-false, lt-ltb, le-ltb}
 use Rattle.blocks.proofs.BoolLaws.{byT}
 use Rattle.model.specs.Model.{reservedWord}
+use Rattle.tree.specs.Tree.{slots}
 use Rattle.tree.specs.Slots.{nodeWord, siblingWord, nodeOffset}
 use Rattle.layout.specs.declared.Slot.{Slot}
 use Rattle.layout.specs.declared.Slot.the-variants.{Empty, Reserved, Held, Sibling, Child}
@@ -60,3 +61,7 @@ said w (Child m) e =
 
 pub word-of : (w : ℕ) (κ : Slot) → slotOf w ≡ κ → Says w κ
 word-of w κ e = subst (Says w) e (says w)
+
+-- of a slot of a node
+pub said-sibling : (w o : ℕ) → w ≡ siblingWord o → o < slots → slotOf w ≡ Sibling o
+said-sibling w o e h = said w (Sibling o) (e, omega arith, λ (z : w ≡ reservedWord). omega arith)
