@@ -8,14 +8,14 @@ use native.Mathlib.Omega.{arith}
 use lib.Dec.{eqb, T}
 use lib.ListN.{getD, set}
 use borrow.Author.Tests.{eq-eqb, ne-eqb}
-use Rattle.blocks.specs.Choice.{pick, either}
+use Rattle.blocks.specs.Choice.{pick, either, both}
 use Rattle.blocks.specs.Blocks.{block, bitsTo, setBit}
-use Rattle.blocks.proofs.BoolLaws.{byT, clash, both-no}
+use Rattle.blocks.proofs.BoolLaws.{byT, clash}
 use Rattle.blocks.specs.Lists.{All, there, end, also}
 use Rattle.blocks.proofs.ListLaws.{first-yes, each, All-map}
 use Rattle.blocks.proofs.BitLaws.{bits-lt}
 use Rattle.model.specs.declared.Entry.{Entry}
-use Rattle.model.specs.Model.{Sorted, done, more, covers, covering, hasMark, withMark, remark, erase, covered, markCount, reserved, reservedWord, storable, wordOk, takesMark, present, Valid}
+use Rattle.model.specs.Model.{Sorted, done, more, covers, covering, hasMark, withMark, remark, erase, covered, markCount, reserved, storable, wordOk, takesMark, present, Valid}
 use Rattle.model.specs.declared.Covered.the-variants.{Nothing, By}
 use Rattle.tree.specs.Tree.{height, tierOrder}
 use Rattle.tree.proofs.RelabelLaws.{mapO, covering-map, has-map, new-nodes-map}
@@ -30,8 +30,8 @@ use Rattle.layout.specs.Words.{marksWord}
 use Rattle.model.proofs.MarkLaws.{marks-bits}
 use Rattle.layout.proofs.StayLaws.{places-stay}
 use Rattle.marks.specs.Climb.{Markable}
-use Rattle.model.proofs.WordLaws.{by-word}
 use Rattle.model.proofs.ValidLaws.{sole}
+use Rattle.model.proofs.WordLaws.{entry-storable}
 
 -- A MARK CHANGED: still a list, at the same places
 set-small : (w m : ℕ) (b : Bool) → w < 8 → m < markCount → setBit m b w < 8
@@ -45,9 +45,13 @@ set-small w m b h lt =
     subst (λ (x : ℕ). x < 8) (sym q) (bits-lt g 3)
 
 marked-word : (i m : ℕ) (b : Bool) (e : Entry) → T (wordOk e) → T (wordOk (withMark i m b e))
-marked-word i m b e ok = by-word e ok (λ s. rw s tt)
-    (λ r o z. rw (eq-eqb (e .word) reservedWord r, o, both-no (covers i e), z) (subst (λ (w : ℕ). T (either (storable w) true))
-    (sym r) tt))
+marked-word i m b e ok = byT (reserved e)
+    (λ r. subst (λ (x : ℕ). T (either (storable (e .word)) (both (reserved e) (both (eqb (e .order) 0) (eqb x 0)))))
+    (sym (kept r)) ok)
+    (λ r. rw (entry-storable e ok r) tt)
+  where
+    kept : reserved e ≡ true → withMark i m b e .marks ≡ e .marks
+    kept r = byT (covers i e) (λ t. rw (t, r) refl) (λ t. rw t refl)
 
 pub sorted-remark : (i m : ℕ) (b : Bool) → m < markCount → {n : ℕ} {l : List Entry} → Sorted n l →
     Sorted n (remark l i m b)
