@@ -19,7 +19,7 @@ use Rattle.blocks.proofs.ListLaws.{each, look, any-in, in-any}
 use Rattle.blocks.proofs.BlockLaws.{block-up, block-at, block-block}
 use Rattle.blocks.proofs.UpToLaws.{getD-upTo}
 use Rattle.model.specs.declared.Entry.{Entry}
-use Rattle.model.specs.Model.{storable, over, within}
+use Rattle.model.specs.Model.{enterable, over, within}
 use Rattle.model.specs.ByBlock.{newEntry, storeNew}
 use Rattle.model.proofs.ValidLaws.{sorted-ok}
 use Rattle.tree.specs.Tree.{slots, tierOrder, fits, height, has, Node, needed, slotBits}

@@ -14,7 +14,7 @@ use Rattle.blocks.specs.Blocks.{block}
 use Rattle.blocks.proofs.BoolLaws.{byT, clash, both-l, both-r}
 use Rattle.blocks.proofs.ListLaws.{each, look}
 use Rattle.model.specs.declared.Entry.{Entry}
-use Rattle.model.specs.Model.{storable}
+use Rattle.model.specs.Model.{enterable}
 use Rattle.model.specs.ByBlock.{storeNew}
 use Rattle.tree.specs.Tree.{height, slotBits}
 use Rattle.tree.proofs.HeightLaws.{height-fits, fits-base}

@@ -16,7 +16,7 @@ use Rattle.blocks.proofs.BoolLaws.{both-l, both-no}
 use Rattle.blocks.proofs.ListLaws.{All-map, any-none, any-in, any-keep-both, look}
 use Rattle.blocks.proofs.BitLaws.{bits-same}
 use Rattle.model.specs.declared.Entry.{Entry}
-use Rattle.model.specs.Model.{Valid, storable, over, starts, within, hasMark, marksOf}
+use Rattle.model.specs.Model.{Valid, enterable, over, starts, within, hasMark, marksOf}
 use Rattle.model.specs.ByBlock.{inside, newEntry, storeNew}
 use Rattle.model.proofs.RangeLaws.{Inside}
 use Rattle.model.proofs.ValidLaws.{room, store-at-valid}
