@@ -15,11 +15,13 @@ use Rattle.model.specs.declared.Entry.{Entry}
 use Rattle.model.specs.Model.{
   Valid,
   storable,
+  reservedWord,
   maxOrder,
   aligned,
   markCount,
   covers,
   covering,
+  present,
   over,
   withWord,
   withMark,
@@ -29,19 +31,20 @@ use Rattle.model.specs.Model.{
 use Rattle.model.specs.ByBlock as B
 use Rattle.model.proofs.AlignedLaws.{base-aligned, store-is}
 use Rattle.model.proofs.ValidLaws.{sorted-ok, room, room-some, erase-clear, erase-none}
+use Rattle.model.proofs.WordLaws.{present-some}
 use Rattle.tree.proofs.ReadLaws.{over-some, over-none}
-use Rattle.marks.proofs.RemarkLaws.{remark-none}
+use Rattle.marks.proofs.RemarkLaws.{remark-absent}
 use Rattle.layout.specs.Places.{Places, newPlaces, wordAt, render}
 use Rattle.layout.proofs.StayLaws.{same-places}
 use Rattle.batch.specs.declared.Command.{Command}
-use Rattle.batch.specs.declared.Command.the-variants.{Store, Load, Erase, Mark, Unmark, Find}
+use Rattle.batch.specs.declared.Command.the-variants.{Store, Load, Erase, Mark, Unmark, Find, Reserve}
 use Rattle.execute.specs.Execute.{execute, short}
 use Rattle.execute.specs.State.{State, next}
 use Rattle.execute.specs.Part.{rangeOf, addressed, changing, mayWrite}
-use Rattle.execute.proofs.ExecuteLaws.{Kept, load-list, find-list}
+use Rattle.execute.proofs.ExecuteLaws.{Kept, load-list, find-list, index-aligned}
 use Rattle.execute.proofs.LocalLaws.{Agree, agree-store, agree-clear, agree-map, agree-move}
 use Rattle.execute.proofs.PartLaws.{word-same}
-use Rattle.execute.proofs.TableLaws.{covered-0, covering-marked, covering-stored}
+use Rattle.execute.proofs.TableLaws.{covered-0, present-marked, covering-stored}
 
 -- a command leaves the list, or is done and changes it within the range that it addresses
 abbrev Within : ℕ → List Entry → Command → Type 0
@@ -66,14 +69,14 @@ module _ (n : ℕ) (l : List Entry) (v : Valid l) where
 
   mark-within : (i m : ℕ) → Within n l (Mark i m)
   unfolding execute
-  mark-within i m = byT (leb markCount m) (λ t. inl (rw t)) (λ t. go t (covering l i) refl)
+  mark-within i m = byT (leb markCount m) (λ t. inl (rw t)) (λ t. go t (present (covering l i)) refl)
     where
-      go : leb markCount m ≡ false → (o : Option Entry) → covering l i ≡ o → Within n l (Mark i m)
-      go t none q = inl (rw t (remark-none l i m true q))
-      go t (some e) q =
+      go : leb markCount m ≡ false → (o : Option Entry) → present (covering l i) ≡ o → Within n l (Mark i m)
+      go t none q = inl (rw t (remark-absent l i m true v q))
+      go t (some e) p = let q = present-some (covering l i) p .0 in
           inr (
             refl,
-            rw t (covered-0 132 0 _ (covering-marked l i m true q)),
+            rw t (covered-0 132 0 _ (present-marked l i m true p)),
             rw (q, le-leb 0 (e .order) (omega arith)) (entry-range i q),
             rw (t, q, le-leb 0 (e .order) (omega arith))
                 (agree-mark i m true q),
@@ -81,14 +84,14 @@ module _ (n : ℕ) (l : List Entry) (v : Valid l) where
 
   unmark-within : (i m : ℕ) → Within n l (Unmark i m)
   unfolding execute
-  unmark-within i m = byT (leb markCount m) (λ t. inl (rw t)) (λ t. go t (covering l i) refl)
+  unmark-within i m = byT (leb markCount m) (λ t. inl (rw t)) (λ t. go t (present (covering l i)) refl)
     where
-      go : leb markCount m ≡ false → (o : Option Entry) → covering l i ≡ o → Within n l (Unmark i m)
-      go t none q = inl (rw t (remark-none l i m false q))
-      go t (some e) q =
+      go : leb markCount m ≡ false → (o : Option Entry) → present (covering l i) ≡ o → Within n l (Unmark i m)
+      go t none q = inl (rw t (remark-absent l i m false v q))
+      go t (some e) p = let q = present-some (covering l i) p .0 in
           inr (
             refl,
-            rw t (covered-0 133 0 _ (covering-marked l i m false q)),
+            rw t (covered-0 133 0 _ (present-marked l i m false p)),
             rw (q, le-leb 0 (e .order) (omega arith)) (entry-range i q),
             rw (t, q, le-leb 0 (e .order) (omega arith))
                 (agree-mark i m false q),
@@ -164,6 +167,26 @@ module _ (n : ℕ) (l : List Entry) (v : Valid l) where
           rw (t, a, s, d) (within-range al),
         )))))
 
+  -- RESERVE
+  reserve-within : (i : ℕ) → Within n l (Reserve i)
+  unfolding execute
+  reserve-within i = go (covering l i) refl
+    where
+      agree : covering l i ≡ none → Agree i 0 l (store l i 0 reservedWord)
+      agree q = let t : any (over i 0) l ≡ false = over-none l i 0 q in
+          rw (store-is i 0 (index-aligned i) l reservedWord, t) (agree-store i 0 reservedWord l (room l i 0 t))
+
+      go : (o : Option Entry) → covering l i ≡ o → Within n l (Reserve i)
+      go (some e) q = inl (rw q)
+      go none q =
+          byT (short n l (store l i 0 reservedWord)) (λ d. inl (rw (q, d)))
+          (λ d. inr (
+            refl,
+            rw (q, d) (covered-0 135 0 _ (covering-stored l i 0 reservedWord (index-aligned i) .1)),
+            index-aligned i,
+            rw (q, d) (agree q),
+          ))
+
   within : (c : Command) → Within n l c
   within (Store i k w) = store-within i k w
   within (Load i) = inl (load-list n l i)
@@ -171,6 +194,7 @@ module _ (n : ℕ) (l : List Entry) (v : Valid l) where
   within (Mark i m) = mark-within i m
   within (Unmark i m) = unmark-within i m
   within (Find a z f k) = inl (find-list n l a z f k)
+  within (Reserve i) = reserve-within i
 
 -- R41
 pub footprint : (n : ℕ) (s : State) → Kept n s → (c : Command) (w : ℕ) → mayWrite n s c w ≡ false →

@@ -12,7 +12,7 @@ use borrow.Author.Tests.{leb-true, leb-false, lt-ltb, le-ltb, le-leb, lt-leb, eq
 use Rattle.blocks.specs.Choice.{pick}
 use Rattle.blocks.proofs.BoolLaws.{byT}
 use Rattle.model.specs.declared.Entry.{Entry}
-use Rattle.model.specs.Model.{covering, covered, storable, maxOrder, aligned, store, erase, remark, markCount}
+use Rattle.model.specs.Model.{covering, present, covered, storable, reservedWord, maxOrder, aligned, store, erase, remark, markCount}
 use Rattle.tree.specs.Tree.{nodes, needed}
 use Rattle.marks.proofs.RemarkLaws.{places-remark}
 use Rattle.layout.specs.Places.{Places, newPlaces, prune, freeCount, render}
@@ -22,9 +22,10 @@ use Rattle.layout.proofs.StayLaws.{same-places, places-prune}
 use Rattle.lookup.specs.Load.{load, loaded, depth}
 use Rattle.lookup.specs.Find.{anyMark, find}
 use Rattle.store.specs.declared.Stored.{Stored}
-use Rattle.store.specs.Stored.{Holding, Stores}
+use Rattle.store.specs.declared.Reserving.{Reserving}
+use Rattle.store.specs.Stored.{Holding, Stores, Reserves, taken, tried}
 use Rattle.batch.specs.declared.Command.{Command}
-use Rattle.batch.specs.declared.Command.the-variants.{Store, Load, Erase, Find}
+use Rattle.batch.specs.declared.Command.the-variants.{Store, Load, Erase, Find, Reserve}
 use Rattle.batch.specs.declared.Reply.{Reply}
 use Rattle.execute.specs.Execute.{
   Executed,
@@ -38,11 +39,12 @@ use Rattle.execute.specs.Execute.{
   notStorable,
   notAligned,
   markAbove,
+  tooFewNodes,
   firstAbove,
   noBudget,
 }
-use Rattle.execute.proofs.ExecuteLaws.{erase-new, short-11, enough-0}
-use Rattle.execute.specs.Contracts.{coveredReply, loadedReply, storedReply, remarking, replyTo, wordsTo, Executes}
+use Rattle.execute.proofs.ExecuteLaws.{erase-new, short-11, enough-0, taken-15, reserve-11, reserve-0}
+use Rattle.execute.specs.Contracts.{coveredReply, loadedReply, storedReply, reservedReply, remarking, replyTo, wordsTo, Executes}
 
 -- REPLIES
 pub loaded-is : (t d : ℕ) (o : Option Entry) → loadedReply t (loaded d o) ≡ replyOf t d o
@@ -56,7 +58,7 @@ covered-is t (some e) = refl
 module _ (n : ℕ) (l : List Entry) where
   pub load-runs : (i : ℕ) → execute n l (Load i) ≡ leave l (loadedReply 130 (load l i))
   unfolding execute
-  load-runs i = ap (leave l) (sym (loaded-is 130 (depth l i) (covering l i)))
+  load-runs i = ap (leave l) (sym (loaded-is 130 (depth l i) (present (covering l i))))
 
   module _ (a z f k : ℕ) where
     pub find-mark : anyMark < f → execute n l (Find a z f k) ≡ refuse l 134 markAbove
@@ -109,10 +111,10 @@ leaves s c e q = record {
 -- a command that changes a mark
 pub remarks : {ws ws′ : List ℕ} (s : WellFormed ws) (c : Command) (t i m : ℕ) (b : Bool) {q : Reply} →
     execute (s .n) (s .list) c ≡ marking t (s .list) i m b →
-    q ≡ coveredReply t (covered (covering (remark (s .list) i m b) i)) →
+    q ≡ coveredReply t (covered (present (covering (remark (s .list) i m b) i))) →
     ws′ ≡ render (remark (s .list) i m b) (s .places) (s .n) → Executes s c q ws′
 remarks s c t i m b e r w = record {
-  reply-is = r ∙ covered-is t (covering (remark (s .list) i m b) i) ∙ sym (ap (λ (x : Executed). x .reply) e);
+  reply-is = r ∙ covered-is t (present (covering (remark (s .list) i m b) i)) ∙ sym (ap (λ (x : Executed). x .reply) e);
   words-are =
       w
       ∙ ap (λ (os : Places). render (remark (s .list) i m b) os (s .n)) (sym (places-remark (s .list) i m b (s .placed)))
@@ -147,39 +149,49 @@ module _ (n : ℕ) (l : List Entry) (i k w : ℕ) where
   unfolding execute
   store-word h a e = rw (le-ltb maxOrder k h, a, e)
 
--- done, or short of nodes: exactly as the free nodes are enough
-pub stores : {ws ws′ : List ℕ} (s : WellFormed ws) (i k w : ℕ) {x : Stored} {q : Reply} → k ≤ maxOrder →
-    aligned k i ≡ true → storable w ≡ true → Stores (s .n) (s .list) (s .places) (store (s .list) i k w) i ws ws′ x →
-    q ≡ storedReply 129 x →
-    Executes s (Store i k w) q ws′
-stores {ws} {ws′} s i k w {x} {q} h g t r e =
+-- done, or short of nodes: exactly as the free nodes are enough. c: a store, or a reservation; t: its reply's tag
+settles : {ws ws′ : List ℕ} (s : WellFormed ws) (c : Command) (t i : ℕ) (l′ : List Entry) {x : Stored} {q : Reply} →
+    (s .n - length (nodes (s .list)) < needed (s .list) l′ → execute (s .n) (s .list) c ≡ refuse (s .list) t tooFewNodes) →
+    (needed (s .list) l′ ≤ s .n - length (nodes (s .list)) →
+    execute (s .n) (s .list) c ≡ record { reply = replyOf t 0 (covering l′ i); list = l′ }) →
+    Stores (s .n) (s .list) (s .places) l′ i ws ws′ x → q ≡ storedReply t x → Executes s c q ws′
+settles {ws} {ws′} s c t i l′ {x} {q} few done r e =
     byT (leb (needed (s .list) l′) (freeCount (s .places))) (λ d. full (leb-true _ _ d)) (λ d. less (leb-false _ _ d))
   where
-    l′ : List Entry
-    l′ = store (s .list) i k w
-
     free : freeCount (s .places) ≡ s .n - length (nodes (s .list))
     free = omega (arith, free-places (s .n) (s .list) (s .places) (s .placed))
 
-    full : needed (s .list) l′ ≤ freeCount (s .places) → Executes s (Store i k w) q ws′
+    full : needed (s .list) l′ ≤ freeCount (s .places) → Executes s c q ws′
     full d =
         let o : Holding (s .n) (s .list) (s .places) l′ i ws′ x = r .done d in
-        let a : execute (s .n) (s .list) (Store i k w)
-        ≡ record { reply = replyOf 129 0 (covering l′ i); list = l′ } =
-        enough-0 (s .n) (s .list) i k w h g t (omega (arith, free)) in
+        let a : execute (s .n) (s .list) c ≡ record { reply = replyOf t 0 (covering l′ i); list = l′ } =
+        done (omega (arith, free)) in
         record {
           reply-is =
-              e ∙ ap (storedReply 129) (o .outcome-is) ∙ sym (ap (replyOf 129 0) (o .covering-is))
+              e ∙ ap (storedReply t) (o .outcome-is) ∙ sym (ap (replyOf t 0) (o .covering-is))
               ∙ sym (ap (λ (y : Executed). y .reply) a);
-          words-are = o .words-are ∙ sym (words-after s (Store i k w) (ap (λ (y : Executed). y .list) a));
+          words-are = o .words-are ∙ sym (words-after s c (ap (λ (y : Executed). y .list) a));
         }
 
-    less : freeCount (s .places) < needed (s .list) l′ → Executes s (Store i k w) q ws′
+    less : freeCount (s .places) < needed (s .list) l′ → Executes s c q ws′
     less d =
         let (o, f) = r .short d in
-        subst (λ (v : List ℕ). Executes s (Store i k w) q v) (sym f)
-        (leaves s (Store i k w) (short-11 (s .n) (s .list) i k w h g t (omega (arith, free)))
-        (e ∙ ap (storedReply 129) o))
+        subst (λ (v : List ℕ). Executes s c q v) (sym f)
+        (leaves s c (few (omega (arith, free))) (e ∙ ap (storedReply t) o))
+
+pub stores : {ws ws′ : List ℕ} (s : WellFormed ws) (i k w : ℕ) {x : Stored} {q : Reply} → k ≤ maxOrder →
+    aligned k i ≡ true → storable w ≡ true → Stores (s .n) (s .list) (s .places) (store (s .list) i k w) i ws ws′ x →
+    q ≡ storedReply 129 x → Executes s (Store i k w) q ws′
+stores s i k w h g t r e = settles s (Store i k w) 129 i (store (s .list) i k w) (short-11 (s .n) (s .list) i k w h g t)
+    (enough-0 (s .n) (s .list) i k w h g t) r e
+
+-- A RESERVATION
+pub reserves : {ws ws′ : List ℕ} (s : WellFormed ws) (i : ℕ) {x : Reserving} {q : Reply} →
+    Reserves (s .n) (s .list) (s .places) i ws ws′ x → q ≡ reservedReply x → Executes s (Reserve i) q ws′
+reserves s i (taken e c w) r = subst (λ (v : List ℕ). Executes s (Reserve i) _ v) (sym w)
+    (leaves s (Reserve i) (taken-15 (s .n) (s .list) i c) r)
+reserves s i (tried x c h) r = settles s (Reserve i) 135 i (store (s .list) i 0 reservedWord)
+    (reserve-11 (s .n) (s .list) i c) (reserve-0 (s .n) (s .list) i c) h r
 
 -- COMMANDS THAT ONLY READ
 pub leaves-words : {ws : List ℕ} (s : WellFormed ws) (c : Command) {q : Reply} →

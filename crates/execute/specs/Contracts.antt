@@ -15,7 +15,9 @@ use Rattle.batch.specs.declared.Reply.{Reply}
 use Rattle.batch.specs.Reply.{answered, answeredBy}
 use Rattle.store.specs.declared.Stored.{Stored}
 use Rattle.store.specs.declared.Stored.the-variants.{Done, Short}
-use Rattle.execute.specs.Execute.{absent, tooFewNodes, execute}
+use Rattle.store.specs.declared.Reserving.{Reserving}
+use Rattle.store.specs.declared.Reserving.the-variants.{Taken, Tried}
+use Rattle.execute.specs.Execute.{absent, tooFewNodes, isTaken, execute}
 use Rattle.execute.specs.State.{State, next}
 
 -- the reply by what covers the index
@@ -32,6 +34,11 @@ loadedReply t (Present e d) = answeredBy t e d
 abbrev pub storedReply : ℕ → Stored → Reply
 storedReply t (Done e) = answeredBy t e 0
 storedReply t Short = answered t tooFewNodes 0 0
+
+-- the reply by what a reservation comes to
+abbrev pub reservedReply : Reserving → Reply
+reservedReply Taken = answered 135 isTaken 0 0
+reservedReply (Tried x) = storedReply 135 x
 
 -- the command that sets a mark, or clears it
 abbrev pub remarking : (i m : ℕ) → Bool → Command

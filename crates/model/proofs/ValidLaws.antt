@@ -125,7 +125,7 @@ module _ (i k w : ℕ) (l : List Entry) where
       zip (also {x} h a) (also c d) = also (beside x (h .1) (h .0) c) (zip a d)
 
   -- where nothing covers the index, a new entry of order 0 has no marks
-  bare : any (over i k) l ≡ false → k ≡ 0 → marksOf (inside l i k) ≡ 0
+  pub bare : any (over i k) l ≡ false → k ≡ 0 → marksOf (inside l i k) ≡ 0
   bare n z = ap marksOf (keep-none (starts k (block k i)) (All-map (λ x f. off x f) (any-no (over i k) l n)))
     where
       off : (x : Entry) → over i k x ≡ false → starts k (block k i) x ≡ false

@@ -1,14 +1,15 @@
 -- What the word of an entry or of a reservation can be.
 use Prim.Native.Nat.{ℕ, _%_}
-use mathlib.Core.Path.{_≡_, sym, ap, subst, _∙_}
+use mathlib.Core.Path.{_≡_, refl, sym, ap, subst, _∙_}
 use mathlib.Core.Bool.{Bool, true, false, not}
+use mathlib.Core.Option.{Option, none, some}
 use native.Mathlib.Omega.{arith}
 use lib.Dec.{eqb, T}
 use borrow.Author.Tests.{eqb-true, eqb-false, eq-eqb}
 use Rattle.blocks.specs.Choice.{both, either}
 use Rattle.blocks.proofs.BoolLaws.{clash, byT, both-l, both-r, either-e, not-true, T-true}
 use Rattle.model.specs.declared.Entry.{Entry}
-use Rattle.model.specs.Model.{storable, reservedWord, reserved, wordOk}
+use Rattle.model.specs.Model.{storable, reservedWord, reserved, wordOk, present}
 
 pub storable-kind : (w : ℕ) → storable w ≡ true → (w ≡ 0 → ⊥) × (w % 4 ≡ 2 → ⊥)
 storable-kind w t = (
@@ -36,3 +37,11 @@ module _ (e : Entry) (ok : T (wordOk e)) where
 
   pub entry-storable : reserved e ≡ false → storable (e .word) ≡ true
   entry-storable f = by-word (λ s. s) (λ q o m. absurd (eqb-false _ _ f q))
+
+-- what is present is an entry and no reservation
+pub present-some : (o : Option Entry) {e : Entry} → present o ≡ some e → (o ≡ some e) × (reserved e ≡ false)
+present-some none {e} q = let z : _≡_ {A = ℕ} 0 1 = cc in absurd (omega arith)
+present-some (some x) {e} q = byT (reserved x)
+    (λ t. absurd (let z : none ≡ some e = rw t at q in let y : _≡_ {A = ℕ} 0 1 = cc in omega arith))
+    (λ t. let d : some x ≡ some e = rw t at q in
+    let y : x ≡ e = cc in (d, subst (λ (z : Entry). reserved z ≡ false) y t))

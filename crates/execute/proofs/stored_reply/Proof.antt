@@ -18,10 +18,10 @@ answered-requires : tie.Need-answered-requires
 answered-requires c κs = search needs
 
 returns : tie.Need-returns
-returns c = c .answered-by .ensures ∙ sym (ap (storedReply 129) (c .before .before .x .given .1))
+returns c = c .answered-by .ensures ∙ sym (ap (storedReply _) (c .before .before .x .given .1))
 
 returns-2 : tie.Need-returns-2
-returns-2 c = c .answered .ensures ∙ sym (ap (storedReply 129) (c .before .enum-told .given .1))
+returns-2 c = c .answered .ensures ∙ sym (ap (storedReply _) (c .before .enum-told .given .1))
 
 pub stored-reply-spec : {M : Type 1} → statement M
 stored-reply-spec =
