@@ -109,7 +109,7 @@ fn drop_head(pool: &mut [u64], n: u64, h: u64) -> bool
         Slot::Empty => false,
         Slot::Sibling(_) => false,
         Slot::Reserved => {
-            if h != 1 {
+            if h > 1 {
                 return false;
             }
             free_head(pool, n, x);

@@ -134,12 +134,12 @@ pub fn set_mark(pool: &mut [u64], i: u64, m: u64, on: bool) -> Covered
             mark_anchor(pool, m, on);
             Covered::By(remarked(e, m, on))
         }
-        Located::InNode(e, at, _) => {
-            if is_reserved(e) {
+        Located::InNode(x, at, _) => {
+            if is_reserved(x) {
                 return Covered::Nothing;
             }
             climb(pool, i, at, m, on);
-            Covered::By(remarked(e, m, on))
+            Covered::By(remarked(x, m, on))
         }
     }
 }

@@ -82,7 +82,7 @@ Valid l = Sorted 0 l
 abbrev pub covering : List Entry → ℕ → Option Entry
 covering l i = first (covers i) l
 
--- R203: to load, find, mark and unmark, a reservation is absent
+-- R203: what load, find, mark and unmark see there
 abbrev pub present : Option Entry → Option Entry
 present none = none
 present (some e) = pick (reserved e) none (some e)

@@ -190,7 +190,7 @@ returns-3 c = (
     no = λ _. stay-held w (start-from-slot-word (slot-word-from-then3 c) .pre .0)
         t q (slot-word-from-then3 c .slot-word .ensures) (c .before .before .before .read-slot .ensures)
         (inr (c .before .enum-told4 .given .1))
-        (c .if3 .taken);
+        (λ z. omega (arith, c .if3 .taken, z));
   }),
   λ low _. spares-same low _,
 )
@@ -274,7 +274,7 @@ returns-8 c = let d = c .before .before .free-head2 .ensures in (
         (vacant-from-read-slot (read-slot-from-slice-known4 c) .vacant .ensures .0
         (not-false _ (else1-from-slice-known4 c .if1
         .left))) (inr (enum-told-from-slice-known4 c .enum-told4 .given .1))
-        (else3-from-slice-known4 c .if3 .left)
+        (omega (arith, else3-from-slice-known4 c .if3 .left, start-from-read-slot (read-slot-from-slice-known4 c) .pre .0))
         (c .before .before .free-head2 .kept .0) (d .gone) (d .head) (d .rest);
     no = λ e. absurd (clash refl e);
   }),
