@@ -188,7 +188,7 @@ stores s i k w h g t r e = settles s (Store i k w) 129 i (store (s .list) i k w)
 -- A RESERVATION
 pub reserves : {ws ws′ : List ℕ} (s : WellFormed ws) (i : ℕ) {x : Reserving} {q : Reply} →
     Reserves (s .n) (s .list) (s .places) i ws ws′ x → q ≡ reservedReply x → Executes s (Reserve i) q ws′
-reserves s i (taken e c w) r = subst (λ (v : List ℕ). Executes s (Reserve i) _ v) (sym w)
+reserves s i {q = q} (taken e c w) r = subst (λ (v : List ℕ). Executes s (Reserve i) q v) (sym w)
     (leaves s (Reserve i) (taken-15 (s .n) (s .list) i c) r)
 reserves s i (tried x c h) r = settles s (Reserve i) 135 i (store (s .list) i 0 reservedWord)
     (reserve-11 (s .n) (s .list) i c) (reserve-0 (s .n) (s .list) i c) h r
