@@ -181,10 +181,10 @@ pub extern "C" fn xapool_list(pool: &[u64], first: u64, last: u64, buffer: &mut 
     ensures { λ r. ⌜ r ≡ Calls.list (now (pool .entry)) first last (now (buffer .entry)) .result ⌝ }
     ensures { λ _. ⌜ now (buffer .exit) ≡ Calls.list (now (pool .entry)) first last (now (buffer .entry)) .buffer ⌝ }
 {
-    let answer = verify::check(pool);
-    if answer != DONE {
+    let checked = verify::check(pool);
+    if checked != DONE {
         return Result {
-            answer: answer,
+            answer: checked,
             number: 0,
         };
     }
