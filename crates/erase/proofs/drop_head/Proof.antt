@@ -162,7 +162,7 @@ returns-2 c = (
     no = λ _. stay-held w (start-from-slot-word (slot-word-from-then2 c) .pre .0)
         t q (slot-word-from-then2 c .slot-word .ensures) (c .before .before .before .read-slot .ensures)
         (inl (c .before .enum-told .given .1))
-        (c .if2 .taken);
+        (λ z. omega (arith, c .if2 .taken, z));
   }),
   λ low _. spares-same low _,
 )
