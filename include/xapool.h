@@ -6,7 +6,8 @@
  *
  * The word of an entry has 64 bits: it is odd (2v + 1 for the value v), or a multiple of 4 other than
  * 0 (a handle, which is not followed). An entry of order k, 0 to 63, covers 2^k indices; its base is a
- * multiple of 2^k. It has three marks, together a byte: mark m is worth 2^m.
+ * multiple of 2^k. It has three marks, together a byte: mark m is worth 2^m. A single index may also
+ * be reserved, before there is anything to store: it then has its place in the tree and no entry.
  *
  * What a host must know:
  *
@@ -70,6 +71,10 @@ extern "C" {
 /* The bytes of a list of n entries. */
 #define XAPOOL_LISTING(n) (XAPOOL_LISTED_BYTES * (n))
 
+/* What a reserved index has in the pool, as its slot's word or as the head. No store takes it, and
+ * replies and lists have 0 in its place. */
+#define XAPOOL_RESERVED_WORD 1030
+
 /* The word of value v, v from 0 to 2^63 - 1; and the value of an odd word. */
 #define XAPOOL_VALUE(v) (UINT64_C(2) * (v) + 1)
 #define XAPOOL_VALUE_OF(word) ((word) / 2)
@@ -77,9 +82,9 @@ extern "C" {
 /* ---- Answers ----
  *
  * 0 to 4 are the answer of a call, and of xapool_list also 8. All but 0 refuse it: nothing ran, and
- * pool, reply and list bytes are as they were. 0 and 5 to 14 are the answer in one command's reply;
+ * pool, reply and list bytes are as they were. 0 and 5 to 15 are the answer in one command's reply;
  * whatever it is, the next command runs. Where several apply, the lowest is given, but 14 before 6,
- * and a list is refused with 8 before it is with 4. */
+ * 15 before 11, and a list is refused with 8 before it is with 4. */
 enum xapool_answer {
     XAPOOL_DONE = 0,             /* call: done, number: commands run, or entries listed. reply: done */
     XAPOOL_POOL_LENGTH = 1,      /* pool_words is not 4 + 69 N with N from 1 to 1,000; number 0 */
@@ -93,11 +98,12 @@ enum xapool_answer {
     XAPOOL_BAD_MARK = 7,         /* mark, unmark: above 2. find: filter above 3 */
     XAPOOL_FIRST_ABOVE_LAST = 8, /* find: first is above last. Call, list: the same; number 0 */
     XAPOOL_NO_BUDGET = 9,        /* find: budget 0 */
-    XAPOOL_ABSENT = 10,          /* load, erase, mark, unmark: nothing covers the index */
-    XAPOOL_TOO_FEW_NODES = 11,   /* store: it needs more nodes than are free; nothing is stored */
+    XAPOOL_ABSENT = 10,          /* load, mark, unmark: no entry covers the index. erase: nor is it reserved */
+    XAPOOL_TOO_FEW_NODES = 11,   /* store, reserve: it needs more nodes than are free; nothing is changed */
     XAPOOL_ENDED = 12,           /* find: nothing more to find */
     XAPOOL_PAUSED = 13,          /* find: the budget is used up; index: where to go on */
-    XAPOOL_NOT_ALIGNED = 14      /* store: the index is not a multiple of 2^order */
+    XAPOOL_NOT_ALIGNED = 14,     /* store: the index is not a multiple of 2^order */
+    XAPOOL_COVERED = 15          /* reserve: an entry covers the index, or it is reserved already */
 };
 
 /* ---- Batches ----
@@ -112,14 +118,18 @@ enum xapool_answer {
  *   4    mark      9      index (8), mark (1)
  *   5    unmark    9      index (8), mark (1)
  *   6    find     19      first (8), last (8), and then filter (1), budget (2)
+ *   7    reserve   8      index (8)
  *
  * store: one entry over the 2^order indices from index on, which is a multiple of 2^order, in place
  *   of all that lay there; it has marks 0 and 1 of what it replaces. Where an entry of that order or
  *   more covers them, that entry takes the word and keeps marks 0 and 1. Mark 2 ('matched') is clear
  *   after every store, also of the same word.
- * erase, mark, unmark: the whole entry that covers index.
+ * erase, mark, unmark: the whole entry that covers index. An erase also ends a reservation.
  * find: the first entry that meets first..last, in index order; filter 0, 1, 2: with that mark,
- *   3: any. It goes at most budget steps. */
+ *   3: any. It goes at most budget steps.
+ * reserve: holds this one index, with the nodes that a store of order 0 there needs. Loads, finds,
+ *   marks and unmarks take it for an index without an entry. A store over it, of any order, takes
+ *   its place. */
 enum xapool_tag {
     XAPOOL_STORE = 1,
     XAPOOL_LOAD = 2,
@@ -127,7 +137,8 @@ enum xapool_tag {
     XAPOOL_MARK = 4,
     XAPOOL_UNMARK = 5,
     XAPOOL_FIND = 6,
-    XAPOOL_LISTED = 32,  /* xapool_list only: an entry */
+    XAPOOL_RESERVE = 7,
+    XAPOOL_LISTED = 32,  /* xapool_list only: an entry, or a reserved index */
     XAPOOL_REPLY = 128,  /* a reply's tag is its command's plus this */
     XAPOOL_REFUSAL = 255 /* tamburish only: length 3, then answer 1, number 2 */
 };
@@ -141,6 +152,7 @@ enum xapool_tag {
 #define XAPOOL_MARK_BYTES 12
 #define XAPOOL_UNMARK_BYTES 12
 #define XAPOOL_FIND_BYTES 22
+#define XAPOOL_RESERVE_BYTES 11
 
 /* ---- Replies ----
  *
@@ -156,7 +168,8 @@ enum xapool_tag {
  *        22  count         2   load: nodes over the index (also with 10); find: steps
  *
  * store, load, mark and unmark give the entry over the index after the command, find the one that it
- * found, erase the one that it removed. What a command does not give is zero. */
+ * found, erase the one that it removed. What a command does not give is zero: reserve, and an erase of
+ * a reserved index, give that index and no entry. */
 #define XAPOOL_AT_ANSWER 3
 #define XAPOOL_AT_INDEX 4
 #define XAPOOL_AT_ORDER 12
@@ -166,13 +179,13 @@ enum xapool_tag {
 
 /* ---- Lists ----
  *
- * xapool_list writes 21 bytes for each entry, in index order:
+ * xapool_list writes 21 bytes for each entry and for each reserved index, in index order:
  *
  *   place 0  tag 32        1 byte
  *         1  length 18     2
  *         3  index         8   the entry's base, also where that lies before the range
  *        11  order         1
- *        12  entry         8
+ *        12  entry         8   0: the index is reserved
  *        20  marks         1 */
 #define XAPOOL_LISTED_AT_INDEX 3
 #define XAPOOL_LISTED_AT_ORDER 11
@@ -202,8 +215,9 @@ xapool_result xapool_run(uint64_t *pool, size_t pool_words,
  * record, as a run would say. It looks at no pool. */
 xapool_result xapool_count(const uint8_t *batch, size_t batch_bytes);
 
-/* Lists every entry that covers an index of first to last, both included, in index order and each
- * once; one that begins before first or ends after last is listed whole. It checks the pool first
+/* Lists every entry that covers an index of first to last, both included, and every reserved index
+ * among them, in index order and each once; an entry that begins before first or ends after last is
+ * listed whole. It checks the pool first
  * and only reads it. With answer 0 the first 21 * number bytes of buffer hold the list; bytes past
  * them stay as they were. Gives 0, or 1, 2, 8, 4 in this order, and then no byte is written: with no
  * buffer (NULL, 0) and answer 4 the number says how many entries there are to make room for. */
@@ -351,11 +365,19 @@ static inline int xapool_put_find(xapool_batch *batch, uint64_t first, uint64_t 
     return 1;
 }
 
+static inline int xapool_put_reserve(xapool_batch *batch, uint64_t index)
+{
+    if (!xapool_put_tag(batch, XAPOOL_RESERVE, XAPOOL_RESERVE_BYTES))
+        return 0;
+    xapool_put_number(batch, index, 8);
+    return 1;
+}
+
 /* ---- Reading replies ---- */
 
 typedef struct xapool_reply {
-    uint8_t tag;    /* of the command: XAPOOL_STORE to XAPOOL_FIND */
-    uint8_t answer; /* enum xapool_answer, 0 and 5 to 14 */
+    uint8_t tag;    /* of the command: XAPOOL_STORE to XAPOOL_RESERVE */
+    uint8_t answer; /* enum xapool_answer, 0 and 5 to 15 */
     uint8_t order;
     uint8_t marks;
     uint16_t count;
@@ -381,8 +403,8 @@ static inline int xapool_read_reply(const uint8_t *replies, size_t bytes, size_t
     if (number >= bytes / XAPOOL_REPLY_BYTES)
         return 0;
     at = replies + XAPOOL_REPLY_BYTES * number;
-    if (at[0] < XAPOOL_REPLY + XAPOOL_STORE || at[0] > XAPOOL_REPLY + XAPOOL_FIND ||
-        xapool_number_at(at + 1, 2) != XAPOOL_REPLY_BYTES - 3 || at[XAPOOL_AT_ANSWER] > XAPOOL_NOT_ALIGNED)
+    if (at[0] < XAPOOL_REPLY + XAPOOL_STORE || at[0] > XAPOOL_REPLY + XAPOOL_RESERVE ||
+        xapool_number_at(at + 1, 2) != XAPOOL_REPLY_BYTES - 3 || at[XAPOOL_AT_ANSWER] > XAPOOL_COVERED)
         return 0;
     reply->tag = XAPOOL_TO_BYTE(at[0] - XAPOOL_REPLY);
     reply->answer = at[XAPOOL_AT_ANSWER];
@@ -400,7 +422,7 @@ typedef struct xapool_listed {
     uint8_t order;
     uint8_t marks;
     uint64_t index; /* the base */
-    uint64_t entry;
+    uint64_t entry; /* 0: reserved; then order and marks are 0 as well */
 } xapool_listed;
 
 /* Reads entry 'number', from 0, out of the bytes of a list. Gives 0, and leaves *listed, if there is
@@ -414,11 +436,20 @@ static inline int xapool_read_listed(const uint8_t *list, size_t bytes, size_t n
     if (at[0] != XAPOOL_LISTED || xapool_number_at(at + 1, 2) != XAPOOL_LISTED_BYTES - 3 ||
         at[XAPOOL_LISTED_AT_ORDER] > XAPOOL_MAX_ORDER || at[XAPOOL_LISTED_AT_MARKS] >> XAPOOL_MARKS != 0)
         return 0;
+    if (xapool_number_at(at + XAPOOL_LISTED_AT_ENTRY, 8) == 0 &&
+        (at[XAPOOL_LISTED_AT_ORDER] != 0 || at[XAPOOL_LISTED_AT_MARKS] != 0))
+        return 0;
     listed->index = xapool_number_at(at + XAPOOL_LISTED_AT_INDEX, 8);
     listed->order = at[XAPOOL_LISTED_AT_ORDER];
     listed->entry = xapool_number_at(at + XAPOOL_LISTED_AT_ENTRY, 8);
     listed->marks = at[XAPOOL_LISTED_AT_MARKS];
     return 1;
+}
+
+/* Whether what was listed is a reserved index and no entry. */
+static inline int xapool_is_reserved(const xapool_listed *listed)
+{
+    return listed->entry == 0;
 }
 
 /* The last index that an entry covers. The one after it is not this plus 1: at 2^64 - 1 there is none. */
@@ -459,11 +490,12 @@ static inline const char *xapool_answer_text(uint64_t answer)
     case XAPOOL_BAD_MARK: return "mark above 2 or filter above 3";
     case XAPOOL_FIRST_ABOVE_LAST: return "first above last";
     case XAPOOL_NO_BUDGET: return "budget 0";
-    case XAPOOL_ABSENT: return "nothing covers the index";
+    case XAPOOL_ABSENT: return "no entry covers the index";
     case XAPOOL_TOO_FEW_NODES: return "too few free nodes";
     case XAPOOL_ENDED: return "ended";
     case XAPOOL_PAUSED: return "paused";
     case XAPOOL_NOT_ALIGNED: return "index is not a multiple of 2^order";
+    case XAPOOL_COVERED: return "index is covered by an entry or reserved";
     default: return "no answer of this library";
     }
 }

@@ -49,6 +49,8 @@ impl Map {
                 let found = range.find(|(_, entry)| entry.marks >> filter & 1 == 1);
                 found.map(|(index, entry)| (*index, entry.word, entry.marks))
             }
+            // No load has one.
+            Command::Reserve { .. } => None,
         }
     }
 }

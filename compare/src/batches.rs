@@ -17,6 +17,7 @@ fn typed(command: Plain) -> Command {
         Plain::Find { first, last, filter, budget } => {
             Command::Find { first, last, filter, budget }
         }
+        Plain::Reserve { index } => Command::Reserve { index },
     }
 }
 
@@ -95,8 +96,8 @@ fn damage(random: &mut Random, batch: &mut Vec<u8>) {
     let (from, to) = (places[record], places[record + 1]);
     let inside = from + random.below((to - from) as u64) as usize;
     match random.below(10) {
-        0 => batch[from] = [0, 7, 8, 127, 128, 129, 255][random.below(7) as usize],
-        1 => batch[from] = 1 + random.below(6) as u8,
+        0 => batch[from] = [0, 8, 9, 127, 128, 129, 135, 255][random.below(8) as usize],
+        1 => batch[from] = 1 + random.below(7) as u8,
         2 => batch[from + 2] = batch[from + 2].wrapping_add(1),
         3 => batch[from + 2] = batch[from + 2].wrapping_sub(1),
         4 => batch[from + 1] = 1 + random.below(255) as u8,

@@ -1,6 +1,6 @@
 //! Cases 13 to 15 (R118 to R120), the empty batch, and batches of 8,192 and 8,193 bytes, with the
-//! rules' own figures; unaligned stores (P4), stores over mark 2 (P5) and the listings of
-//! listing_cases.rs; and cases 2 to 13 command by command
+//! rules' own figures; unaligned stores (P4), stores over mark 2 (P5), the listings of
+//! listing_cases.rs and the reservations of reserve_cases.rs; and cases 2 to 13 command by command
 //! against reference, all words and replies (their figures are computed by the proved table and
 //! tested in host/). A case that fails says which commands it ran and the first word or byte that
 //! differs.
@@ -10,6 +10,7 @@ use crate::lend::{Call, Given, Lender};
 use crate::list::CallList;
 use crate::listing_cases::listing_cases;
 use crate::program::Input;
+use crate::reserve_cases::reserve_cases;
 use reference::pool::pool_length;
 use xapool_host::{Command, Word};
 
@@ -62,7 +63,7 @@ fn runs(batch: Vec<u8>, reply: usize, answer: u64, number: u64) -> Option<String
 }
 
 /// By figures: the last reply to these commands on a pool of 3 nodes.
-fn replies(commands: &[Command], wanted: &[u8]) -> Option<String> {
+pub fn replies(commands: &[Command], wanted: &[u8]) -> Option<String> {
     let (batch, reply) = (records(commands), 24 * commands.len());
     let given = after_init(211, &Call::Run { batch: batch.clone(), reply });
     differs(&batch, &given.bytes[reply - 24..], wanted)
@@ -173,7 +174,7 @@ fn empty_batch() -> Vec<Case> {
 
 /// The first difference of library and reference, in every word and reply byte after each of the
 /// commands.
-fn agree(nodes: usize, commands: &[Command]) -> Option<String> {
+pub fn agree(nodes: usize, commands: &[Command]) -> Option<String> {
     let one = |command| Call::Run { batch: records(std::slice::from_ref(command)), reply: 24 };
     let calls = std::iter::once(Call::Init).chain(commands.iter().map(one)).collect();
     let list = CallList { words: vec![0; pool_length(nodes)], calls };
@@ -244,6 +245,7 @@ pub fn run_all(with_program: bool) -> (usize, Vec<(&'static str, String)>) {
         without_mark_2(),
         empty_batch(),
         listing_cases(),
+        reserve_cases(),
     ]
     .concat();
     let all = [starred(), figures, programs(with_program)].concat();

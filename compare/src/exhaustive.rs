@@ -6,6 +6,7 @@ use crate::pools::well_formed;
 use reference::awkward::Commands as Source;
 use reference::batch::Command;
 use reference::command::execute;
+use reference::model::RESERVED;
 use reference::pool::{node_word, sibling_word, State};
 use reference::random::Random;
 use xapool_host::layout::{slot_place, NODE_WORDS};
@@ -20,6 +21,10 @@ fn mark(index: u64, mark: u8) -> Command {
     Command::Mark { index, mark }
 }
 
+fn reserve(index: u64) -> Command {
+    Command::Reserve { index }
+}
+
 fn built(nodes: usize, commands: &[Command]) -> Vec<u64> {
     let start = State::empty(nodes);
     let after = |state: State, command: &Command| execute(&state, *command).state;
@@ -27,7 +32,7 @@ fn built(nodes: usize, commands: &[Command]) -> Vec<u64> {
 }
 
 /// Pools with each kind of thing in them: no node, siblings, marks, the widest and the narrowest
-/// nodes, runs at the end of all indices, any numbering.
+/// nodes, runs at the end of all indices, reservations, any numbering.
 fn pools() -> Vec<Vec<u64>> {
     let mut random = Random::new(1);
     let mut source = Source::new(Random::new(2));
@@ -39,17 +44,22 @@ fn pools() -> Vec<Vec<u64>> {
         built(3, &[store(0, 6, 3), store(4095, 0, 7), mark(0, 0), mark(4095, 1)]),
         built(22, &[store(0, 0, 3), store(LAST, 0, 9), mark(LAST, 2)]),
         built(14, &[store(1 << 63, 63, 3), store(0, 60, 5), store(1 << 62, 0, 8), mark(1, 0)]),
+        built(2, &[reserve(0)]),
+        built(2, &[reserve(0), reserve(5), store(6, 0, 3), mark(6, 0), store(8, 3, 7)]),
+        built(4, &[reserve(63), store(64, 6, 5), reserve(4095), mark(64, 2)]),
+        built(12, &[reserve(LAST), store(0, 60, 5)]),
         well_formed(&mut random, &mut source, 12),
     ]
 }
 
 /// What a word is changed to: 0, a little more or less, words of nodes (one that there is, one past
-/// the last), of siblings, of entries, and one with its highest bit changed.
+/// the last), of siblings, of entries, of a reservation, and one with its highest bit changed.
 fn changes(word: u64, place: usize, nodes: usize) -> Vec<u64> {
     let slot = place.saturating_sub(slot_place(0, 0)) % NODE_WORDS;
     let node_words = [nodes / 2, nodes].map(node_word);
     let siblings = [0, slot.saturating_sub(1)].map(sibling_word);
     let mut all = vec![0, word.wrapping_add(1), word.wrapping_sub(1), 1, 4, word ^ 1 << 63];
+    all.push(RESERVED);
     all.extend(node_words.into_iter().chain(siblings));
     all.retain(|change| *change != word);
     all

@@ -1,14 +1,15 @@
 //! What was compared so far, counted in memory that the child process shares with us.
 
 use crate::lend::{Call, Given};
-use crate::listings::{kinds, Kind, KINDS};
+use crate::listings::{kinds, KINDS};
 use crate::os::shared_numbers;
+use crate::reserves;
 use crate::stretch::{counts, FindCounts};
 use std::sync::atomic::{AtomicU64, Ordering::Relaxed};
 
 #[derive(Clone, Copy)]
 pub struct Figures {
-    numbers: &'static [AtomicU64; 128],
+    numbers: &'static [AtomicU64; 160],
 }
 
 /// Which number is what.
@@ -34,6 +35,7 @@ pub enum Of {
     AnyLastInside = 55,
     FromSibling = 56,
     OverRuns = 57,
+    Reserves = 58,
     Listings = 64,
     ListedBytes = 65,
 }
@@ -44,6 +46,9 @@ const REPLY_ANSWERS: usize = 32;
 
 /// The first number of the kinds of listings.
 const LISTING_KINDS: usize = 96;
+
+/// The first number of the kinds of commands about reservations.
+const RESERVE_KINDS: usize = 128;
 
 impl Figures {
     pub fn new() -> Figures {
@@ -62,14 +67,17 @@ impl Figures {
         self.numbers[of as usize].fetch_add(number as u64, Relaxed);
     }
 
-    /// Counts a call, by reference's pool after it and what it gave.
-    pub fn count(self, call: &Call, pool: &[u64], given: &Given) {
+    /// Counts a call, by reference's pool before and after it and what it gave.
+    pub fn count(self, call: &Call, before: &[u64], pool: &[u64], given: &Given) {
         self.add(Of::Calls, 1);
         self.add(Of::Words, pool.len());
         self.numbers[CALL_ANSWERS + given.answer as usize].fetch_add(1, Relaxed);
         match call {
             Call::Init | Call::Check => {}
-            Call::Run { .. } => self.count_run(given),
+            Call::Run { batch, .. } => {
+                self.count_run(given);
+                self.count_reserves(before, batch, given);
+            }
             Call::List { .. } => self.count_listing(call, pool, given),
         }
     }
@@ -85,6 +93,18 @@ impl Figures {
         }
     }
 
+    /// Counts what a run has to do with reservations, by its kinds.
+    fn count_reserves(self, before: &[u64], batch: &[u8], given: &Given) {
+        if given.answer != 0 {
+            return;
+        }
+        let (reserves, kinds) = reserves::of_run(before, batch, &given.bytes);
+        self.add(Of::Reserves, reserves);
+        for kind in kinds {
+            self.numbers[RESERVE_KINDS + kind as usize].fetch_add(1, Relaxed);
+        }
+    }
+
     /// Counts a listing by its kinds.
     fn count_listing(self, call: &Call, pool: &[u64], given: &Given) {
         self.add(Of::Listings, 1);
@@ -94,9 +114,12 @@ impl Figures {
         }
     }
 
-    /// Counts a call of a list that is made for finds, by reference's pool and what it gave.
-    pub fn count_finds(self, call: &Call, pool: &[u64], given: &Given) {
+    /// Counts a call of a list that is made for finds, by reference's pools and what it gave.
+    pub fn count_finds(self, call: &Call, before: &[u64], pool: &[u64], given: &Given) {
         self.add(Of::FindWords, pool.len());
+        if let Call::Run { batch, .. } = call {
+            self.count_reserves(before, batch, given);
+        }
         if matches!(call, Call::List { .. }) {
             return self.count_listing(call, pool, given);
         }
@@ -131,7 +154,7 @@ impl Figures {
             self.get(Of::ReplyBytes)
         );
         println!("  answers of calls      {}", self.answers(CALL_ANSWERS, 0..9));
-        println!("  answers in replies    {}", self.answers(REPLY_ANSWERS, 0..15));
+        println!("  answers in replies    {}", self.answers(REPLY_ANSWERS, 0..16));
     }
 
     pub fn print_finds(self) {
@@ -156,6 +179,17 @@ impl Figures {
         );
     }
 
+    /// The counts of these kinds from this number on, some on each line.
+    fn print_kinds(self, from: usize, names: &[&str]) {
+        let count = |kind: usize| self.numbers[from + kind].load(Relaxed);
+        let named: Vec<String> = names
+            .iter()
+            .enumerate()
+            .map(|(kind, name)| format!("{name}: {}", count(kind)))
+            .collect();
+        named.chunks(6).for_each(|line| println!("  {}", line.join(", ")));
+    }
+
     /// Those of the lists of calls and of the lists made for finds.
     pub fn print_listings(self) {
         println!(
@@ -163,12 +197,13 @@ impl Figures {
             self.get(Of::Listings),
             self.get(Of::ListedBytes)
         );
-        for line in KINDS.chunks(6) {
-            let count = |kind: Kind| self.numbers[LISTING_KINDS + kind as usize].load(Relaxed);
-            let named: Vec<String> =
-                line.iter().map(|(kind, name)| format!("{name}: {}", count(*kind))).collect();
-            println!("  {}", named.join(", "));
-        }
+        self.print_kinds(LISTING_KINDS, &KINDS.map(|(_, name)| name));
+    }
+
+    /// Those of the lists of calls and of the lists made for finds.
+    pub fn print_reserves(self) {
+        println!("reservations: {} reserves in lists of both kinds", self.get(Of::Reserves));
+        self.print_kinds(RESERVE_KINDS, &reserves::KINDS.map(|(_, name)| name));
     }
 
     pub fn print_program(self) {

@@ -10,10 +10,10 @@ use crate::pools::shuffle;
 use crate::shapes::random_entries;
 use reference::batch::{Command, MOST_BATCH_BYTES, REPLY_BYTES};
 use reference::find::{find, ANY_ENTRY};
-use reference::model::{self, Entry};
+use reference::model::{self, covering, Entry};
 use reference::pool::State;
 use reference::random::Random;
-use reference::tree::{nodes, Tree};
+use reference::tree::{head, nodes, Head, Tree, SLOTS};
 use xapool_host::MOST_ORDER;
 
 /// Finds in one call.
@@ -42,7 +42,7 @@ fn looks(random: &mut Random, list: &[Entry]) -> Vec<Call> {
     calls
 }
 
-/// The stores, in any order, and then the marks.
+/// The stores and reserves, in any order, and then the marks.
 fn building(random: &mut Random, list: &[Entry]) -> Vec<Command> {
     let mut commands: Vec<Command> = list.iter().map(|entry| store(*entry)).collect();
     if random.one_in(2) {
@@ -69,7 +69,11 @@ fn batches(commands: &[Command]) -> Vec<Call> {
 }
 
 fn store(entry: Entry) -> Command {
-    Command::Store { index: entry.base, order: entry.order, word: entry.word }
+    let Entry { base: index, order, word, .. } = entry;
+    match entry.is_reservation() {
+        true => Command::Reserve { index },
+        false => Command::Store { index, order, word },
+    }
 }
 
 fn marks(entry: Entry) -> impl Iterator<Item = Command> {
@@ -77,16 +81,22 @@ fn marks(entry: Entry) -> impl Iterator<Item = Command> {
     set.map(move |mark| Command::Mark { index: entry.base, mark })
 }
 
-/// Some marks, unmarks, erases and stores over entries, done to the list as well.
+/// Some marks, unmarks, erases, reserves and stores over entries, done to the list as well.
 fn changes(random: &mut Random, list: &mut Vec<Entry>) -> Vec<Command> {
     let mut commands = Vec::new();
-    for _ in 0..random.below(20) {
+    for _ in 0..random.below(26) {
         let Some(entry) = any(random, list) else { break };
         let (index, mark) = (inside(random, entry), random.below(3) as u8);
-        let (command, after) = match random.below(6) {
+        // A reservation has no marks to change.
+        let which = if entry.is_reservation() { 2 + random.below(5) } else { random.below(7) };
+        let (command, after) = match which {
             0 => (Command::Mark { index, mark }, model::mark(list, index, mark)),
             1 => (Command::Unmark { index, mark }, model::unmark(list, index, mark)),
             2 => (Command::Erase { index }, model::erase(list, index)),
+            3 => match beside(random, list, entry) {
+                Some(index) => (Command::Reserve { index }, model::reserve(list, index)),
+                None => continue,
+            },
             _ => {
                 let (index, order, word) = store_over(random, entry, index);
                 let store = Command::Store { index, order, word };
@@ -99,10 +109,18 @@ fn changes(random: &mut Random, list: &mut Vec<Entry>) -> Vec<Command> {
     commands
 }
 
+/// An index in the node of an entry that nothing covers, so that to reserve it needs no node.
+fn beside(random: &mut Random, list: &[Entry], entry: Entry) -> Option<u64> {
+    let index = entry.base ^ random.below(SLOTS as u64);
+    let in_node = entry.order < 6 && matches!(head(list), Head::Node(_));
+    (in_node && covering(list, index).is_none()).then_some(index)
+}
+
 /// Index, order and word of a store that replaces the entry and needs no node: into it, at its own
 /// order, or at a higher one that is in the same node. The word is another or the same.
 fn store_over(random: &mut Random, entry: Entry, index: u64) -> (u64, u8, u64) {
-    let word = if random.one_in(3) { entry.word } else { 2 * random.below(500) + 1 };
+    let same = random.one_in(3) && !entry.is_reservation();
+    let word = if same { entry.word } else { 2 * random.below(500) + 1 };
     let widest = (entry.order - entry.order % 6 + 5).min(MOST_ORDER);
     let order = match random.below(4) {
         0 | 1 => return (index, 0, word),

@@ -53,8 +53,8 @@ impl CallList {
 
     /// The first difference, with the number of the call.
     pub fn difference(&self, figures: Option<Figures>) -> Option<String> {
-        let count = |call: &Call, pool: &[u64], given: &Given| {
-            figures.iter().for_each(|figures| figures.count(call, pool, given));
+        let count = |call: &Call, before: &[u64], pool: &[u64], given: &Given| {
+            figures.iter().for_each(|figures| figures.count(call, before, pool, given));
         };
         let difference = self.first_difference(count);
         if let (None, Some(figures)) = (&difference, figures) {
@@ -65,8 +65,8 @@ impl CallList {
 
     /// The same for a list that is made for finds, which are counted by their kinds.
     pub fn difference_in_finds(&self, figures: Option<Figures>) -> Option<String> {
-        let count = |call: &Call, pool: &[u64], given: &Given| {
-            figures.iter().for_each(|figures| figures.count_finds(call, pool, given));
+        let count = |call: &Call, before: &[u64], pool: &[u64], given: &Given| {
+            figures.iter().for_each(|figures| figures.count_finds(call, before, pool, given));
         };
         let difference = self.first_difference(count);
         if let (None, Some(figures)) = (&difference, figures) {
@@ -75,19 +75,24 @@ impl CallList {
         difference
     }
 
-    /// Calls that do not differ are handed on, with the pool after them and what reference gave.
-    fn first_difference(&self, mut count: impl FnMut(&Call, &[u64], &Given)) -> Option<String> {
+    /// Calls that do not differ are handed on, with the pool before and after them and what reference
+    /// gave.
+    fn first_difference(
+        &self,
+        mut count: impl FnMut(&Call, &[u64], &[u64], &Given),
+    ) -> Option<String> {
         // One lender for all lists: a new one would map its memory each time.
         thread_local!(static LENDER: std::cell::RefCell<Lender> = Lender::new().into());
         LENDER.with_borrow_mut(|lender| {
             let mut pool = self.words.clone();
             lender.set_pool(&pool);
             for (number, call) in self.calls.iter().enumerate() {
+                let before = pool.clone();
                 let (given, difference) = lender.difference(call, &mut pool);
                 if let Some(text) = difference {
                     return Some(format!("call {}: {text}", number + 1));
                 }
-                count(call, &pool, &given);
+                count(call, &before, &pool, &given);
             }
             None
         })

@@ -84,6 +84,10 @@ pub enum Kind {
     EntryAsHead,
     /// An entry of order 63 is listed.
     Widest,
+    /// A reservation is listed (P6), as head, or as the only thing.
+    Reserved,
+    ReservedAsHead,
+    ReservedAlone,
     Exact,
     /// Bytes past the list stay.
     Longer,
@@ -99,7 +103,7 @@ pub enum Kind {
 }
 
 /// Every kind with its name.
-pub const KINDS: [(Kind, &str); 19] = [
+pub const KINDS: [(Kind, &str); 22] = [
     (Kind::CutByFirst, "cut by first"),
     (Kind::CutByLast, "cut by last"),
     (Kind::CutByBoth, "by both"),
@@ -110,6 +114,9 @@ pub const KINDS: [(Kind, &str); 19] = [
     (Kind::EmptyPool, "empty pool"),
     (Kind::EntryAsHead, "entry as head"),
     (Kind::Widest, "order 63"),
+    (Kind::Reserved, "with reservations"),
+    (Kind::ReservedAsHead, "as head"),
+    (Kind::ReservedAlone, "alone"),
     (Kind::Exact, "exact buffer"),
     (Kind::Longer, "longer"),
     (Kind::OneByteShort, "one byte short"),
@@ -144,7 +151,11 @@ fn chosen(kinds: &[(Kind, bool)]) -> Vec<Kind> {
 }
 
 fn by_entries(list: &[Entry], found: &[Entry]) -> Vec<Kind> {
+    let reserved = found.iter().filter(|entry| entry.is_reservation()).count();
     chosen(&[
+        (Kind::Reserved, reserved > 0),
+        (Kind::ReservedAsHead, reserved > 0 && head(list) == Head::Reserved),
+        (Kind::ReservedAlone, reserved > 0 && reserved == found.len()),
         (Kind::EmptyPool, list.is_empty()),
         (Kind::Gap, found.is_empty() && !list.is_empty()),
         (Kind::EntryAsHead, matches!(head(list), Head::Entry(_))),

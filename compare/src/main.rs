@@ -16,6 +16,8 @@ mod listings;
 mod os;
 mod pools;
 mod program;
+mod reserve_cases;
+mod reserves;
 mod shapes;
 mod stretch;
 #[cfg(test)]
@@ -31,7 +33,7 @@ use trial::{Kind, Trial, LONGEST_SECONDS};
 
 const USAGE: &str = "\
 usage: compare [SECONDS [SEED]]     all of it, in about so many seconds (100 if none are named)
-       compare cases                cases 2 to 15, the empty batch, the longest batches
+       compare cases                cases 2 to 15, the empty batch, the longest batches, those of requests
        compare changes              every single-word change of some pools
        compare again calls SEED     one list of calls, by the seed that was printed
        compare again finds SEED     one list of calls made for finds
@@ -106,6 +108,7 @@ fn compare(seconds: u64, seed: u64) -> Result<bool, String> {
     same &= random_trials(Kind::Finds, seed, finds, figures);
     figures.print_finds();
     figures.print_listings();
+    figures.print_reserves();
     if program {
         same &= random_trials(Kind::Program, seed, programs, figures);
         figures.print_program();

@@ -1,5 +1,5 @@
 //! The entries of pools for finds: dense nodes, sparse nodes and nodes full of entries of several
-//! slots, at any shift, with few marks or marks in clusters.
+//! slots, at any shift, with few marks or marks in clusters; and reservations among them.
 
 use reference::model::Entry;
 use reference::random::Random;
@@ -9,8 +9,23 @@ use std::collections::BTreeMap;
 /// Entries in index order.
 pub fn random_entries(random: &mut Random) -> Vec<Entry> {
     let mut list = entries(random);
+    if random.one_in(2) {
+        reserve_some(random, &mut list);
+    }
     set_marks(random, &mut list);
     list
+}
+
+/// Some of the entries of order 0 are reservations, or nearly all in a row.
+fn reserve_some(random: &mut Random, list: &mut [Entry]) {
+    let rare = [2, 3, 9][random.below(3) as usize];
+    let from = random.below(list.len().max(1) as u64) as usize;
+    let row = from..from + random.below(30) as usize;
+    for (at, entry) in list.iter_mut().enumerate() {
+        if entry.order == 0 && (random.one_in(rare) || row.contains(&at)) {
+            *entry = Entry::reservation(entry.base);
+        }
+    }
 }
 
 /// How the slots of a node are filled.
@@ -138,7 +153,8 @@ fn set_marks(random: &mut Random, list: &mut [Entry]) {
                 4 => !(from..to).contains(&at),
                 _ => chosen.contains(&(at as usize)),
             };
-            list[at as usize].marks |= u8::from(set) << mark;
+            let entry = &mut list[at as usize];
+            entry.marks |= u8::from(set && !entry.is_reservation()) << mark;
         }
     }
 }

@@ -1,7 +1,7 @@
 //! Which finds are of the kinds that finds.rs is made for, by reference's replies and its tree alone.
 //!
-//! A stretch: slots of one node, side by side, that a find passes one after the other: empty ones
-//! and, with filter 0, 1 or 2, those of entries and nodes that lack the mark.
+//! A stretch: slots of one node, side by side, that a find passes one after the other: empty and
+//! reserved ones and, with filter 0, 1 or 2, those of entries and nodes that lack the mark.
 
 use crate::lend::Call;
 use reference::batch::{read, Command, REPLY_BYTES};
@@ -120,7 +120,7 @@ impl Search<'_> {
                     node = child;
                     continue;
                 }
-                Slot::Empty | Slot::Node(_) => (slot, 1),
+                Slot::Empty | Slot::Reserved | Slot::Node(_) => (slot, 1),
             };
             return Some(Passed { node, from, to: from + slots });
         }

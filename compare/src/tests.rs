@@ -5,16 +5,20 @@ use crate::lend::{by_reference, Call};
 use crate::list::CallList;
 use crate::listings::{kinds, Kind, KINDS};
 use crate::program::Input;
+use crate::reserves;
 use crate::stretch::{counts, FindCounts};
 use reference::batch::{read, Command};
 use reference::calls::{self, check, init, run};
-use reference::command::{execute, needed, Done};
-use reference::model::{self, beginning_in, covering, is_aligned, is_entry_word, marks_of, Entry};
-use reference::pool::State;
+use reference::command::{execute, needed, needed_to_reserve, Done};
+use reference::model::{
+    self, beginning_in, covering, is_aligned, is_entry_word, marks_of, Entry, RESERVED,
+};
+use reference::pool::{node_count, State};
 use reference::recover::recover;
 use reference::tree::Node;
 use std::collections::BTreeMap;
 use std::sync::OnceLock;
+use xapool_host::layout::{ANCHOR_WORDS, NODE_WORDS, SLOT_FIELD};
 
 type Counts<T> = BTreeMap<T, usize>;
 
@@ -28,6 +32,13 @@ struct Met {
     places: Counts<u64>,
     stores: Counts<&'static str>,
     over: Counts<&'static str>,
+    reserved: Counts<reserves::Kind>,
+    /// Commands, reserves among them, and how far these are from having too few nodes.
+    commands: usize,
+    reserves: usize,
+    reserve_spare: Counts<i64>,
+    /// Where the word of a reservation stands in damaged pools.
+    misplaced: Counts<&'static str>,
 }
 
 fn follow(met: &mut Met, list: &CallList) {
@@ -60,7 +71,11 @@ fn met() -> &'static Met {
     static MET: OnceLock<Met> = OnceLock::new();
     MET.get_or_init(|| {
         let mut met = Met::default();
-        (0..3000).for_each(|seed| follow(&mut met, &CallList::random(seed)));
+        for list in (0..3000).map(CallList::random) {
+            let places = misplaced(&list.words);
+            places.into_iter().for_each(|place| *met.misplaced.entry(place).or_default() += 1);
+            follow(&mut met, &list);
+        }
         met
     })
 }
@@ -75,7 +90,18 @@ fn follow_batch(met: &mut Met, mut state: State, batch: &[u8]) {
                 *met.spare.entry(free - count as i64).or_default() += 1;
             }
         }
+        met.commands += 1;
+        if let Command::Reserve { index } = command {
+            met.reserves += 1;
+            let needed = needed_to_reserve(&state, index).filter(|count| *count > 0);
+            if let Some(count) = needed {
+                let spare = state.free_numbers().len() as i64 - count as i64;
+                *met.reserve_spare.entry(spare).or_default() += 1;
+            }
+        }
         let done = execute(&state, command);
+        let kinds = reserves::kinds(&state.list, command, &done.reply.bytes());
+        kinds.into_iter().for_each(|kind| *met.reserved.entry(kind).or_default() += 1);
         let over = over_mark_2(&state, command, &done);
         over.into_iter().for_each(|kind| *met.over.entry(kind).or_default() += 1);
         *met.replies.entry(done.reply.answer).or_default() += 1;
@@ -175,10 +201,75 @@ fn every_answer_and_both_sides_of_11_are_met() {
     let met = met();
     let many = |count: Option<&usize>| *count.unwrap_or(&0) >= 20;
     assert!((0..=4).all(|answer| many(met.calls.get(&answer))), "{:?}", met.calls);
-    let replies = [0].into_iter().chain(5..=14);
+    let replies = [0].into_iter().chain(5..=15);
     assert!(replies.into_iter().all(|answer| many(met.replies.get(&answer))), "{:?}", met.replies);
     assert!([-1, 0].iter().all(|spare| many(met.spare.get(spare))), "{:?}", met.spare);
     assert!(many(met.places.get(&8192)) && met.places.len() > 50, "{:?}", met.places);
+}
+
+/// Where the word 1,030 stands in a pool that is not well-formed, by the words alone.
+fn misplaced(words: &[u64]) -> Vec<&'static str> {
+    if node_count(words.len()).is_none() || recover(words).is_some() {
+        return Vec::new();
+    }
+    let reserved = (0..words.len()).filter(|place| words[*place] == RESERVED);
+    reserved.map(|place| place_kind(words, place)).collect()
+}
+
+fn place_kind(words: &[u64], place: usize) -> &'static str {
+    let Some(after) = place.checked_sub(ANCHOR_WORDS) else {
+        return if place == 1 { "head" } else { "anchor" };
+    };
+    let (node, field) = (place - after % NODE_WORDS, after % NODE_WORDS);
+    let Some(slot) = field.checked_sub(SLOT_FIELD) else { return "first words" };
+    let marked = (2..5).any(|mark| words[node + mark] >> slot & 1 == 1);
+    let sibling = |at: usize| at < node + NODE_WORDS && words[at] % 4 == 2 && words[at] < 256;
+    match words[node] {
+        0 => "free node",
+        _ if sibling(place + 1) || sibling(place - 1) => "among siblings",
+        1 if marked => "with a mark",
+        1 => "shift 0",
+        _ => "higher shift",
+    }
+}
+
+#[test]
+fn damaged_pools_have_reservations_everywhere() {
+    let met = met();
+    let count = |kind: &str| *met.misplaced.get(kind).unwrap_or(&0);
+    let places = ["head", "anchor", "first words", "free node", "with a mark", "among siblings"];
+    let all = places.iter().chain(&["higher shift"]);
+    assert!(all.into_iter().all(|place| count(place) >= 4), "{:?}", met.misplaced);
+}
+
+#[test]
+fn commands_meet_reservations_in_every_way() {
+    let met = met();
+    let count = |kind: &reserves::Kind| *met.reserved.get(kind).unwrap_or(&0);
+    assert!(12 * met.reserves >= met.commands, "{} of {}", met.reserves, met.commands);
+    // Each at least once in so many reserves.
+    let once_in = |times: usize, kinds: &[reserves::Kind]| {
+        let share = |kind| count(kind) * times >= met.reserves;
+        assert!(kinds.iter().all(share), "of {}: {:?}", met.reserves, met.reserved);
+    };
+    use reserves::Kind::*;
+    once_in(4, &[Done]);
+    once_in(20, &[TooFew, ByLarger, StoreOver, StoreWider, Erased]);
+    once_in(40, &[ByEntry, ByReservation, StoreMixed, Loaded, Marked, PassedAny]);
+    once_in(150, &[AsHead, BesideHead, StoreShort]);
+    once_in(800, &reserves::KINDS.map(|(kind, _)| kind));
+    let many = |spare: &i64| *met.reserve_spare.get(spare).unwrap_or(&0) >= 20;
+    assert!([-1, 0].iter().all(many), "{:?}", met.reserve_spare);
+}
+
+/// In their dense nodes many finds pass reservations.
+#[test]
+fn lists_for_finds_pass_reservations() {
+    let mut met = Met::default();
+    (0..40).for_each(|seed| follow(&mut met, &random_list(seed)));
+    let count = |kind| *met.reserved.get(&kind).unwrap_or(&0);
+    let (any, marks) = (count(reserves::Kind::PassedAny), count(reserves::Kind::PassedMarks));
+    assert!(any >= 60 && marks >= 150, "{:?}", met.reserved);
 }
 
 /// By reference alone; every run of the list must be done, and every store in it.
@@ -248,7 +339,7 @@ fn lists_for_finds_have_listings_of_several_nodes() {
     let listings: usize = lists.map(|list| follow_listings(&mut met, &list)).sum();
     assert!(listings >= 300, "{listings}");
     let often = [Kind::SeveralNodes, Kind::OthersBefore, Kind::OthersAfter, Kind::Gap];
-    assert_once_in(10, &met, listings, &often);
+    assert_once_in(12, &met, listings, &often);
     let cut = [Kind::CutByFirst, Kind::CutByLast, Kind::CutByBoth];
     assert_once_in(20, &met, listings, &cut);
     let buffers = [Kind::Exact, Kind::Longer, Kind::OneByteShort, Kind::Short, Kind::NoBuffer];

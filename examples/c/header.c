@@ -18,9 +18,9 @@ static void check(int holds, const char *what, int line)
 /* Each builder with exactly its room, and with one byte less. */
 static void builders_look_at_the_room(void)
 {
-    static const unsigned sizes[] = { XAPOOL_STORE_BYTES, XAPOOL_LOAD_BYTES,   XAPOOL_ERASE_BYTES,
-                                      XAPOOL_MARK_BYTES,  XAPOOL_UNMARK_BYTES, XAPOOL_FIND_BYTES };
-    for (unsigned kind = 0; kind < 6; kind++)
+    static const unsigned sizes[] = { XAPOOL_STORE_BYTES,  XAPOOL_LOAD_BYTES, XAPOOL_ERASE_BYTES,  XAPOOL_MARK_BYTES,
+                                      XAPOOL_UNMARK_BYTES, XAPOOL_FIND_BYTES, XAPOOL_RESERVE_BYTES };
+    for (unsigned kind = 0; kind < 7; kind++)
         for (unsigned less = 0; less < 2; less++) {
             uint8_t bytes[32];
             memset(bytes, 0xee, sizeof bytes);
@@ -30,7 +30,8 @@ static void builders_look_at_the_room(void)
                       : kind == 2 ? xapool_put_erase(&b, 64)
                       : kind == 3 ? xapool_put_mark(&b, 64, 1)
                       : kind == 4 ? xapool_put_unmark(&b, 64, 1)
-                                  : xapool_put_find(&b, 1, UINT64_MAX, XAPOOL_FIND_ANY, 258);
+                      : kind == 5 ? xapool_put_find(&b, 1, UINT64_MAX, XAPOOL_FIND_ANY, 258)
+                                  : xapool_put_reserve(&b, 64);
             unsigned used = less ? 0 : sizes[kind];
             CHECK(put == !less && b.used == used && b.commands == !less);
             for (unsigned i = used; i < sizeof bytes; i++)
@@ -45,14 +46,16 @@ static void records_are_those_of_the_document(void)
 {
     static const uint8_t store[] = { 1, 0, 17, 0, 0, 0, 0, 0, 0, 0, 64, 0, 0, 0, 0, 0, 0, 0, 0, 5 };
     static const uint8_t find[] = { 6, 0, 19, 0, 0, 0, 0, 0, 0, 0, 1, 255, 255, 255, 255, 255, 255, 255, 255, 3, 1, 2 };
+    static const uint8_t reserve[] = { 7, 0, 8, 1, 2, 3, 4, 5, 6, 7, 8 };
     uint8_t bytes[XAPOOL_BATCH_BYTES + 100];
     xapool_batch b = xapool_batch_over(bytes, sizeof bytes);
     CHECK(b.room == XAPOOL_BATCH_BYTES);
     CHECK(xapool_put_store(&b, 64, 0, XAPOOL_VALUE(2)) && memcmp(bytes, store, sizeof store) == 0);
     CHECK(xapool_put_find(&b, 1, UINT64_MAX, XAPOOL_FIND_ANY, 258) && memcmp(bytes + 20, find, sizeof find) == 0);
+    CHECK(xapool_put_reserve(&b, UINT64_C(0x0102030405060708)) && memcmp(bytes + 42, reserve, sizeof reserve) == 0);
     while (xapool_put_load(&b, 0)) {
     }
-    CHECK(b.commands == 2 + (XAPOOL_BATCH_BYTES - 42) / XAPOOL_LOAD_BYTES);
+    CHECK(b.commands == 3 + (XAPOOL_BATCH_BYTES - 53) / XAPOOL_LOAD_BYTES);
 }
 
 static void replies_are_read_or_not(void)
@@ -65,13 +68,16 @@ static void replies_are_read_or_not(void)
     CHECK(r.order == 9 && r.entry == 261 && r.marks == 7 && r.count == 258);
     CHECK(!xapool_read_reply(bytes, 23, 0, &r) && !xapool_read_reply(bytes, 24, 1, &r));
     CHECK(!xapool_read_reply(bytes, 48, 1, &r) && !xapool_read_reply(bytes, 48, SIZE_MAX, &r));
-    static const uint8_t wrong[][2] = { { 0, 128 }, { 0, 135 }, { 1, 1 }, { 2, 20 }, { 3, 15 } };
+    static const uint8_t wrong[][2] = { { 0, 128 }, { 0, 136 }, { 1, 1 }, { 2, 20 }, { 3, 16 } };
     for (unsigned i = 0; i < 5; i++) {
         uint8_t old = bytes[wrong[i][0]];
         bytes[wrong[i][0]] = wrong[i][1];
         CHECK(!xapool_read_reply(bytes, 24, 0, &r) && r.count == 258);
         bytes[wrong[i][0]] = old;
     }
+    bytes[0] = 135;
+    bytes[3] = 15;
+    CHECK(xapool_read_reply(bytes, 24, 0, &r) && r.tag == XAPOOL_RESERVE && r.answer == XAPOOL_COVERED);
 }
 
 static void listed_entries_are_read_or_not(void)
@@ -94,6 +100,16 @@ static void listed_entries_are_read_or_not(void)
         CHECK(!xapool_read_listed(bytes, 21, 0, &e) && e.entry == 261);
         bytes[wrong[i][0]] = old;
     }
+    CHECK(!xapool_is_reserved(&e));
+    /* Entry 0 is a reserved index: of order 0, without marks. */
+    bytes[18] = bytes[19] = 0;
+    CHECK(!xapool_read_listed(bytes, 21, 0, &e));
+    bytes[20] = 0;
+    CHECK(!xapool_read_listed(bytes, 21, 0, &e));
+    bytes[11] = 0;
+    CHECK(xapool_read_listed(bytes, 21, 0, &e) && xapool_is_reserved(&e) && e.index == UINT64_C(0x0102030405060708));
+    bytes[20] = 1;
+    CHECK(!xapool_read_listed(bytes, 21, 0, &e));
 }
 
 /* A call that lists into 'bytes' bytes; 'written' of them change, all others stay. */
@@ -138,6 +154,49 @@ static void a_list_is_whole_or_not_at_all(void)
     lists(pool, 65, 64, 0, XAPOOL_NOT_WELL_FORMED, 0, NULL);
 }
 
+/* What the commands of a batch are answered with. */
+static void answers(uint64_t *pool, xapool_batch *b, const uint8_t *wanted)
+{
+    uint8_t replies[XAPOOL_REPLIES(8)];
+    xapool_result r = xapool_run(pool, XAPOOL_WORDS(2), b->bytes, b->used, replies, sizeof replies);
+    CHECK(r.answer == XAPOOL_DONE && r.number == b->commands);
+    for (size_t i = 0; i < b->commands; i++) {
+        xapool_reply reply;
+        CHECK(xapool_read_reply(replies, sizeof replies, i, &reply) && reply.answer == wanted[i]);
+    }
+    b->used = b->commands = 0;
+}
+
+/* Indices 5 and 70 together need three nodes, and there are two. */
+static void a_reserved_index_is_held_and_absent(void)
+{
+    static const uint8_t held[] = { 0, 15, 11, 10, 10, 10, 12, 0 };
+    static const uint8_t taken[] = { 15, 0, 0, 0, 10 };
+    static const uint8_t listed[] = { 32, 0, 18, 0, 0, 0, 0, 0, 0, 0, 5, 0, 0, 0, 0, 0, 0, 0, 0, 0, 0 };
+    static uint64_t pool[XAPOOL_WORDS(2)];
+    uint8_t bytes[200], list[21];
+    xapool_batch b = xapool_batch_over(bytes, sizeof bytes);
+    xapool_init(pool, XAPOOL_WORDS(2));
+    xapool_put_reserve(&b, 5);
+    xapool_put_reserve(&b, 5);
+    xapool_put_reserve(&b, 70);
+    xapool_put_load(&b, 5);
+    xapool_put_mark(&b, 5, 0);
+    xapool_put_unmark(&b, 5, 0);
+    xapool_put_find(&b, 0, UINT64_MAX, XAPOOL_FIND_ANY, 100);
+    xapool_put_reserve(&b, 6);
+    answers(pool, &b, held);
+    CHECK(pool[XAPOOL_ANCHOR_WORDS + 5 + 5] == XAPOOL_RESERVED_WORD);
+    xapool_result r = xapool_list(pool, XAPOOL_WORDS(2), 0, 5, list, sizeof list);
+    CHECK(r.answer == XAPOOL_DONE && r.number == 1 && memcmp(list, listed, sizeof list) == 0);
+    xapool_put_reserve(&b, 6);
+    xapool_put_store(&b, 5, 0, XAPOOL_VALUE(2));
+    xapool_put_load(&b, 5);
+    xapool_put_erase(&b, 6);
+    xapool_put_erase(&b, 6);
+    answers(pool, &b, taken);
+}
+
 /* A reply to a find, and where it goes on; 0 and 'first' unchanged is the end. */
 static void next(uint8_t answer, uint64_t index, uint8_t order, uint64_t last, int goes, uint64_t to)
 {
@@ -167,10 +226,10 @@ static void finds_go_on_after_the_run(void)
 
 static void answers_have_texts(void)
 {
-    for (unsigned a = XAPOOL_DONE; a <= XAPOOL_NOT_ALIGNED; a++)
-        CHECK(strcmp(xapool_answer_text(a), xapool_answer_text(15)) != 0);
+    for (unsigned a = XAPOOL_DONE; a <= XAPOOL_COVERED; a++)
+        CHECK(strcmp(xapool_answer_text(a), xapool_answer_text(16)) != 0);
     CHECK(strcmp(xapool_answer_text(XAPOOL_TOO_FEW_NODES), "too few free nodes") == 0);
-    CHECK(strcmp(xapool_answer_text(UINT64_MAX), xapool_answer_text(15)) == 0);
+    CHECK(strcmp(xapool_answer_text(UINT64_MAX), xapool_answer_text(16)) == 0);
     char version[32];
     sprintf(version, "%d.%d.%d", XAPOOL_VERSION_MAJOR, XAPOOL_VERSION_MINOR, XAPOOL_VERSION_PATCH);
     CHECK(strcmp(version, XAPOOL_VERSION) == 0);
@@ -237,6 +296,7 @@ int main(void)
     replies_are_read_or_not();
     listed_entries_are_read_or_not();
     a_list_is_whole_or_not_at_all();
+    a_reserved_index_is_held_and_absent();
     finds_go_on_after_the_run();
     answers_have_texts();
     verdicts_have_texts();

@@ -3,7 +3,7 @@
 use crate::raw::RawResult;
 use std::fmt;
 
-/// The answer of a call (0 to 4; of a list also 8) or in a reply (0 and 5 to 14). As an error it is what a command was
+/// The answer of a call (0 to 4; of a list also 8) or in a reply (0 and 5 to 15). As an error it is what a command was
 /// answered in place of `Done`: see [`Reply::done`](crate::Reply::done).
 #[derive(Clone, Copy, Debug, PartialEq, Eq, Hash, PartialOrd, Ord)]
 #[repr(u8)]
@@ -29,9 +29,9 @@ pub enum Answer {
     FirstAboveLast = 8,
     /// Find: the budget is 0.
     NoBudget = 9,
-    /// Load, erase, mark, unmark: nothing covers the index.
+    /// Load, mark, unmark: no entry covers the index. Erase: nor is it reserved.
     Absent = 10,
-    /// Store: it needs more nodes than are free; nothing is stored.
+    /// Store, reserve: it needs more nodes than are free; nothing is changed.
     TooFewNodes = 11,
     /// Find: nothing more to find.
     Ended = 12,
@@ -39,11 +39,13 @@ pub enum Answer {
     Paused = 13,
     /// Store: the index is not a multiple of 2^order. Tested after `BadOrder` and before `BadEntry`.
     NotAligned = 14,
+    /// Reserve: an entry covers the index, or it is reserved already. Tested before `TooFewNodes`.
+    Covered = 15,
 }
 
 impl Answer {
     /// All answers; answer k is at place k.
-    pub const ALL: [Answer; 15] = [
+    pub const ALL: [Answer; 16] = [
         Answer::Done,
         Answer::PoolLength,
         Answer::NotWellFormed,
@@ -59,6 +61,7 @@ impl Answer {
         Answer::Ended,
         Answer::Paused,
         Answer::NotAligned,
+        Answer::Covered,
     ];
 
     /// The answer of this number, if there is one.
@@ -66,7 +69,7 @@ impl Answer {
         Answer::ALL.get(usize::try_from(number).ok()?).copied()
     }
 
-    /// Its number, 0 to 14.
+    /// Its number, 0 to 15.
     #[must_use]
     pub fn number(self) -> u8 {
         self as u8
@@ -86,11 +89,12 @@ impl Answer {
             Answer::BadMark => "mark above 2 or filter above 3",
             Answer::FirstAboveLast => "first above last",
             Answer::NoBudget => "budget 0",
-            Answer::Absent => "nothing covers the index",
+            Answer::Absent => "no entry covers the index",
             Answer::TooFewNodes => "too few free nodes",
             Answer::Ended => "ended",
             Answer::Paused => "paused",
             Answer::NotAligned => "index is not a multiple of 2^order",
+            Answer::Covered => "index is covered by an entry or reserved",
         }
     }
 }

@@ -25,12 +25,14 @@ pub enum Tag {
     Unmark = 5,
     /// Gives the first entry in a range.
     Find = 6,
+    /// Holds an index before there is an entry for it.
+    Reserve = 7,
 }
 
 impl Tag {
     /// All kinds, in the order of their tags.
-    pub const ALL: [Tag; 6] =
-        [Tag::Store, Tag::Load, Tag::Erase, Tag::Mark, Tag::Unmark, Tag::Find];
+    pub const ALL: [Tag; 7] =
+        [Tag::Store, Tag::Load, Tag::Erase, Tag::Mark, Tag::Unmark, Tag::Find, Tag::Reserve];
 
     /// The kind of this tag, if there is one.
     #[must_use]
@@ -38,7 +40,7 @@ impl Tag {
         Tag::ALL.get(usize::from(byte.checked_sub(1)?)).copied()
     }
 
-    /// Its tag, 1 to 6.
+    /// Its tag, 1 to 7.
     #[must_use]
     pub fn byte(self) -> u8 {
         self as u8
@@ -49,7 +51,7 @@ impl Tag {
     pub fn field_bytes(self) -> u8 {
         match self {
             Tag::Store => 17,
-            Tag::Load | Tag::Erase => 8,
+            Tag::Load | Tag::Erase | Tag::Reserve => 8,
             Tag::Mark | Tag::Unmark => 9,
             Tag::Find => 19,
         }
@@ -71,6 +73,7 @@ impl fmt::Display for Tag {
             Tag::Mark => "mark",
             Tag::Unmark => "unmark",
             Tag::Find => "find",
+            Tag::Reserve => "reserve",
         })
     }
 }
@@ -96,7 +99,7 @@ pub enum Command {
         /// Any index of its run.
         index: u64,
     },
-    /// Takes the whole entry over the index out.
+    /// Takes the whole entry over the index out, or ends its reservation.
     Erase {
         /// Any index of its run.
         index: u64,
@@ -126,6 +129,14 @@ pub enum Command {
         /// How many steps it may go, at least 1.
         budget: u16,
     },
+    /// Holds the index, and the nodes that a store of order 0 there needs, before there is an entry for
+    /// it. Loads, finds, marks and unmarks take it for an index without an entry; a store of any order
+    /// over it takes its place. The reply gives the index:
+    /// [`Entry::is_reserved`](crate::Entry::is_reserved).
+    Reserve {
+        /// An index that no entry covers and that is not reserved yet.
+        index: u64,
+    },
 }
 
 impl Command {
@@ -139,6 +150,7 @@ impl Command {
             Command::Mark { .. } => Tag::Mark,
             Command::Unmark { .. } => Tag::Unmark,
             Command::Find { .. } => Tag::Find,
+            Command::Reserve { .. } => Tag::Reserve,
         }
     }
 
@@ -151,7 +163,7 @@ impl Command {
                 batch.push(order);
                 batch.extend(word.0.to_be_bytes());
             }
-            Command::Load { index } | Command::Erase { index } => {
+            Command::Load { index } | Command::Erase { index } | Command::Reserve { index } => {
                 batch.extend(index.to_be_bytes());
             }
             Command::Mark { index, mark } | Command::Unmark { index, mark } => {
@@ -191,6 +203,7 @@ impl Command {
                 filter: *fields.get(16)?,
                 budget: short(fields, 17)?,
             },
+            Tag::Reserve => Command::Reserve { index },
         })
     }
 }
@@ -227,7 +240,7 @@ impl fmt::Display for Command {
             Command::Store { index, order, word } => {
                 write!(f, "{tag} {} order {order} {word}", Index(index))
             }
-            Command::Load { index } | Command::Erase { index } => {
+            Command::Load { index } | Command::Erase { index } | Command::Reserve { index } => {
                 write!(f, "{tag} {}", Index(index))
             }
             Command::Mark { index, mark } | Command::Unmark { index, mark } => {

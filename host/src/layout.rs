@@ -10,6 +10,9 @@ pub const SLOT_FIELD: usize = 5;
 /// What is added to a node's number in its word.
 pub const NODE_OFFSET: u64 = 1024;
 
+/// The word of a reserved index, in its slot or as the head.
+pub const RESERVED_WORD: u64 = 1030;
+
 /// The place of the first word of a node.
 #[must_use]
 pub fn node_place(number: usize) -> usize {

@@ -1,4 +1,5 @@
-//! The entries of a range as the library lists them: 21 bytes each, which can be kept as evidence.
+//! The entries and reserved indices of a range as the library lists them: 21 bytes each, which can be
+//! kept as evidence.
 
 use crate::command::{number, short};
 use crate::reply::{Entry, Marks};
@@ -14,7 +15,8 @@ const LISTED_FIELDS: u16 = 18;
 const ALL_MARKS: u8 = 7;
 
 impl Entry {
-    /// The entry at the start of the bytes of a list; none if they do not begin with one.
+    /// The entry at the start of the bytes of a list, or the reserved index, which has the word 0, order 0
+    /// and no marks; none if they do not begin with one.
     #[must_use]
     pub fn read_listed(bytes: &[u8]) -> Option<Entry> {
         if *bytes.first()? != LISTED_TAG || short(bytes, 1)? != LISTED_FIELDS {
@@ -22,8 +24,10 @@ impl Entry {
         }
         let (base, order) = (number(bytes, 3)?, *bytes.get(11)?);
         let (word, marks) = (Word(number(bytes, 12)?), *bytes.get(20)?);
+        let entry = Entry { base, order, word, marks: Marks(marks) };
         let known = order <= MOST_ORDER && marks <= ALL_MARKS;
-        known.then_some(Entry { base, order, word, marks: Marks(marks) })
+        let whole = !entry.is_reserved() || entry == Entry::reserved(base);
+        (known && whole).then_some(entry)
     }
 
     /// The entry as the library lists it.
@@ -55,7 +59,8 @@ impl fmt::Display for BadListed {
 
 impl std::error::Error for BadListed {}
 
-/// The entries of a range in index order, each once: see [`Pool::list`](crate::Pool::list).
+/// The entries and reserved indices of a range in index order, each once: see
+/// [`Pool::list`](crate::Pool::list).
 #[derive(Clone, Debug, Default, PartialEq, Eq)]
 #[must_use = "an iterator does nothing until it is asked"]
 pub struct Listing {

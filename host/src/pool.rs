@@ -129,7 +129,7 @@ impl<'a> Pool<'a> {
     }
 
     /// Every entry that meets the range and has the mark `filter`, or any with
-    /// [`FIND_ANY`](crate::FIND_ANY), in index order, each once.
+    /// [`FIND_ANY`](crate::FIND_ANY), in index order, each once. A reserved index is none.
     ///
     /// ```
     /// # use xapool_host::{Command, Pool, Word, FIND_ANY};
@@ -147,9 +147,10 @@ impl<'a> Pool<'a> {
         Finds::new(self, range, filter)
     }
 
-    /// Every entry that meets the range, in index order, each once, in one call that only reads: an
-    /// iterator over the entries, whose bytes can be kept as evidence. An entry that begins before
-    /// the range or ends after it is listed whole. A range of no index has no entries.
+    /// Every entry that meets the range, and every reserved index in it
+    /// ([`Entry::is_reserved`](crate::Entry::is_reserved)), in index order, each once, in one call that
+    /// only reads: an iterator over them, whose bytes can be kept as evidence. An entry that begins
+    /// before the range or ends after it is listed whole. A range of no index has no entries.
     ///
     /// ```
     /// # use xapool_host::{Command, Pool, Word};
@@ -184,7 +185,8 @@ impl<'a> Pool<'a> {
         (list.len() == listed).then_some(list).ok_or(unexpected)
     }
 
-    /// Lists the entries from first to last into these bytes, 21 for each; gives how many there are.
+    /// Lists the entries and reserved indices from first to last into these bytes, 21 for each; gives
+    /// how many there are.
     /// Bytes past them stay as they were, and all do where it is refused.
     pub fn list_bytes(&self, first: u64, last: u64, buffer: &mut [u8]) -> Result<usize, Refusal> {
         let entries = Refusal::unless_listed(raw::list(self.words(), first, last, buffer))?;
@@ -208,7 +210,8 @@ impl<'a> Pool<'a> {
         node_count(self.words().len())
     }
 
-    /// How many of its nodes are in use: a free node is all zeros. A store needs at most 21 free ones.
+    /// How many of its nodes are in use: a free node is all zeros. A store or a reserve needs at most
+    /// 21 free ones.
     #[must_use]
     pub fn nodes_in_use(&self) -> usize {
         let nodes = self.words().get(ANCHOR_WORDS..).unwrap_or_default().chunks(NODE_WORDS);

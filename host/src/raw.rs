@@ -86,7 +86,8 @@ pub fn count(batch: &[u8]) -> RawResult {
     unsafe { xapool_count(batch.as_ptr(), batch.len()) }
 }
 
-/// Lists the entries of a pool that meet first to last into `buffer`, 21 bytes each.
+/// Lists the entries of a pool that meet first to last, and the reserved indices, into `buffer`, 21
+/// bytes each.
 pub fn list(pool: &[u64], first: u64, last: u64, buffer: &mut [u8]) -> RawResult {
     let (words, bytes) = (pool.len(), buffer.len());
     // SAFETY: two slices borrowed for the call; the one that is written is borrowed alone.

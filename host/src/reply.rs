@@ -35,20 +35,33 @@ impl fmt::Display for Marks {
     }
 }
 
-/// An entry as a reply or a list gives it.
+/// An entry, or a reserved index, as a reply or a list gives it: [`Entry::is_reserved`] tells which.
 #[derive(Clone, Copy, Debug, PartialEq, Eq)]
 pub struct Entry {
     /// The first index that it covers.
     pub base: u64,
     /// It covers 2^order indices.
     pub order: u8,
-    /// What is kept there.
+    /// What is kept there; 0 if the index is reserved.
     pub word: Word,
     /// The marks that it has.
     pub marks: Marks,
 }
 
 impl Entry {
+    /// A reserved index, as a list and the replies of a reserve, and of an erase of it, give it.
+    #[must_use]
+    pub fn reserved(index: u64) -> Entry {
+        Entry { base: index, order: 0, word: Word(0), marks: Marks(0) }
+    }
+
+    /// Whether it is a reserved index and no entry: nothing is kept there yet. No entry has the
+    /// word 0. Loads and finds never give one.
+    #[must_use]
+    pub fn is_reserved(self) -> bool {
+        self.word == Word(0)
+    }
+
     /// The last index that it covers.
     #[must_use]
     pub fn last(self) -> u64 {
@@ -69,10 +82,13 @@ impl Entry {
     }
 }
 
-/// As xabatch writes it: `64 order 0 value 2 marks -`.
+/// As xabatch writes it: `64 order 0 value 2 marks -`, or `64 reserved`.
 impl fmt::Display for Entry {
     fn fmt(&self, f: &mut fmt::Formatter) -> fmt::Result {
         let Entry { base, order, word, marks } = self;
+        if *self == Entry::reserved(*base) {
+            return write!(f, "{} reserved", Position(*base));
+        }
         write!(f, "{} order {order} {word} marks {marks}", Position(*base))
     }
 }
@@ -130,13 +146,13 @@ impl Reply {
         bytes
     }
 
-    /// The entry it gives, where the answer is `Done`.
+    /// The entry it gives, or the reserved index, where the answer is `Done`.
     #[must_use]
     pub fn entry(self) -> Option<Entry> {
         self.done().ok()
     }
 
-    /// The entry it gives, or the answer that it has in place of `Done`.
+    /// The entry it gives, or the reserved index, or the answer that it has in place of `Done`.
     pub fn done(self) -> Result<Entry, Answer> {
         let Reply { index, order, word, marks, answer, .. } = self;
         match answer {

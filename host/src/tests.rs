@@ -4,6 +4,7 @@ use crate::*;
 
 mod list;
 mod region;
+mod reserve;
 
 const LAST: u64 = u64::MAX;
 
@@ -281,9 +282,9 @@ fn random_bytes(seed: u64, count: usize) -> Vec<u8> {
 fn any_bytes_are_read_without_panic() {
     for seed in 0..2000 {
         let mut bytes = random_bytes(seed, (seed % 60) as usize);
-        let firsts = [1, 6, 129, 134, 255, 4];
+        let firsts = [1, 6, 129, 134, 255, 4, 7, 135];
         if let [first, _, rest @ ..] = &mut bytes[..] {
-            *first = firsts[(seed % 6) as usize];
+            *first = firsts[(seed % 8) as usize];
             rest.iter_mut().take(2).for_each(|byte| *byte %= 22);
         }
         assert!(Commands::of(&bytes).count() <= bytes.len());
@@ -295,8 +296,9 @@ fn any_bytes_are_read_without_panic() {
 
 #[test]
 fn commands_and_replies_round_trip() {
-    let commands =
-        [store(1, 255, 0), load(LAST), Command::Unmark { index: 3, mark: 9 }, find(5, 2, 7, 0)];
+    let unmark = Command::Unmark { index: 3, mark: 9 };
+    let reserve = Command::Reserve { index: LAST };
+    let commands = [store(1, 255, 0), load(LAST), unmark, find(5, 2, 7, 0), reserve];
     let all: Result<Vec<Command>, BadBatch> = batch(&commands).commands().collect();
     assert_eq!(all, Ok(commands.to_vec()));
     let mut pool = Pool::new(1).expect("one node");
@@ -314,7 +316,7 @@ fn every_answer_has_its_number() {
         assert_eq!(usize::from(answer.number()), number);
         assert!(!answer.to_string().is_empty());
     }
-    assert_eq!(Answer::from_number(15), None);
+    assert_eq!(Answer::from_number(16), None);
     assert_eq!(Word::value(1 << 63), Err(TooLarge(1 << 63)));
     assert_eq!(Word::value((1 << 63) - 1), Ok(Word(LAST)));
 }

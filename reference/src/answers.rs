@@ -1,4 +1,4 @@
-//! The answers (R68 to R80, and 14 of request P4), by name.
+//! The answers (R68 to R80, 14 of request P4 and 15 of request P6), by name.
 
 pub const DONE: u8 = 0;
 pub const POOL_LENGTH: u8 = 1;
@@ -15,3 +15,4 @@ pub const TOO_FEW_NODES: u8 = 11;
 pub const ENDED: u8 = 12;
 pub const PAUSED: u8 = 13;
 pub const UNALIGNED: u8 = 14;
+pub const COVERED: u8 = 15;

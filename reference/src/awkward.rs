@@ -20,12 +20,15 @@ impl Stored {
     }
 }
 
-/// A source of commands; most of their indices lie about a few centres or were stored at before.
+/// A source of commands; most of their indices lie about a few centres or were stored at or reserved
+/// before.
 pub struct Commands {
     random: Random,
     centres: Vec<u64>,
     stored: Vec<Stored>,
-    /// Stores to come, over what was given mark 2.
+    /// Indices that were to be reserved.
+    reserved: Vec<u64>,
+    /// Commands to come: stores over what was given mark 2, and what meets a reservation.
     to_come: Vec<Command>,
     /// What it begins with, the last first.
     opening: Vec<Command>,
@@ -36,7 +39,8 @@ impl Commands {
         let centres = (0..1 + random.below(3)).map(|_| AWKWARD[random.below(12) as usize]);
         let centres = centres.collect();
         let opening = opening(&mut random);
-        Commands { random, centres, stored: Vec::new(), to_come: Vec::new(), opening }
+        let (stored, reserved, to_come) = (Vec::new(), Vec::new(), Vec::new());
+        Commands { random, centres, stored, reserved, to_come, opening }
     }
 
     fn index(&mut self) -> u64 {
@@ -50,12 +54,17 @@ impl Commands {
         }
     }
 
-    /// An index at which something was stored or that is near it, or any index.
+    /// An index at which something was stored or that was reserved, one near it, or any index.
     fn likely(&mut self) -> u64 {
-        if self.stored.is_empty() || self.random.one_in(3) {
+        if self.random.one_in(3) {
             return self.index();
         }
-        let near = self.before().index;
+        let near = match (self.stored.is_empty(), self.reserved.is_empty()) {
+            (true, true) => return self.index(),
+            (true, false) => self.reserved_before(),
+            (false, false) if self.random.one_in(3) => self.reserved_before(),
+            (false, _) => self.before().index,
+        };
         if self.random.one_in(4) {
             near ^ self.random.below(8)
         } else {
@@ -66,6 +75,11 @@ impl Commands {
     /// A store that was made before; there must be one.
     fn before(&mut self) -> Stored {
         self.stored[self.random.below(self.stored.len() as u64) as usize]
+    }
+
+    /// An index that was to be reserved; there must be one.
+    fn reserved_before(&mut self) -> u64 {
+        self.reserved[self.random.below(self.reserved.len() as u64) as usize]
     }
 
     /// An index a few blocks of 2^order indices from one of the centres.
@@ -168,6 +182,41 @@ impl Commands {
         Command::Mark { index, mark }
     }
 
+    /// A reserve, often of what is covered or in the node of something; what meets it is to come.
+    fn reserve(&mut self) -> Command {
+        let index = match self.random.below(8) {
+            0 | 1 => self.index(),
+            2..=4 => self.likely(),
+            _ => self.likely() ^ self.random.below(16),
+        };
+        for _ in 0..self.random.below(3) {
+            let next = self.meeting(index);
+            self.to_come.push(next);
+        }
+        self.reserved.push(index);
+        Command::Reserve { index }
+    }
+
+    /// A command that meets a reservation of this index, if it is there.
+    fn meeting(&mut self, index: u64) -> Command {
+        match self.random.below(14) {
+            0..=2 => Command::Erase { index },
+            3 => Command::Load { index },
+            4 => Command::Mark { index, mark: self.mark() },
+            5 => Command::Unmark { index, mark: self.mark() },
+            6 | 7 => Command::Reserve { index },
+            8..=10 => self.find_over(index),
+            _ => self.store_over(index),
+        }
+    }
+
+    /// A find that begins at the index or a few before it.
+    fn find_over(&mut self, index: u64) -> Command {
+        let first = index.saturating_sub(self.random.below(3));
+        let last = if self.random.one_in(2) { u64::MAX } else { index };
+        Command::Find { first, last, filter: self.filter(), budget: self.budget() }
+    }
+
     /// At the index as it is or, often, one bit away from a multiple of 2^order. The word is often
     /// none of an entry, so that two answers could be meant.
     fn doubtful_store(&mut self, index: u64, order: u8) -> Command {
@@ -187,17 +236,18 @@ impl Commands {
             return command;
         }
         if self.stored.is_empty() && !self.random.one_in(4) {
-            return self.store();
+            return if self.random.one_in(6) { self.reserve() } else { self.store() };
         }
-        if !self.to_come.is_empty() && self.random.one_in(6) {
+        if !self.to_come.is_empty() && self.random.one_in(3) {
             return self.to_come.remove(0);
         }
-        match self.random.below(17) {
+        match self.random.below(20) {
             0..=6 => self.store(),
             7 => Command::Load { index: self.likely() },
             8 | 9 => Command::Erase { index: self.likely() },
             10..=12 => self.marking(),
             13 => Command::Unmark { index: self.likely(), mark: self.mark() },
+            14..=16 => self.reserve(),
             _ => {
                 let (first, last) = self.bounds();
                 Command::Find { first, last, filter: self.filter(), budget: self.budget() }
@@ -206,21 +256,66 @@ impl Commands {
     }
 }
 
-/// At times: entries that are all given mark 2, then a store over the first of them. Alone it may
-/// be the head; others are in its node, in another one, or both. The last comes first.
+/// At times one of the openings; the last command comes first.
 fn opening(random: &mut Random) -> Vec<Command> {
-    if !random.one_in(6) {
-        return Vec::new();
-    }
+    let mut all = match random.below(12) {
+        0 | 1 => over_mark_2(random),
+        2..=4 => about_a_reservation(random),
+        _ => Vec::new(),
+    };
+    all.reverse();
+    all
+}
+
+/// One index, and at times others in its node, in another one, or both. Alone it may be the head.
+fn few_bases(random: &mut Random) -> Vec<u64> {
     let base = [0, 0, 64, 1 << 18][random.below(4) as usize];
-    let others: [&[u64]; 6] = [&[], &[], &[], &[1], &[64], &[1, 64]];
+    let others: [&[u64]; 6] = [&[], &[], &[1], &[1], &[64], &[1, 64]];
     let mut bases = vec![base];
     bases.extend(others[random.below(6) as usize].iter().map(|other| base + other));
-    let store = |index, word| Command::Store { index, order: 0, word };
-    let mut all: Vec<Command> = bases.iter().map(|base| store(*base, 7)).collect();
+    bases
+}
+
+fn store_one(index: u64, word: u64) -> Command {
+    Command::Store { index, order: 0, word }
+}
+
+/// Entries that are all given mark 2, then a store over the first of them.
+fn over_mark_2(random: &mut Random) -> Vec<Command> {
+    let bases = few_bases(random);
+    let mut all: Vec<Command> = bases.iter().map(|base| store_one(*base, 7)).collect();
     all.extend(bases.iter().map(|base| Command::Mark { index: *base, mark: 2 }));
-    all.push(store(base, 5 + 2 * random.below(2)));
-    all.reverse();
+    all.push(store_one(bases[0], 5 + 2 * random.below(2)));
+    all
+}
+
+/// A reservation, with others or marked entries about it, then a few commands that meet it.
+fn about_a_reservation(random: &mut Random) -> Vec<Command> {
+    let bases = few_bases(random);
+    let (index, mark) = (bases[0], random.below(3) as u8);
+    let mut all = vec![Command::Reserve { index }];
+    for base in &bases[1..] {
+        if random.one_in(3) {
+            all.push(Command::Reserve { index: *base });
+        } else {
+            all.extend([store_one(*base, 9), Command::Mark { index: *base, mark }]);
+        }
+    }
+    let find = |first, filter, budget| Command::Find { first, last: u64::MAX, filter, budget };
+    for _ in 0..2 + random.below(3) {
+        all.push(match random.below(12) {
+            0 => Command::Load { index },
+            1 => Command::Mark { index, mark },
+            2 | 3 => Command::Erase { index },
+            4 => store_one(index, 5),
+            5 => Command::Reserve { index },
+            6 | 7 => Command::Erase { index: bases[bases.len() - 1] },
+            _ => {
+                let filter = if random.one_in(2) { 3 } else { mark };
+                find(index, filter, 1 + random.below(4) as u16)
+            }
+        });
+    }
     all
 }
 

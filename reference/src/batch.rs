@@ -11,6 +11,7 @@ pub enum Command {
     Mark { index: u64, mark: u8 },
     Unmark { index: u64, mark: u8 },
     Find { first: u64, last: u64, filter: u8, budget: u16 },
+    Reserve { index: u64 },
 }
 
 impl Command {
@@ -22,6 +23,7 @@ impl Command {
             Command::Mark { .. } => 4,
             Command::Unmark { .. } => 5,
             Command::Find { .. } => 6,
+            Command::Reserve { .. } => 7,
         }
     }
 }
@@ -84,7 +86,7 @@ fn read_record(bytes: &[u8]) -> Option<(Command, usize)> {
 fn field_bytes(tag: u8) -> Option<usize> {
     match tag {
         1 => Some(17),
-        2 | 3 => Some(8),
+        2 | 3 | 7 => Some(8),
         4 | 5 => Some(9),
         6 => Some(19),
         _ => None,
@@ -106,6 +108,7 @@ fn command(tag: u8, fields: &[u8]) -> Option<Command> {
             filter: fields[16],
             budget: number(&fields[17..19]) as u16,
         }),
+        7 => Some(Command::Reserve { index }),
         _ => None,
     }
 }

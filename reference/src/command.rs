@@ -3,7 +3,9 @@
 use crate::answers::*;
 use crate::batch::{Command, Reply};
 use crate::find::{find, FindResult, ANY_ENTRY};
-use crate::model::{self, covering, is_aligned, is_entry_word, target, Entry, Range};
+use crate::model::{
+    self, covering, entry_covering, is_aligned, is_entry_word, target, Entry, Range,
+};
 use crate::pool::State;
 use crate::tree::Tree;
 
@@ -26,6 +28,7 @@ pub fn execute(state: &State, command: Command) -> Done {
         Command::Find { first, last, filter, budget } => {
             find_reply(state, first, last, filter, budget)
         }
+        Command::Reserve { index } => reserve(state, index),
     };
     done.reply.tag = command.tag() + 128;
     done
@@ -47,6 +50,12 @@ pub fn execute_each(state: &State, commands: &[Command]) -> Vec<Done> {
 pub fn needed(state: &State, index: u64, order: u8, word: u64) -> Option<usize> {
     let good = store_refusal(index, order, word).is_none();
     good.then(|| state.needed(&model::store(&state.list, index, order, word)))
+}
+
+/// The nodes needed to reserve the index; none if it is covered.
+pub fn needed_to_reserve(state: &State, index: u64) -> Option<usize> {
+    let free = covering(&state.list, index).is_none();
+    free.then(|| state.needed(&model::reserve(&state.list, index)))
 }
 
 /// Answer 14 stands between 5 and 6 (request P4).
@@ -85,8 +94,19 @@ fn store(state: &State, index: u64, order: u8, word: u64) -> Done {
     }
 }
 
+/// Answer 15 stands before 11 (request P6).
+fn reserve(state: &State, index: u64) -> Done {
+    if covering(&state.list, index).is_some() {
+        return unchanged(state, only(COVERED));
+    }
+    match state.change_to(model::reserve(&state.list, index)) {
+        Some(after) => wrote(after, index),
+        None => unchanged(state, only(TOO_FEW_NODES)),
+    }
+}
+
 fn load(state: &State, index: u64) -> Done {
-    let found = covering(&state.list, index);
+    let found = entry_covering(&state.list, index);
     let mut reply = found.map_or(only(ABSENT), giving);
     reply.count = Tree::of(&state.list).nodes_over(index) as u16;
     unchanged(state, reply)
@@ -110,7 +130,7 @@ fn set_marks(state: &State, index: u64, mark: u8, change: ChangeMarks) -> Done {
     if mark > 2 {
         return unchanged(state, only(BAD_MARK));
     }
-    let Some(entry) = covering(&state.list, index) else {
+    let Some(entry) = entry_covering(&state.list, index) else {
         return unchanged(state, only(ABSENT));
     };
     let after = state.change_to(change(&state.list, index, mark));
@@ -136,9 +156,12 @@ fn only(answer: u8) -> Reply {
     Reply { answer, ..Reply::default() }
 }
 
-/// A reply that gives an entry with its base.
+/// A reply that gives an entry with its base; of a reservation the base alone.
 fn giving(entry: Entry) -> Reply {
     let Entry { base, order, word, marks } = entry;
+    if entry.is_reservation() {
+        return Reply { index: base, ..only(DONE) };
+    }
     Reply { index: base, order, word, marks, ..only(DONE) }
 }
 
@@ -146,8 +169,8 @@ fn unchanged(state: &State, reply: Reply) -> Done {
     Done { reply, state: state.clone(), written: None }
 }
 
-/// A command that wrote the entry with this base, which the reply gives as it then stands.
+/// A command that wrote what has this base, which the reply gives as it then stands.
 fn wrote(after: State, base: u64) -> Done {
-    let entry = covering(&after.list, base).expect("the entry just written");
+    let entry = covering(&after.list, base).expect("what was just written");
     Done { reply: giving(entry), state: after, written: Some(entry.range()) }
 }

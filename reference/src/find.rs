@@ -48,6 +48,8 @@ pub fn find(tree: &Tree, first: u64, last: u64, filter: u8, budget: u16) -> Foun
 fn step(tree: &Tree, position: u64, filter: u8) -> Stop {
     match tree.head {
         Head::Empty => Stop::PastHead,
+        Head::Reserved if position == 0 => Stop::Pass(Range { start: 0, end: 1 }),
+        Head::Reserved => Stop::PastHead,
         Head::Entry(entry) if entry.range().holds(position) => at_entry(entry, filter),
         Head::Entry(_) => Stop::PastHead,
         Head::Node(head) if head.range().holds(position) => down(tree, head, position, filter),
@@ -60,7 +62,7 @@ fn down(tree: &Tree, head: Node, position: u64, filter: u8) -> Stop {
     loop {
         let slot = node.slot_of(position);
         match tree.slot(node, slot) {
-            Slot::Empty => return Stop::Pass(node.slot_range(slot)),
+            Slot::Empty | Slot::Reserved => return Stop::Pass(node.slot_range(slot)),
             Slot::Entry(entry) | Slot::Sibling(entry) => return at_entry(entry, filter),
             Slot::Node(child) if passes(tree.marks_below(child), filter) => node = child,
             Slot::Node(_) => return Stop::Pass(node.slot_range(slot)),

@@ -12,8 +12,11 @@
 //! mark INDEX MARK REPLY
 //! unmark INDEX MARK REPLY
 //! find FIRST LAST FILTER BUDGET REPLY
+//! reserve INDEX REPLY needed COUNT             nothing covers it: nodes needed (answer 0 or 11)
+//! reserve INDEX REPLY                          it is covered (answer 15)
 //!                                              (one such line a command, 1 to MAXLEN of them)
-//! entry BASE ORDER WORD MARKS                  the list after the commands, in index order
+//! entry BASE ORDER WORD MARKS                  the list after the commands, in index order; a
+//!                                              reservation has order 0, word 1030 and marks 0
 //! place NUMBER SHIFT BLOCK                     node NUMBER is in use for this shift and block
 //! place NUMBER free                            (one place line for each of 0 to N - 1)
 //! word PLACE VALUE                             every nonzero word of the pool, places ascending
@@ -24,7 +27,7 @@
 
 use crate::awkward::Commands;
 use crate::batch::Command;
-use crate::command::{execute, needed, Done};
+use crate::command::{execute, needed, needed_to_reserve, Done};
 use crate::listing::listing;
 use crate::model::Entry;
 use crate::pool::State;
@@ -68,10 +71,13 @@ fn print_list(
 
 fn print_command(out: &mut impl Write, state: &State, command: Command, done: &Done) -> Result<()> {
     write!(out, "{} {}", fields(command), hex(&done.reply.bytes()))?;
-    if let Command::Store { index, order, word } = command {
-        if let Some(count) = needed(state, index, order, word) {
-            write!(out, " needed {count}")?;
-        }
+    let needed = match command {
+        Command::Store { index, order, word } => needed(state, index, order, word),
+        Command::Reserve { index } => needed_to_reserve(state, index),
+        _ => None,
+    };
+    if let Some(count) = needed {
+        write!(out, " needed {count}")?;
     }
     writeln!(out)
 }
@@ -86,6 +92,7 @@ fn fields(command: Command) -> String {
         Command::Find { first, last, filter, budget } => {
             format!("find {first} {last} {filter} {budget}")
         }
+        Command::Reserve { index } => format!("reserve {index}"),
     }
 }
 

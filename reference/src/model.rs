@@ -1,4 +1,4 @@
-//! The list of entries (document 01: the plain list) and the rules for entries.
+//! The list of entries and reservations (document 01: the plain list) and the rules for them.
 
 /// One past the last index; it does not fit 64 bits.
 pub const INDEX_END: u128 = 1 << 64;
@@ -24,7 +24,12 @@ impl Range {
     }
 }
 
-/// An entry and the run it covers: 2^order indices from base. Mark m is worth 2^m in `marks`.
+/// The word of a reservation (request P6): XArray's zero entry, the internal word of 257. No store can
+/// carry it.
+pub const RESERVED: u64 = 4 * 257 + 2;
+
+/// An entry and the run it covers: 2^order indices from base. Mark m is worth 2^m in `marks`. A
+/// reservation is in the list as one too: with order 0, the word 1,030 and no marks.
 #[derive(Clone, Copy, Debug, PartialEq, Eq)]
 pub struct Entry {
     pub base: u64,
@@ -38,6 +43,15 @@ impl Entry {
         let start = u128::from(self.base);
         Range { start, end: start + (1 << self.order) }
     }
+
+    /// The reservation of an index.
+    pub fn reservation(index: u64) -> Entry {
+        Entry { base: index, order: 0, word: RESERVED, marks: 0 }
+    }
+
+    pub fn is_reservation(self) -> bool {
+        self.word == RESERVED
+    }
 }
 
 /// An entry's word is odd, or a multiple of 4 and not 0.
@@ -50,12 +64,17 @@ pub fn is_aligned(index: u64, order: u8) -> bool {
     index.is_multiple_of(1 << order)
 }
 
-/// The entry that covers the index. The list is in index order, so it is the last to begin there
-/// or before, or none.
+/// The entry or reservation that covers the index. The list is in index order, so it is the last to
+/// begin there or before, or none.
 pub fn covering(list: &[Entry], index: u64) -> Option<Entry> {
     let begun = list.partition_point(|entry| entry.base <= index);
     let last = list[..begun].last()?;
     last.range().holds(index).then_some(*last)
+}
+
+/// The entry that covers the index; a reservation is none.
+pub fn entry_covering(list: &[Entry], index: u64) -> Option<Entry> {
+    covering(list, index).filter(|entry| !entry.is_reservation())
 }
 
 /// The marks that any of the entries has.
@@ -96,7 +115,15 @@ pub fn store(list: &[Entry], index: u64, order: u8, word: u64) -> Vec<Entry> {
     kept
 }
 
-/// The list without the entry that covers the index.
+/// The list with a reservation of an index that nothing covers.
+pub fn reserve(list: &[Entry], index: u64) -> Vec<Entry> {
+    let mut list = list.to_vec();
+    list.push(Entry::reservation(index));
+    list.sort_by_key(|entry| entry.base);
+    list
+}
+
+/// The list without what covers the index.
 pub fn erase(list: &[Entry], index: u64) -> Vec<Entry> {
     list.iter().copied().filter(|entry| !entry.range().holds(index)).collect()
 }

@@ -1,6 +1,6 @@
 //! The numbering of nodes and all words of the pool, worked out afresh from a list.
 
-use crate::model::{marks_of, Entry};
+use crate::model::{marks_of, Entry, RESERVED};
 use crate::tree::{nodes, Head, Node, Slot, Tree, SLOTS};
 use std::cmp::Reverse;
 use std::collections::{BTreeMap, BTreeSet};
@@ -100,6 +100,7 @@ impl State {
         words[0] = self.places.len() as u64;
         words[1] = match tree.head {
             Head::Empty => 0,
+            Head::Reserved => RESERVED,
             Head::Entry(entry) => entry.word,
             Head::Node(node) => node_word(numbers[&node]),
         };
@@ -122,6 +123,7 @@ fn write_node(tree: &Tree, numbers: &BTreeMap<Node, usize>, node: Node, fields: 
         }
         fields[SLOT_FIELDS + slot] = match tree.slot(node, slot) {
             Slot::Empty => 0,
+            Slot::Reserved => RESERVED,
             Slot::Entry(entry) => entry.word,
             Slot::Sibling(entry) => sibling_word(node.slot_of(entry.base)),
             Slot::Node(child) => node_word(numbers[&child]),

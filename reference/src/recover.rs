@@ -1,6 +1,6 @@
 //! From words back to the list and the numbering; the words are well-formed if these give them.
 
-use crate::model::{is_entry_word, Entry, INDEX_END};
+use crate::model::{is_entry_word, Entry, INDEX_END, RESERVED};
 use crate::pool::{
     node_count, node_place, sibling_word, State, MARK_FIELDS, NODE_OFFSET, SHIFT_FIELD, SLOT_FIELDS,
 };
@@ -28,6 +28,10 @@ impl Walk<'_> {
     fn head(&mut self) -> Option<()> {
         let head = self.words[1];
         if head == 0 {
+            return Some(());
+        }
+        if head == RESERVED {
+            self.state.list.push(Entry::reservation(0));
             return Some(());
         }
         if is_entry_word(head) {
@@ -61,6 +65,8 @@ impl Walk<'_> {
             if is_entry_word(word) {
                 let entry = self.entry(number, node, slot)?;
                 self.state.list.push(entry);
+            } else if word == RESERVED {
+                self.state.list.push(reservation(node, slot)?);
             } else if word / 4 >= NODE_OFFSET {
                 self.node(self.node_number(word)?, node.child(slot)?)?;
             }
@@ -96,4 +102,10 @@ impl Walk<'_> {
         let place = node_place(number) + MARK_FIELDS;
         (0..3).map(|mark| ((self.words[place + mark] >> slot & 1) as u8) << mark).sum()
     }
+}
+
+/// The reservation in this slot. It has one index, as no slot of a higher shift has.
+fn reservation(node: Node, slot: usize) -> Option<Entry> {
+    let index = node.slot_range(slot).start as u64;
+    (node.shift == 0).then(|| Entry::reservation(index))
 }

@@ -62,6 +62,7 @@ impl Node {
 #[derive(Clone, Copy, Debug, PartialEq, Eq)]
 pub enum Head {
     Empty,
+    Reserved,
     Entry(Entry),
     Node(Node),
 }
@@ -70,6 +71,7 @@ pub enum Head {
 #[derive(Clone, Copy, Debug, PartialEq, Eq)]
 pub enum Slot {
     Empty,
+    Reserved,
     Entry(Entry),
     Sibling(Entry),
     Node(Node),
@@ -88,6 +90,7 @@ fn head_fits(list: &[Entry], shift: u8) -> bool {
 pub fn head(list: &[Entry]) -> Head {
     match list {
         [] => Head::Empty,
+        [only] if only.base == 0 && only.is_reservation() => Head::Reserved,
         [only] if only.base == 0 && only.order == 0 => Head::Entry(*only),
         _ => {
             let shift = shifts().find(|shift| head_fits(list, *shift));
@@ -133,16 +136,18 @@ impl Tree<'_> {
         }
         match covering(self.list, start as u64) {
             Some(entry) if entry.order - entry.order % 6 != node.shift => Slot::Empty,
+            Some(entry) if entry.is_reservation() => Slot::Reserved,
             Some(entry) if u128::from(entry.base) == start => Slot::Entry(entry),
             Some(entry) => Slot::Sibling(entry),
             None => Slot::Empty,
         }
     }
 
-    /// The marks of a slot: those of its entry, or of any entry below; a sibling's are clear.
+    /// The marks of a slot: those of its entry, or of any entry below; a sibling's and a
+    /// reservation's are clear.
     pub fn slot_marks(&self, node: Node, slot: usize) -> u8 {
         match self.slot(node, slot) {
-            Slot::Empty | Slot::Sibling(_) => 0,
+            Slot::Empty | Slot::Reserved | Slot::Sibling(_) => 0,
             Slot::Entry(entry) => entry.marks,
             Slot::Node(child) => self.marks_below(child),
         }

@@ -52,6 +52,7 @@ pub fn lines_of(report: &Report, view: &View) -> Vec<String> {
 fn draw(report: &Report, range: (u64, u64), lines: &mut Vec<String>) {
     match &report.head {
         Head::Empty => lines.push("head: empty".into()),
+        Head::Reserved => lines.push("head: index 0, reserved".into()),
         Head::Entry(word) => {
             lines.push(format!("head: index 0, {}", entry(*word, 0, marks(report))))
         }
@@ -127,7 +128,7 @@ fn draw_slots(node: &Node, indent: &str, range: (u64, u64), lines: &mut Vec<Stri
 fn indices(node: &Node, slot: &Slot) -> (u128, u128) {
     let (slot, run) = match slot {
         Slot::Entry { slot, run, .. } => (*slot, *run),
-        Slot::Node { slot, .. } | Slot::Bad { slot, .. } => (*slot, 1),
+        Slot::Node { slot, .. } | Slot::Reserved { slot } | Slot::Bad { slot, .. } => (*slot, 1),
     };
     let first = node.start + ((slot as u128) << node.shift);
     (first, first + ((run as u128) << node.shift) - 1)
@@ -137,6 +138,7 @@ fn slot_line(node: &Node, slot: &Slot) -> String {
     let (first, last) = indices(node, slot);
     match slot {
         Slot::Bad { slot, word } => format!("slot {slot}: {word:#x} ?"),
+        Slot::Reserved { slot } => format!("slot {slot}: index {}, reserved", range(first, last)),
         Slot::Node { slot, marks, child } => {
             format!("slot {slot}: {}, marks {marks}", title(child))
         }
@@ -158,6 +160,7 @@ fn order_of(node: &Node, run: usize) -> u64 {
 #[derive(Default)]
 struct Counts {
     orders: BTreeMap<u64, usize>,
+    reserved: usize,
     marks: [usize; 3],
     shifts: BTreeMap<u64, usize>,
     first: Option<u128>,
@@ -182,6 +185,7 @@ impl Counts {
                     self.entry(order_of(node, *run), *marks, indices(node, slot));
                 }
                 Slot::Node { child, .. } => self.node(child),
+                Slot::Reserved { .. } => self.reserved += 1,
                 Slot::Bad { .. } => {}
             }
         }
@@ -192,6 +196,7 @@ fn summary(report: &Report) -> Vec<String> {
     let mut counts = Counts::default();
     match &report.head {
         Head::Entry(_) => counts.entry(0, marks(report), (0, 0)),
+        Head::Reserved => counts.reserved += 1,
         Head::Node(node) => counts.node(node),
         Head::Empty | Head::Bad(_) => {}
     }
@@ -210,6 +215,9 @@ fn summary(report: &Report) -> Vec<String> {
         }
         _ => "entries: 0".into(),
     }];
+    if counts.reserved > 0 {
+        lines.push(format!("reserved indices: {}", counts.reserved));
+    }
     let [zero, one, two] = counts.marks;
     lines.push(format!("marks: {zero} with mark 0, {one} with mark 1, {two} with mark 2"));
     if !counts.shifts.is_empty() {

@@ -40,6 +40,7 @@ max is 2^64 - 1.
   unmark 64 mark 0
   find 1..max mark 0 budget 100    entries with that mark
   find 1..max any budget 100       any entry
+  reserve 64                       holds index 64 until something is stored there
 
 A batch has at most 8,192 bytes; a text that needs more is refused, unless:
 
@@ -66,9 +67,10 @@ const SHOW: &str = "\
 usage: xabatch show [--summary | --findings] [--range FIRST..LAST] [--all] POOLFILE
 
 Draws a pool file as a tree and lists what is wrong with it: first what is wrong by itself, then how
-much follows from that.
+much follows from that. A slot that is held without an entry is drawn as 'reserved'.
 
-  --summary             counts in place of the tree: entries by order, marks, nodes by shift
+  --summary             counts in place of the tree: entries by order, reserved indices, marks, nodes
+                        by shift
   --findings            only what is wrong
   --range FIRST..LAST   only the part of the tree that meets these indices
   --all                 what follows is listed too
@@ -82,14 +84,16 @@ usage: xabatch list [--bytes] POOLFILE [FIRST..LAST]
 
 Writes a line for each entry that covers an index from FIRST to LAST, both included (all if they are
 not named), in index order and each once: its first index, order, word and marks. An entry that
-begins before FIRST or ends after LAST is written whole. The pool is only read.
+begins before FIRST or ends after LAST is written whole. A reserved index has a line as well: it is
+held, and there is no entry. The pool is only read.
 
   64 order 0 value 2 marks 0,1       index 64 alone, marks 0 and 1 are set
   4096 order 3 handle 0x1000 marks - the 2^3 indices from 4096 on, no mark is set
+  4104 reserved                      index 4104 is held
 
   --bytes   the list as the library gives it, 21 bytes an entry: tag 32, length 18 (2 bytes), index
-            (8), order, entry (8), marks, each number highest byte first. Keep it as evidence;
-            'xabatch decode' writes its lines
+            (8), order, entry (8), marks, each number highest byte first; entry 0 is a reserved
+            index. Keep it as evidence; 'xabatch decode' writes its lines
 
 The exit status is 1, and nothing is written, if the pool is not well-formed: 'xabatch show' says
 what is wrong.

@@ -7,7 +7,7 @@
 use std::collections::HashSet;
 use std::fmt;
 use xapool_host::layout::{
-    node_place, node_word, sibling_word, slot_place, NODE_OFFSET, NODE_WORDS,
+    node_place, node_word, sibling_word, slot_place, NODE_OFFSET, NODE_WORDS, RESERVED_WORD,
 };
 use xapool_host::{node_count, Marks, Word};
 
@@ -55,6 +55,9 @@ pub enum Slot {
         marks: Marks,
         child: Node,
     },
+    Reserved {
+        slot: usize,
+    },
     /// A word that no slot may hold here.
     Bad {
         slot: usize,
@@ -65,6 +68,7 @@ pub enum Slot {
 #[derive(Clone, Debug, PartialEq, Eq)]
 pub enum Head {
     Empty,
+    Reserved,
     Entry(Word),
     Node(Node),
     Bad(u64),
@@ -209,6 +213,9 @@ impl Walk<'_> {
         if Word(head).is_entry() {
             return Head::Entry(Word(head));
         }
+        if head == RESERVED_WORD {
+            return Head::Reserved;
+        }
         let Some(number) = self.node_number(head) else {
             self.find(1, format!("the head {head:#x} is neither an entry nor a node of this pool"));
             self.wrong.insert(Link::Head);
@@ -269,6 +276,10 @@ impl Walk<'_> {
                 let message = "the head is too wide: one entry at index 0 needs no node".into();
                 self.note(place, Follows::Node(head.number), message);
             }
+            [Slot::Reserved { slot: 0 }] => {
+                let message = "the head is too wide: index 0 alone, reserved, needs no node".into();
+                self.note(place, Follows::Node(head.number), message);
+            }
             _ => {}
         }
     }
@@ -278,7 +289,7 @@ impl Walk<'_> {
         self.expect(3, "the fourth word", 0, Follows::Nothing);
         let head_link = Follows::Link(Link::Head);
         match head {
-            Head::Empty => self.expect(2, "the marks byte", 0, head_link),
+            Head::Empty | Head::Reserved => self.expect(2, "the marks byte", 0, head_link),
             Head::Node(node) => {
                 self.expect(2, "the marks byte", u64::from(node.marks.0), head_link);
             }
@@ -346,6 +357,9 @@ impl Walk<'_> {
             let marks = self.slot_marks(number, slot);
             return Some(Slot::Entry { slot, run, word: Word(word), marks });
         }
+        if word == RESERVED_WORD && shift == 0 {
+            return Some(Slot::Reserved { slot });
+        }
         match self.child(word, shift) {
             Ok(child) => {
                 let child = self.node(child, shift - 6, start + ((slot as u128) << shift), link);
@@ -374,6 +388,9 @@ impl Walk<'_> {
     fn child(&self, word: u64, shift: u64) -> Result<usize, String> {
         if word / 4 < SLOTS as u64 {
             return Err(format!("a sibling of slot {} that follows no such entry", word / 4));
+        }
+        if word == RESERVED_WORD {
+            return Err(format!("reserved ({word:#x}) in a node of shift {shift}, not 0"));
         }
         let Some(number) = self.node_number(word) else {
             return Err(format!("{word:#x} is no word of a slot in this pool"));
@@ -477,11 +494,12 @@ impl Walk<'_> {
     }
 }
 
-/// The bit of this slot in the word of a mark: an entry's own, whatever it is, or what lies below.
+/// The bit of this slot in the word of a mark: an entry's own, whatever it is, or what lies below. What
+/// is reserved has none.
 fn expected_bit(slot: &Slot, mark: u8) -> u64 {
     match slot {
         Slot::Entry { slot, marks, .. } => u64::from(marks.has(mark)) << slot,
         Slot::Node { slot, child, .. } => u64::from(child.marks.has(mark)) << slot,
-        Slot::Bad { .. } => 0,
+        Slot::Reserved { .. } | Slot::Bad { .. } => 0,
     }
 }

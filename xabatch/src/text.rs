@@ -131,7 +131,7 @@ impl<'a> Words<'a> {
 
     fn command(&mut self) -> Result<Command, SyntaxError> {
         let name = self.peek();
-        let known = ["store", "load", "erase", "mark", "unmark", "find"];
+        let known = ["store", "load", "erase", "mark", "unmark", "find", "reserve"];
         if !known.contains(&name) {
             let message = format!("unknown command '{name}': one of {}", known.join(", "));
             return Err(self.error(message));
@@ -145,6 +145,7 @@ impl<'a> Words<'a> {
             "store" => self.store(index),
             "load" => Ok(Command::Load { index }),
             "erase" => Ok(Command::Erase { index }),
+            "reserve" => Ok(Command::Reserve { index }),
             "mark" => Ok(Command::Mark { index, mark: self.mark()? }),
             _ => Ok(Command::Unmark { index, mark: self.mark()? }),
         }

@@ -21,6 +21,7 @@ fn same_command(command: ReferenceCommand) -> Command {
         ReferenceCommand::Find { first, last, filter, budget } => {
             Command::Find { first, last, filter, budget }
         }
+        ReferenceCommand::Reserve { index } => Command::Reserve { index },
     }
 }
 
@@ -69,6 +70,8 @@ fn errors_have_their_place() {
         ("load -1", 1, 6, "expected an index, not '-1'"),
         ("load 18446744073709551616", 1, 6, "above 2^64 - 1"),
         ("load 1 2", 1, 8, "'2' after the end"),
+        ("reserve", 1, 8, "expected an index, but the line ends"),
+        ("reserve 1 order 0", 1, 11, "'order' after the end"),
         ("\n\n  store 64 odrer 0 value 2", 3, 12, "expected 'order', not 'odrer'"),
         ("store 64 order 256 value 2", 1, 16, "from 0 to 255"),
         ("store 64 order 0 2", 1, 18, "'value', 'handle' or 'word'"),
@@ -125,14 +128,36 @@ fn show_agrees_with_the_check_on_good_and_damaged_pools() {
     }
 }
 
+/// The word of a reserved index in every place of pools with reserved indices and without.
+#[test]
+fn show_agrees_with_the_check_wherever_an_index_may_be_reserved() {
+    let texts = [
+        "",
+        "reserve 0",
+        "reserve 0\nreserve 5\nstore 6 order 0 value 1\nmark 6 mark 0",
+        "store 8 order 3 value 1\nreserve 70\nreserve 4095\nstore 4096 order 6 value 2",
+    ];
+    for text in texts {
+        let mut pool = Pool::new(8).expect("a good size");
+        let replies = pool.run(&text::batch_of(text).expect("good text")).expect("a good batch");
+        assert!(replies.iter().all(|reply| reply.done().is_ok()), "{text}");
+        for place in 0..pool.words().len() {
+            let mut words = pool.words().to_vec();
+            words[place] = 1030;
+            agree(&words, &format!("{text}: word {place}"));
+        }
+    }
+}
+
 /// Changes one word, mostly one that is not 0, to one of the kinds of word there are.
 fn damage(words: &mut [u64], random: &mut Random) {
     let mut place = random.below(words.len() as u64) as usize;
     while words[place] == 0 && !random.one_in(20) {
         place = (place + 1) % words.len();
     }
-    words[place] = match random.below(8) {
+    words[place] = match random.below(9) {
         0 => 0,
+        7 => 1030,
         1 => words[place].wrapping_add(1),
         2 => words[place] ^ 1 << random.below(64),
         3 => 4 * (1024 + random.below(32)) + 2,
@@ -242,7 +267,9 @@ fn one_cause_is_one_finding() {
         (1, entry, 960),
         (1, sibling, 960),
         (1, other, 960),
+        (1, 1030, 960),
         (slot, 0, 64),
+        (slot, 1030, 64),
         (slot, entry, 64),
         (slot, sibling, 64),
         (head, 19, 0),

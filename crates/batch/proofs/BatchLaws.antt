@@ -15,10 +15,11 @@ use Rattle.batch.specs.Bytes.{numberAt}
 use Rattle.batch.specs.Batch.{fieldBytes, headBytes, commandAt, isRecord, nextAt, readAt, Next, Bad, End, Command}
 
 -- the last tag that has fields
-pub last-tag : (tag : ℕ) → fieldBytes tag ≢ 0 → tag ≢ 1 → tag ≢ 2 → tag ≢ 3 → tag ≢ 4 → tag ≢ 5 → tag ≡ 6
-last-tag tag f a b c d e =
-    byT (eqb tag 6) (eqb-true tag 6)
-    (λ t. absurd (f (rw (ne-eqb tag 1 a, ne-eqb tag 2 b, ne-eqb tag 3 c, ne-eqb tag 4 d, ne-eqb tag 5 e, t))))
+pub last-tag : (tag : ℕ) → fieldBytes tag ≢ 0 → tag ≢ 1 → tag ≢ 2 → tag ≢ 3 → tag ≢ 4 → tag ≢ 5 → tag ≢ 6 →
+    tag ≡ 7
+last-tag tag f a b c d e g =
+    byT (eqb tag 7) (eqb-true tag 7)
+    (λ t. absurd (f (rw (ne-eqb tag 1 a, ne-eqb tag 2 b, ne-eqb tag 3 c, ne-eqb tag 4 d, ne-eqb tag 5 e, ne-eqb tag 6 g, t))))
 
 -- the fields of a known tag have room where those of the tag have
 pub room : {tag n : ℕ} (t at : ℕ) → tag ≡ t → at + fieldBytes tag ≤ n → at + fieldBytes t ≤ n

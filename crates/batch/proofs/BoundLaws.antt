@@ -43,7 +43,8 @@ command-fits {s} b tag at =
     (λ u. byT (eqb tag 3) (λ v. rw (t, u, v) tt)
     (λ v. byT (eqb tag 4) (λ w. rw (t, u, v, w) tt)
     (λ w. byT (eqb tag 5) (λ x. rw (t, u, v, w, x) tt)
-    (λ x. rw (t, u, v, w, x) (number-lt b (at + 8) 8, number-lt b (at + 17) 2))))))
+    (λ x. byT (eqb tag 6) (λ y. rw (t, u, v, w, x, y) (number-lt b (at + 8) 8, number-lt b (at + 17) 2))
+    (λ y. rw (t, u, v, w, x, y) (number-lt b at 8)))))))
 
 -- what a batch parses to
 abbrev pub AllFit : Parsed → Type 0

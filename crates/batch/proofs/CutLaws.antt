@@ -32,6 +32,7 @@ use Rattle.batch.specs.Batch.{
   Mark,
   Unmark,
   Find,
+  Reserve,
   Parsed,
   Parsed.commands,
   Parsed.refused,
@@ -85,10 +86,13 @@ module _ (s : List ℕ) (p : ℕ) (fits : p ≤ length s) where
       rw (t, u, v, w, x) (ap₂ Unmark (number-cut at 8 (omega arith)) (number-cut (at + 8) 1 (omega arith))))
       (λ x. byT (eqb tag 6)
       (λ y. let h₆ : at + 19 ≤ p = rw (t, u, v, w, x, y) at h in
-      rw (t, u, v, w, x)
+      rw (t, u, v, w, x, y)
       (λ i. Find (number-cut at 8 (omega arith) i) (number-cut (at + 8) 8 (omega arith) i)
       (number-cut (at + 16) 1 (omega arith) i) (number-cut (at + 17) 2 (omega arith) i)))
-      (λ y. absurd (f (rw (t, u, v, w, x, y)))))))))
+      (λ y. byT (eqb tag 7)
+      (λ z. let h₇ : at + 8 ≤ p = rw (t, u, v, w, x, y, z) at h in
+      rw (t, u, v, w, x, y) (ap Reserve (number-cut at 8 (omega arith))))
+      (λ z. absurd (f (rw (t, u, v, w, x, y, z))))))))))
 
   -- a record that ends before the cut is read the same
   read-before : (at : ℕ) {c : Command} {k : Cursor} → readAt s at ≡ Next c k → k .at ≤ p →

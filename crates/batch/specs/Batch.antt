@@ -7,7 +7,7 @@ use lib.ListN.{length, getD}
 use Rattle.blocks.specs.Choice.{pick, both}
 use Rattle.batch.specs.Bytes.{numberAt}
 pub use Rattle.batch.specs.declared.Command.{Command}
-pub use Rattle.batch.specs.declared.Command.the-variants.{Store, Load, Erase, Mark, Unmark, Find}
+pub use Rattle.batch.specs.declared.Command.the-variants.{Store, Load, Erase, Mark, Unmark, Find, Reserve}
 pub use Rattle.batch.specs.declared.Cursor.{Cursor}
 pub use Rattle.batch.specs.declared.Read.{Read}
 pub use Rattle.batch.specs.declared.Read.the-variants.{Next, Bad, End}
@@ -22,7 +22,7 @@ maxBatch = 8192
 abbrev pub headBytes : ℕ
 headBytes = 3
 
--- THE TABLE OF COMMANDS (R44 to R48)
+-- THE TABLE OF COMMANDS (R44 to R48, R204)
 -- the length of a record's fields, by tag; no command has 0
 abbrev pub fieldBytes : ℕ → ℕ
 fieldBytes tag =
@@ -31,7 +31,8 @@ fieldBytes tag =
     (pick (eqb tag 3) 8
     (pick (eqb tag 4) 9
     (pick (eqb tag 5) 9
-    (pick (eqb tag 6) 19 0)))))
+    (pick (eqb tag 6) 19
+    (pick (eqb tag 7) 8 0))))))
 
 -- the command of a tag whose fields begin at a place
 abbrev pub commandAt : List ℕ → ℕ → ℕ → Command
@@ -41,7 +42,9 @@ commandAt s tag at =
     (pick (eqb tag 3) (Erase (numberAt s at 8))
     (pick (eqb tag 4) (Mark (numberAt s at 8) (numberAt s (at + 8) 1))
     (pick (eqb tag 5) (Unmark (numberAt s at 8) (numberAt s (at + 8) 1))
-    (Find (numberAt s at 8) (numberAt s (at + 8) 8) (numberAt s (at + 16) 1) (numberAt s (at + 17) 2))))))
+    (pick (eqb tag 6)
+    (Find (numberAt s at 8) (numberAt s (at + 8) 8) (numberAt s (at + 16) 1) (numberAt s (at + 17) 2))
+    (Reserve (numberAt s at 8)))))))
 
 -- RECORDS
 -- the record at a place has none of the defects of R71

@@ -2,13 +2,13 @@
 use Prim.Native.Nat.{ℕ, _^_, _<_}
 use mathlib.Core.List.{List}
 use lib.ListN.{getD}
-use Rattle.batch.specs.Batch.{Command, Store, Load, Erase, Mark, Unmark, Find}
+use Rattle.batch.specs.Batch.{Command, Store, Load, Erase, Mark, Unmark, Find, Reserve}
 
 pub record Bytes (s : List ℕ) : Type 0 where
   pub small : (i : ℕ) → getD s i 0 < 256
 
 -- the fields that a list or a reply can come to hold: the index and the word of a store, the last index and the budget
--- of a find
+-- of a find, the index of a reservation
 abbrev pub Fits : Command → Type 0
 Fits (Store i k w) = (i < 2 ^ 64) × (w < 2 ^ 64)
 Fits (Load i) = Unit
@@ -16,3 +16,4 @@ Fits (Erase i) = Unit
 Fits (Mark i m) = Unit
 Fits (Unmark i m) = Unit
 Fits (Find a z f k) = (z < 2 ^ 64) × (k < 2 ^ 16)
+Fits (Reserve i) = i < 2 ^ 64

@@ -2,8 +2,9 @@
 use Prim.Native.Nat.{ℕ}
 use mathlib.Core.List.{List, []}
 use Rattle.model.specs.declared.Entry.{Entry}
+use Rattle.model.specs.Model.{shown}
 use Rattle.batch.specs.Bytes.{bytesThen}
-use Rattle.batch.specs.Batch.{Command, Store, Load, Erase, Mark, Unmark, Find}
+use Rattle.batch.specs.Batch.{Command, Store, Load, Erase, Mark, Unmark, Find, Reserve}
 pub use Rattle.batch.specs.declared.Reply.{Reply}
 
 abbrev pub replyBytes : ℕ
@@ -17,6 +18,7 @@ replyTag (Erase i) = 131
 replyTag (Mark i m) = 132
 replyTag (Unmark i m) = 133
 replyTag (Find a z f k) = 134
+replyTag (Reserve i) = 135
 
 -- the 24 bytes of a reply
 abbrev pub encode : Reply → List ℕ
@@ -30,10 +32,10 @@ encode r =
     (bytesThen 1 (r .marks)
     (bytesThen 2 (r .count) [])))))))
 
--- an answer with an index and a count, or with an entry and a count; other fields are 0 (R54)
+-- an answer with an index and a count, or with an entry or a reservation and a count; other fields are 0 (R54, R202)
 abbrev pub answered : (tag answer index count : ℕ) → Reply
 answered t a i n = record { tag = t; answer = a; index = i; order = 0; word = 0; marks = 0; count = n }
 
 abbrev pub answeredBy : (tag : ℕ) → Entry → (count : ℕ) → Reply
 answeredBy t e n =
-    record { tag = t; answer = 0; index = e .base; order = e .order; word = e .word; marks = e .marks; count = n }
+    record { tag = t; answer = 0; index = e .base; order = e .order; word = shown e; marks = e .marks; count = n }

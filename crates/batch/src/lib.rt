@@ -46,6 +46,9 @@ pub enum Command {
         filter: u64,
         budget: u64,
     },
+    Reserve {
+        index: u64,
+    },
 }
 
 // A position in a batch.
@@ -136,6 +139,9 @@ fn field_bytes(tag: u64) -> usize
     if tag == 6 {
         return 19;
     }
+    if tag == 7 {
+        return 8;
+    }
     0
 }
 
@@ -195,7 +201,12 @@ fn command_at(s: &[u8], tag: u64, at: usize) -> Command
             mark: number1(s, at + 8),
         };
     }
-    find_at(s, at)
+    if tag == 6 {
+        return find_at(s, at);
+    }
+    Command::Reserve {
+        index: number8(s, at),
+    }
 }
 
 // The place after the record at a place, by its tag and length alone; 0 where the record is bad.

@@ -20,6 +20,13 @@ iff true b f g = sym (f refl)
 iff false true f g = g refl
 iff false false f g = refl
 
+pub both-i : {a b : Bool} → a ≡ true → b ≡ true → both a b ≡ true
+both-i e d = rw (e, d)
+
+pub T-true : (b : Bool) → T b → b ≡ true
+T-true true t = refl
+T-true false t = absurd t
+
 pub both-l : (a b : Bool) → both a b ≡ true → a ≡ true
 both-l true b t = refl
 both-l false b t = t

@@ -102,6 +102,10 @@ pub without-same : {A : Type 0} (p q : A → Bool) {l : List A} → All (λ x. p
 without-same p q end = refl
 without-same p q (also h a) = rw (h, without-same p q a)
 
+pub keep-none : {A : Type 0} (q : A → Bool) {l : List A} → All (λ x. q x ≡ false) l → keep q l ≡ []
+keep-none q end = refl
+keep-none q (also h a) = rw (h, keep-none q a)
+
 pub keep-same : {A : Type 0} (p q : A → Bool) {l : List A} → All (λ x. p x ≡ q x) l → keep p l ≡ keep q l
 keep-same p q end = refl
 keep-same p q (also h a) = rw (h, keep-same p q a)

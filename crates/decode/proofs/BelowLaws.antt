@@ -12,7 +12,7 @@ use Rattle.blocks.specs.Lists.{keep}
 use Rattle.model.specs.declared.Entry.{Entry}
 use Rattle.tree.specs.Tree.{slots}
 use Rattle.layout.specs.declared.Slot.{Slot}
-use Rattle.layout.specs.declared.Slot.the-variants.{Empty, Held, Sibling, Child}
+use Rattle.layout.specs.declared.Slot.the-variants.{Empty, Reserved, Held, Sibling, Child}
 use Rattle.layout.specs.Pool.{Pool, slotAt}
 use Rattle.layout.specs.Decode.{wide, span, cell, below, cellAt, entryAt}
 use Rattle.decode.proofs.Restrict.{part, inBlock}
@@ -77,6 +77,7 @@ module _ (P : Pool) where
   cell-in : (v n b j : ℕ) → ((m c : ℕ) → Every (λ e. e .base / wide v ≡ c) (below P v m c)) → (k : Slot) →
       Every (λ e. e .base / wide v ≡ slots * b + j) (cell (below P v) (entryAt P v n b j) (slots * b + j) k)
   cell-in v n b j ih Empty = tt
+  cell-in v n b j ih Reserved = (mul-div-cancel (slots * b + j) (wide-pos v), tt)
   cell-in v n b j ih Held = (mul-div-cancel (slots * b + j) (wide-pos v), tt)
   cell-in v n b j ih (Sibling o) = tt
   cell-in v n b j ih (Child m) = ih m (slots * b + j)

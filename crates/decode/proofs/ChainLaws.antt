@@ -1,18 +1,17 @@
 -- Lists in index order within bounds, and the indices that a slot covers.
 use Prim.Native.Nat.{ℕ, zero, suc, _+_, _*_, _-_, _/_, _%_, _^_, _≤_, _<_}
 use mathlib.Core.Path.{_≡_, refl, sym, ap, _∙_}
-use mathlib.Core.Bool.{not}
 use mathlib.Core.List.{List, [], _∷_, _++_}
 use native.Mathlib.Omega.{arith}
 use native.Mathlib.Nat.{mod-lt, mul-mod-left, div-add-mod', mul-le-mul-right}
-use lib.Dec.{lit<, eqb, T}
+use lib.Dec.{lit<, T}
 use lib.Pow.{pow-add}
 use borrow.Author.Tests.{ne-eqb}
-use Rattle.blocks.specs.Choice.{both}
 use Rattle.blocks.specs.Blocks.{bit}
 use Rattle.model.specs.declared.Entry.{Entry}
+use Rattle.model.specs.Model.{wordOk}
 use Rattle.tree.specs.Tree.{tierOrder, slots, slotBits}
-use Rattle.layout.specs.declared.Slot.the-variants.{Held}
+use Rattle.layout.specs.declared.Slot.the-variants.{Reserved, Held}
 use Rattle.layout.specs.Pool.{slotOf, maxRun}
 use Rattle.layout.specs.Decode.{wide}
 use Rattle.decode.proofs.Restrict.{Chain}
@@ -47,8 +46,11 @@ pub chain-append : (a b c : ℕ) (xs ys : List Entry) → Chain a xs b → Chain
 chain-append a b c [] ys p q = chain-lower a b c ys p q
 chain-append a b c (x ∷ xs) ys p q = (p .0, p .1, chain-append _ b c xs ys (p .2) q)
 
-pub held-word : (w : ℕ) → slotOf w ≡ Held → T (both (not (eqb w 0)) (not (eqb (w % 4) 2)))
-held-word w e = let q = word-of w Held e in rw (ne-eqb _ _ (q .0), ne-eqb _ _ (q .1)) tt
+pub held-word : (e : Entry) → slotOf (e .word) ≡ Held → T (wordOk e)
+held-word e k = let q = word-of (e .word) Held k in rw (ne-eqb _ _ (q .0), ne-eqb _ _ (q .1)) tt
+
+pub reserved-word : (e : Entry) → slotOf (e .word) ≡ Reserved → e .order ≡ 0 → e .marks ≡ 0 → T (wordOk e)
+reserved-word e k o m = rw (word-of (e .word) Reserved k, o, m) tt
 
 pub bit-lt : (j w : ℕ) → bit j w < 2
 bit-lt j w = mod-lt (w / 2 ^ j) (lit< tt)

@@ -9,10 +9,10 @@ use lib.ListN.{length}
 use borrow.Author.Tests.{leb-true, ltb-true, eqb-true, le-leb, lt-ltb, eq-eqb}
 use Rattle.blocks.specs.Choice.{both}
 use Rattle.blocks.specs.Blocks.{block}
-use Rattle.blocks.proofs.BoolLaws.{clash, both-l, both-r}
+use Rattle.blocks.proofs.BoolLaws.{clash, both-i, both-l, both-r, T-true}
 use Rattle.blocks.proofs.PlaceNumberLaws as N
 use Rattle.model.specs.declared.Entry.{Entry}
-use Rattle.model.specs.Model.{storable, maxOrder, EntryOk, Sorted, done, more}
+use Rattle.model.specs.Model.{wordOk, maxOrder, EntryOk, Sorted, done, more}
 use Rattle.tree.specs.Tree.{height, nodes}
 use Rattle.tree.proofs.NodeListLaws.{in-nodes, nodes-in, distinct-to}
 use Rattle.layout.specs.Words.{maxNodes, poolWords}
@@ -22,13 +22,6 @@ use Rattle.layout.specs.WellFormed.{Sized, Prescribed}
 use Rattle.layout.specs.Decide.{nodeCount, isSized, isEntry, isSorted, isPlaced, equal, isWellFormed}
 use Rattle.layout.proofs.PlacesLaws.{same-is, same-refl}
 use Rattle.decode.proofs.DecodeLaws.{decode-list, decode-places}
-
-both-i : {a b : Bool} → a ≡ true → b ≡ true → both a b ≡ true
-both-i e d = rw (e, d)
-
-T-true : (b : Bool) → T b → b ≡ true
-T-true true t = refl
-T-true false t = absurd t
 
 -- THE LENGTH
 module _ {n : ℕ} {ws : List ℕ} (s : Sized n ws) where
@@ -57,7 +50,7 @@ entry-is {e} o =
     both-i (le-leb _ _ (o .order-le))
     (both-i (eq-eqb _ _ (o .aligned))
     (both-i (lt-ltb _ _ (o .in-range))
-    (both-i (T-true (storable (e .word)) (o .word-ok))
+    (both-i (T-true (wordOk e) (o .word-ok))
     (both-i (lt-ltb _ _ (o .word-fits)) (lt-ltb _ _ (o .marks-fit))))))
 
 is-entry : (e : Entry) → isEntry e ≡ true → EntryOk e
@@ -65,12 +58,12 @@ is-entry e t =
     let a = both-r (leb (e .order) maxOrder) _ t in
     let b = both-r (eqb (block (e .order) (e .base) * 2 ^ e .order) (e .base)) _ a in
     let c = both-r (ltb (e .base) (2 ^ 64)) _ b in
-    let d = both-r (storable (e .word)) _ c in
+    let d = both-r (wordOk e) _ c in
     record {
       order-le = leb-true _ _ (both-l (leb (e .order) maxOrder) _ t);
       aligned = eqb-true _ _ (both-l (eqb (block (e .order) (e .base) * 2 ^ e .order) (e .base)) _ a);
       in-range = ltb-true _ _ (both-l (ltb (e .base) (2 ^ 64)) _ b);
-      word-ok = subst T (sym (both-l (storable (e .word)) _ c)) tt;
+      word-ok = subst T (sym (both-l (wordOk e) _ c)) tt;
       word-fits = ltb-true _ _ (both-l (ltb (e .word) (2 ^ 64)) _ d);
       marks-fit = ltb-true _ _ (both-r (ltb (e .word) (2 ^ 64)) _ d);
     }

@@ -10,11 +10,12 @@ use borrow.Author.Tests.{eqb-true, eq-eqb, ltb-true, lt-ltb}
 use Rattle.blocks.proofs.BoolLaws.{byT}
 use Rattle.model.specs.declared.Entry.{Entry}
 use Rattle.model.specs.Model.{marksOf}
+use Rattle.model.proofs.WordLaws.{by-word, storable-kind}
 use Rattle.tree.specs.Slots.{Numbering}
 use Rattle.tree.specs.Tree.{height, fits, tierOrder, slots}
 use Rattle.tree.proofs.HeightLaws.{Low, fits-order, fits-base, fits-tall, tall-fits}
 use Rattle.layout.specs.declared.Slot.{Slot}
-use Rattle.layout.specs.declared.Slot.the-variants.{Empty, Held, Child}
+use Rattle.layout.specs.declared.Slot.the-variants.{Empty, Reserved, Held, Child}
 use Rattle.layout.specs.Pool.{slotOf, Pool, slotAt}
 use Rattle.layout.specs.Decode.{wide, listIn, levelOf}
 use Rattle.decode.proofs.Restrict.{part, inBlock, Chain, lowOrder, hasLevel, Prescribes}
@@ -35,7 +36,6 @@ use Rattle.layout.proofs.SaysLaws.{said}
 use Rattle.decode.proofs.FitLaws.{chain-low, base-low}
 use Rattle.decode.proofs.ChainLaws.{wide-pow}
 use Rattle.decode.proofs.SlotsShown.{
-  word-says,
   entry-eq,
   has-parts,
   make-has,
@@ -43,6 +43,7 @@ use Rattle.decode.proofs.SlotsShown.{
   an-empty,
   a-sibling,
   an-entry,
+  a-reserved,
   a-child,
   shown,
   below-is,
@@ -144,6 +145,9 @@ module _ (P : Pool) (l : List Entry) (ν : Numbering) (R : Prescribes P l ν) wh
     low-child v b j _ (an-entry x e f) s = absurd (some-no (λ z. ⊥) (λ z q. q) (x ∷ [])
         (some-with {A = Entry} (λ z. tierOrder (suc v) ≤ z .order) (λ z. lowOrder (suc v) z ≡ true) (λ z. ⊥)
         (λ z p q. omega (arith, ltb-true (z .order) (tierOrder (suc v)) q)) (x ∷ []) (f, tt) (rw e at s)))
+    low-child v b j _ (a-reserved x e f r) s = absurd (some-no (λ z. ⊥) (λ z q. q) (x ∷ [])
+        (some-with {A = Entry} (λ z. tierOrder (suc v) ≤ z .order) (λ z. lowOrder (suc v) z ≡ true) (λ z. ⊥)
+        (λ z p q. omega (arith, ltb-true (z .order) (tierOrder (suc v)) q)) (x ∷ []) (f, tt) (rw e at s)))
     low-child v b j _ (a-child x xs e f) s = let z : suc v - 1 ≡ v = omega arith in rw z
 
     pub child-slot : (v b : ℕ) → suc v ≤ t → hasLevel l v b ≡ true →
@@ -177,10 +181,12 @@ module _ (P : Pool) (l : List Entry) (ν : Numbering) (R : Prescribes P l ν) wh
   list-lone (x ∷ []) e z =
       let hd : P .head ≡ x .word = R .head-is ∙ (rw (z, e)) in
       let vv : Chain 0 (x ∷ []) (2 ^ 64) = subst (λ (y : List Entry). Chain 0 y (2 ^ 64)) e (R .valid) in
-      let k : slotOf (P .head) ≡ Held = rw hd (said (x .word) Held (word-says (x .word) (vv .1 .word-ok))) in
+      let k : listIn P ≡ record { base = 0; order = 0; word = P .head; marks = P .marks } ∷ [] = by-word x (vv .1 .word-ok)
+      (λ s. let q : slotOf (P .head) ≡ Held = rw hd (said (x .word) Held (storable-kind (x .word) s)) in rw q)
+      (λ r o m. let q : slotOf (P .head) ≡ Reserved = said (P .head) Reserved (hd ∙ r) in rw q) in
       let zz : Every (λ e. (e .base ≡ 0) × (e .order ≡ 0)) (x ∷ []) = subst
       (λ (s : List Entry). Every (λ e. (e .base ≡ 0) × (e .order ≡ 0)) s) e (at-zero z) in
-      rw (k, e) (ap (λ (y : Entry). y ∷ []) (entry-eq (record
+      rw e (k ∙ ap (λ (y : Entry). y ∷ []) (entry-eq (record
       { base = 0; order = 0; word = P .head; marks = P .marks }) x (sym (zz .0 .0)) (sym (zz .0 .1)) hd
       (R .marks-are ∙ ap marksOf e ∙ marks-one x (vv .1 .marks-fit))))
   list-lone (x ∷ y ∷ xs) e z = two-apart x y xs e z

@@ -3,14 +3,14 @@
 -- same recursion. That it is the tree of `Tree` on valid lists is shown in SameTree.
 use Prim.Native.Nat.{ℕ, zero, suc, _+_, _*_, _-_, _/_, _%_, _^_, _≤_, _<_}
 use mathlib.Core.Path.{_≡_}
-use mathlib.Core.Bool.{Bool, true, not}
+use mathlib.Core.Bool.{Bool, true}
 use mathlib.Core.List.{List, [], _∷_}
 use mathlib.Core.Option.{Option, none, some}
 use lib.Dec.{leb, ltb, eqb, T}
 use Rattle.blocks.specs.Choice.{pick, both}
 use Rattle.blocks.specs.Lists.{any, keep, first}
 use Rattle.model.specs.declared.Entry.{Entry}
-use Rattle.model.specs.Model.{covers, hasMark, marksOf}
+use Rattle.model.specs.Model.{wordOk, covers, hasMark, marksOf}
 use Rattle.tree.specs.Tree.{height, tierOrder, slots}
 use Rattle.tree.specs.Slots.{nodeWord, siblingWord, Numbering}
 use Rattle.layout.specs.Pool.{slotOf, Pool, Free, slotAt}
@@ -67,7 +67,7 @@ headSlot l ν (suc v) = nodeWord (ν v 0)
 pub record EntryGood (e : Entry) : Type 0 where
   pub order-le : e .order ≤ 63
   pub aligned : e .base % 2 ^ e .order ≡ 0
-  pub word-ok : T (both (not (eqb (e .word) 0)) (not (eqb (e .word % 4) 2)))
+  pub word-ok : T (wordOk e)
   pub word-fits : e .word < 2 ^ 64
   pub marks-fit : e .marks < 8
 

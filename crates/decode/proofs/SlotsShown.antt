@@ -2,7 +2,7 @@
 use Prim.Native.Nat.{ℕ, zero, suc, _+_, _*_, _-_, _/_, _%_, _^_, _≤_, _<_}
 use mathlib.Core.Path.{_≡_, refl, sym, ap, _∙_, subst}
 use mathlib.Core.Logic.{inl, inr, _≢_}
-use mathlib.Core.Bool.{Bool, true, false, not}
+use mathlib.Core.Bool.{Bool, true, false}
 use mathlib.Core.List.{List, [], _∷_}
 use mathlib.Core.Option.{Option, none, some}
 use native.Mathlib.Omega.{arith}
@@ -24,11 +24,12 @@ use Rattle.blocks.specs.Choice.{pick, both}
 use Rattle.blocks.specs.Lists.{any, first}
 use Rattle.blocks.specs.Blocks.{bit}
 use Rattle.model.specs.declared.Entry.{Entry}
-use Rattle.model.specs.Model.{covers, hasMark}
+use Rattle.model.specs.Model.{reserved, covers, hasMark}
+use Rattle.model.proofs.WordLaws.{by-word, storable-kind}
 use Rattle.tree.specs.Slots.{siblingWord, nodeWord, Numbering}
 use Rattle.tree.specs.Tree.{height, tierOrder, slots, slotBits}
 use Rattle.layout.specs.declared.Slot.{Slot}
-use Rattle.layout.specs.declared.Slot.the-variants.{Empty, Held, Sibling, Child}
+use Rattle.layout.specs.declared.Slot.the-variants.{Empty, Reserved, Held, Sibling, Child}
 use Rattle.layout.specs.Pool.{slotOf, Pool, slotAt, run, runFrom, maxRun}
 use Rattle.layout.specs.Decode.{wide, entryAt, cell, cellAt, below}
 use Rattle.decode.proofs.Restrict.{
@@ -107,12 +108,6 @@ slot-end j r small lt e =
     (λ t. let q : (j / R + 1) * R ≤ A * R = mul-le-mul-right R (omega (arith, ltb-true (j / R) A t)) in omega arith)
     (λ t. absurd (let q : A * R ≤ j / R * R = mul-le-mul-right R (ltb-false (j / R) A t) in omega arith))
 
-pub word-says : (w : ℕ) → T (both (not (eqb w 0)) (not (eqb (w % 4) 2))) → (w ≢ 0) × (w % 4 ≢ 2)
-word-says w t =
-    byT (eqb w 0)
-    (λ e. absurd (rw e at t))
-    (λ e. byT (eqb (w % 4) 2) (λ f. absurd (rw (e, f) at t)) (λ f. (eqb-false w 0 e, eqb-false (w % 4) 2 f)))
-
 pub entry-eq : (x y : Entry) → x .base ≡ y .base → x .order ≡ y .order → x .word ≡ y .word → x .marks ≡ y .marks →
     x ≡ y
 entry-eq x y p q r s = λ i. record { base = p i; order = q i; word = r i; marks = s i }
@@ -154,6 +149,8 @@ module _ (P : Pool) (l : List Entry) (ν : Numbering) (R : Prescribes P l ν) wh
         first (covers ((slots * b + j) * wide v)) (part (wide (suc v)) b l) ≡ some y →
         Shown v b j (Sibling (y .base / wide v % slots))
     an-entry : (x : Entry) → part (wide v) (slots * b + j) l ≡ x ∷ [] → tierOrder v ≤ x .order → Shown v b j Held
+    a-reserved : (x : Entry) → part (wide v) (slots * b + j) l ≡ x ∷ [] → tierOrder v ≤ x .order →
+        reserved x ≡ true → Shown v b j Reserved
     a-child : (x : Entry) (xs : List Entry) → part (wide v) (slots * b + j) l ≡ x ∷ xs →
         Every (λ e. e .order < tierOrder v) (x ∷ xs) → Shown v b j (Child (ν (v - 1) (slots * b + j)))
 
@@ -168,16 +165,15 @@ module _ (P : Pool) (l : List Entry) (ν : Numbering) (R : Prescribes P l ν) wh
           → Shown v b j (slotOf (siblingOf v o))
       emptied e none f = rw (said 0 Empty refl) (an-empty e f)
       emptied e (some y) f = rw (said (siblingWord (y .base / wide v % slots)) (Sibling (y .base / wide v % slots))
-          (refl, omega arith)) (a-sibling y e f)
+          (refl, omega arith, omega arith)) (a-sibling y e f)
 
       go : (xs : List Entry) → part (wide v) c l ≡ xs → Shape v xs → Shown v b j (slotOf (partWord l ν v c xs))
       go _ e empty = let q : c / slots ≡ b = omega arith in
           rw q (emptied e (first (covers (c * wide v)) (part (wide (suc v)) b l)) refl)
-      go _ e (one x h) = rw (
-        le-leb (tierOrder v) (x .order) h,
-        said (x .word) Held (word-says (x .word) ((mem-ok x (from-within (wide v) c x (rw e (inl refl))))
-            .word-ok)),
-      ) (an-entry x e h)
+      go _ e (one x h) = rw (le-leb (tierOrder v) (x .order) h)
+          (by-word x (mem-ok x (from-within (wide v) c x (rw e (inl refl))) .word-ok)
+          (λ s. rw (said (x .word) Held (storable-kind (x .word) s)) (an-entry x e h))
+          (λ r o m. rw (said (x .word) Reserved r) (a-reserved x e h (eq-eqb _ _ r))))
       go _ e (low x xs p q) = rw (
         lt-leb (tierOrder v) (x .order) p,
         said (nodeWord (ν (v - 1) c)) (Child (ν (v - 1) c)) refl,
@@ -295,6 +291,7 @@ module _ (P : Pool) (l : List Entry) (ν : Numbering) (R : Prescribes P l ν) wh
         (subst (λ (z : ℕ). (slots * b + i) * wide v < z) (F .end-is) c) in
         omega arith
     not-after i _ (an-entry y e f) k h = absurd (let z : _≡_ {A = ℕ} 0 1 = cc in omega arith)
+    not-after i _ (a-reserved y e f r) k h = absurd (let z : _≡_ {A = ℕ} 0 1 = cc in omega arith)
     not-after i _ (a-child y ys e f) k h = absurd (let z : _≡_ {A = ℕ} 0 1 = cc in omega arith)
 
     tests : (a : ℕ) → both (ltb (j + 2 ^ a) slots) (eqb (P .slot (ν v b) (j + 2 ^ a)) (siblingWord j)) ≡ ltb a (F .r)
@@ -317,7 +314,7 @@ module _ (P : Pool) (l : List Entry) (ν : Numbering) (R : Prescribes P l ν) wh
         g in
         let ff : j + 2 ^ a < slots = ltb-true (j + 2 ^ a) slots f in
         let n = not-after (j + 2 ^ a) (slotAt P (ν v b) (j + 2 ^ a)) (shown v b (j + 2 ^ a) t ff)
-        (said _ (Sibling j) (gg, omega arith)) ff in
+        (said _ (Sibling j) (gg, omega arith, omega arith)) ff in
         absurd (omega (arith, n)))
         (λ g. rw (e, f, g)))
         (λ f. rw (e, f)))
@@ -374,6 +371,7 @@ module _ (P : Pool) (l : List Entry) (ν : Numbering) (R : Prescribes P l ν) wh
   cell-is v b j t lt ih _ (an-empty e f) = sym e
   cell-is v b j t lt ih _ (a-sibling y e f) = sym e
   cell-is v b j t lt ih _ (an-entry x e f) = rw (e, entry-is v b j x t lt e f)
+  cell-is v b j t lt ih _ (a-reserved x e f r) = rw (e, entry-is v b j x t lt e f)
   cell-is v b j t lt ih _ (a-child x xs e f) = ih (slots * b + j) (rw e (inl tt)) (rw e f)
 
   pub has-child : (v c : ℕ) → suc v < height l → Some (λ e. Unit {0}) (part (wide (suc v)) c l) →

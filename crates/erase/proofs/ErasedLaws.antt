@@ -10,11 +10,11 @@ use lib.Dec.{leb}
 use lib.ListN.{getD, set, length-set}
 use lib.Seq.{getD-set-same, getD-set-other}
 use Rattle.blocks.specs.Blocks.{setBit}
-use Rattle.blocks.proofs.BoolLaws.{clash, both-r}
+use Rattle.blocks.proofs.BoolLaws.{clash, both-r, byT}
 use Rattle.blocks.proofs.ListLaws.{first-yes, look, each, without-all}
 use Rattle.blocks.specs.Lists.{In}
 use Rattle.model.specs.declared.Entry.{Entry}
-use Rattle.model.specs.Model.{Valid, done, covers, covering, withMark, remark, erase}
+use Rattle.model.specs.Model.{Valid, done, covers, covering, withMark, remark, erase, reserved}
 use Rattle.model.proofs.ValidLaws.{sorted-ok, erase-none}
 use Rattle.tree.specs.Tree.{height, Node}
 use Rattle.tree.proofs.RelabelLaws.{mapO, covering-map, height-map}
@@ -30,6 +30,7 @@ use Rattle.erase.proofs.LowerLaws.{tall-none, slot-nil}
 use Rattle.tree.proofs.NodeListLaws.{has-tier}
 use Rattle.layout.proofs.SparesLaws.{in-use-spares}
 use Rattle.layout.proofs.RenderWordLaws.{pool-length, pool-anchor, pool-node, place-of}
+use Rattle.model.proofs.WordLaws.{reserved-bare}
 
 -- all three marks off
 zero3 : (w : ℕ) → w < 8 → setBit 2 false (setBit 1 false (setBit 0 false w)) ≡ 0
@@ -58,8 +59,9 @@ all-off l val i e q = go (covering l i) refl (sym (covering-map (withMark i 2 fa
     go (some x) r z =
         let (cv, m) = first-yes (covers i) (each l (λ x m. m)) r in
         let d : withMark i 2 false (withMark i 1 false (withMark i 0 false x)) ≡ e = cc in
-        let k : withMark i 2 false (withMark i 1 false (withMark i 0 false x)) .marks ≡ 0 = rw cv
-        (zero3 (x .marks) (look (sorted-ok val) m .marks-fit)) in
+        let ok = look (sorted-ok val) m in
+        let k : withMark i 2 false (withMark i 1 false (withMark i 0 false x)) .marks ≡ 0 = byT (reserved x)
+        (λ t. rw (cv, t) (reserved-bare x (ok .word-ok) t .1)) (λ t. rw (cv, t) (zero3 (x .marks) (ok .marks-fit))) in
         ap (λ (y : Entry). y .marks) (sym d) ∙ k
 
 pub bare-erase : (l : List Entry) (i : ℕ) → erase (bareList l i) i ≡ erase l i

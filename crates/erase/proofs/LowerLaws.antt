@@ -56,7 +56,7 @@ use Rattle.layout.proofs.RenderLaws.{render-is}
 use Rattle.layout.proofs.PlacesLaws.{number-prune}
 use Rattle.layout.specs.Pool.{slotOf}
 use Rattle.layout.specs.declared.Slot.{Slot}
-use Rattle.layout.specs.declared.Slot.the-variants.{Empty, Held, Sibling, Child}
+use Rattle.layout.specs.declared.Slot.the-variants.{Empty, Reserved, Held, Sibling, Child}
 use Rattle.layout.proofs.NumberLaws.{nd, prune-get, number-at, number-of}
 use Rattle.layout.proofs.SlotWordLaws.{View, view}
 use Rattle.lookup.proofs.WayLaws.{view-child, view-empty, view-held, view-sibling}
@@ -203,7 +203,7 @@ module _ {n h : ℕ} {l : List Entry} {os : Places} {ws : List ℕ} (w : Tall n 
       go [] w f = tall-none w
       go (x ∷ l) w f = absurd (f x here)
 
-  pub head-held : k ≡ Held → ⊥
+  pub head-held : (k ≡ Held) ⊎ (k ≡ Reserved) → ⊥
   head-held e = let (x, t, c, b) = view-held seen-head e in
       not-over x (first-yes (covers (0 * 2 ^ (tierOrder (suc h)))) (each l (λ x m. m)) c .1) t
 
@@ -378,7 +378,7 @@ module _ {k h : ℕ} {l : List Entry} {os : Places} {ws : List ℕ} (w₀ : Tall
             omega arith
 
     -- an entry of order 6 or more in slot 0 keeps the head
-    pub stay-held : s ≡ Held → (h ≡ 1 → ⊥) → ws ≡ render l (prune l os) k
+    pub stay-held : (s ≡ Held) ⊎ (s ≡ Reserved) → (h ≡ 1 → ⊥) → ws ≡ render l (prune l os) k
     stay-held e ne =
         let (y, t, c, b) = view-held seen-0 e in
         let m : In y l = first-yes (covers (0 * 2 ^ (tierOrder (h - 1)))) (each l (λ x m. m)) c .1 in
@@ -431,7 +431,7 @@ module _ {k h : ℕ} {l : List Entry} {os : Places} {ws : List ℕ} (w₀ : Tall
           (λ i f p lt a b. rest (place i f) (λ c d. a (omega (arith, num₁))) (λ c. b t (omega arith) (omega arith))
           (omega arith))
 
-      pub drop-held : s ≡ Held → h ≡ 1 → {ws′ : List ℕ} → length ws′ ≡ length ws →
+      pub drop-held : (s ≡ Held) ⊎ (s ≡ Reserved) → h ≡ 1 → {ws′ : List ℕ} → length ws′ ≡ length ws →
           ((j : ℕ) → poolWords n ≤ j → j < nodeEnd n → getD ws′ j 0 ≡ 0) → getD ws′ headWord 0 ≡ x →
           ((j : ℕ) → (poolWords n ≤ j → j < nodeEnd n → ⊥) → j ≢ headWord → getD ws′ j 0 ≡ getD ws j 0) →
           Tall k (h - 1) l os ws′
@@ -457,7 +457,7 @@ module _ {k h : ℕ} {l : List Entry} {os : Places} {ws : List ℕ} (w₀ : Tall
   pub top-empty : s ≡ Empty → ws ≡ render l (prune l os) k
   top-empty e = head-empty w₁ r q e
 
-  pub top-held : s ≡ Held → ⊥
+  pub top-held : (s ≡ Held) ⊎ (s ≡ Reserved) → ⊥
   top-held e = head-held w₁ r q e
 
   pub top-sibling : (j : ℕ) → s ≡ Sibling j → ⊥

@@ -108,6 +108,13 @@ fn drop_head(pool: &mut [u64], n: u64, h: u64) -> bool
         }
         Slot::Empty => false,
         Slot::Sibling(_) => false,
+        Slot::Reserved => {
+            if h > 1 {
+                return false;
+            }
+            free_head(pool, n, x);
+            true
+        }
     }
 }
 
@@ -138,6 +145,9 @@ fn shrink(pool: &mut [u64], top: u64, low: u64) -> u64
                 return floor;
             }
             Slot::Sibling(_) => {
+                return floor;
+            }
+            Slot::Reserved => {
                 return floor;
             }
         }

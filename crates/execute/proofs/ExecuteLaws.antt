@@ -1,19 +1,20 @@
 -- A command keeps a state: the list stays valid, and every node of its tree stands at one number.
-use Prim.Native.Nat.{ℕ, _-_, _^_, _≤_, _<_}
+use Prim.Native.Nat.{ℕ, _-_, _^_, _≤_, _<_, _%_}
 use mathlib.Core.Path.{_≡_, refl, sym, ap, subst}
 use mathlib.Core.Bool.{Bool, true, false, not}
 use mathlib.Core.List.{List, []}
 use mathlib.Core.Option.{Option, none, some}
 use native.Mathlib.Omega.{arith}
-use lib.Dec.{leb, ltb, eqb, T}
+use lib.Dec.{leb, ltb, eqb, T, lit<}
 use lib.ListN.{length}
-use borrow.Author.Tests.{ltb-false, leb-false, lt-ltb, le-ltb}
+use borrow.Author.Tests.{ltb-false, leb-false, lt-ltb, le-ltb, eq-eqb}
 use Rattle.blocks.specs.Lists.{All, end, also}
-use Rattle.blocks.proofs.BoolLaws.{byT, not-false}
+use Rattle.blocks.proofs.BoolLaws.{byT, not-false, T-true}
 use Rattle.model.specs.declared.Entry.{Entry}
 use Rattle.model.specs.Model.{
   Valid,
   storable,
+  reservedWord,
   maxOrder,
   aligned,
   markCount,
@@ -24,8 +25,8 @@ use Rattle.model.specs.Model.{
   remark,
   withMark,
 }
-use Rattle.model.proofs.ValidLaws.{store-valid, erase-valid, erase-clear, erase-none}
-use Rattle.model.proofs.AlignedLaws.{store-is}
+use Rattle.model.proofs.ValidLaws.{store-valid, store-at-valid, erase-valid, erase-clear, erase-none}
+use Rattle.model.proofs.AlignedLaws.{store-is, bare-is}
 use Rattle.tree.specs.Tree.{nodes, newNodes, needed}
 use Rattle.tree.proofs.ChangeLaws.{clear-new}
 use Rattle.tree.proofs.RelabelLaws.{new-nodes-map}
@@ -35,11 +36,12 @@ use Rattle.layout.proofs.StayLaws.{none-new}
 use Rattle.lookup.specs.Find.{anyMark}
 use Rattle.marks.proofs.RemarkLaws.{sorted-remark}
 use Rattle.batch.specs.declared.Command.{Command}
-use Rattle.batch.specs.declared.Command.the-variants.{Store, Load, Erase, Mark, Unmark, Find}
+use Rattle.batch.specs.declared.Command.the-variants.{Store, Load, Erase, Mark, Unmark, Find, Reserve}
 use Rattle.batch.specs.Reply.{replyTag}
 use Rattle.batch.specs.Fits.{Fits}
-use Rattle.execute.specs.Execute.{execute, short, refuse, replyOf, tooFewNodes}
+use Rattle.execute.specs.Execute.{execute, short, refuse, replyOf, tooFewNodes, reserving, isTaken}
 use Rattle.execute.specs.State.{State, next, states}
+use Rattle.tree.proofs.ReadLaws.{over-none}
 
 -- COMMANDS THAT ONLY READ leave the list
 pub load-list : (n : ℕ) (l : List Entry) (i : ℕ) → execute n l (Load i) .list ≡ l
@@ -83,7 +85,18 @@ marked n {l} i m b h v = no-node n l (remark l i m b) (sorted-remark i m b h v) 
 store-keeps : (l : List Entry) (i k w : ℕ) → aligned k i ≡ true → Valid l → i < 2 ^ 64 → k ≤ maxOrder → T (storable w) →
     w < 2 ^ 64 → Valid (store l i k w)
 store-keeps l i k w al v i< k≤ st w< =
-    rw (store-is i k al l w) (sorted-remark i matchedMark false (omega arith) (store-valid i k w v i< k≤ st w<))
+    rw (store-is i k al l w (T-true _ st)) (sorted-remark i matchedMark false (omega arith) (store-valid i k w v i< k≤ st w<))
+
+-- every index is a multiple of 1
+pub index-aligned : (i : ℕ) → aligned 0 i ≡ true
+index-aligned i = eq-eqb (i % 2 ^ 0) 0 (omega arith)
+
+-- and so does a reservation (R201)
+reserve-keeps : (l : List Entry) (i : ℕ) → Valid l → i < 2 ^ 64 → covering l i ≡ none → Valid (store l i 0 reservedWord)
+reserve-keeps l i v i< q =
+    let n = over-none l i 0 q in
+    rw (bare-is i 0 (index-aligned i) l reservedWord refl n, n)
+    (store-at-valid i 0 reservedWord l v n i< (omega arith) tt (lit< tt))
 
 module _ (n : ℕ) (l : List Entry) (v : Valid l) where
   stored : (i k w : ℕ) → i < 2 ^ 64 → w < 2 ^ 64 → Keeps n l (execute n l (Store i k w) .list)
@@ -101,6 +114,15 @@ module _ (n : ℕ) (l : List Entry) (v : Valid l) where
         enough = ltb-false _ _ d;
       })))))
 
+  reserved-keeps : (i : ℕ) → i < 2 ^ 64 → (o : Option Entry) → covering l i ≡ o → Keeps n l (reserving n 135 l i o .list)
+  reserved-keeps i i< (some e) q = stays n v
+  reserved-keeps i i< none q =
+      byT (short n l (store l i 0 reservedWord)) (λ d. rw d (stays n v))
+      (λ d. rw d (record {
+        valid = reserve-keeps l i v i< q;
+        enough = ltb-false _ _ d;
+      }))
+
   -- every command
   pub execute-keeps : (c : Command) → Fits c → Keeps n l (execute n l c .list)
   unfolding execute
@@ -112,6 +134,7 @@ module _ (n : ℕ) (l : List Entry) (v : Valid l) where
   execute-keeps (Unmark i m) f =
       byT (leb markCount m) (λ t. rw t (stays n v)) (λ t. rw t (marked n i m false (leb-false _ _ t) v))
   execute-keeps (Find a z f k) _ = rw (find-list n l a z f k) (stays n v)
+  execute-keeps (Reserve i) f = reserved-keeps i f (covering l i) refl
 
 -- STATES
 pub record Kept (n : ℕ) (s : State) : Type 0 where
@@ -145,3 +168,21 @@ module _ (n : ℕ) (l : List Entry) (i k w : ℕ) (k≤ : k ≤ maxOrder) (al : 
       ≡ record { reply = replyOf (replyTag (Store i k w)) 0 (covering (store l i k w) i); list = store l i k w }
   unfolding execute
   enough-0 h = rw (le-ltb maxOrder k k≤, al, st, le-ltb (n - length (nodes l)) (needed l (store l i k w)) h)
+
+-- A RESERVATION: 15 where the index is covered, else exactly as a store
+module _ (n : ℕ) (l : List Entry) (i : ℕ) where
+  pub taken-15 : {e : Entry} → covering l i ≡ some e → execute n l (Reserve i) ≡ refuse l 135 isTaken
+  unfolding execute
+  taken-15 q = rw q
+
+  module _ (q : covering l i ≡ none) where
+    pub reserve-11 : n - length (nodes l) < needed l (store l i 0 reservedWord) →
+        execute n l (Reserve i) ≡ refuse l 135 tooFewNodes
+    unfolding execute
+    reserve-11 h = rw (q, lt-ltb (n - length (nodes l)) (needed l (store l i 0 reservedWord)) h)
+
+    pub reserve-0 : needed l (store l i 0 reservedWord) ≤ n - length (nodes l) →
+        execute n l (Reserve i)
+        ≡ record { reply = replyOf 135 0 (covering (store l i 0 reservedWord) i); list = store l i 0 reservedWord }
+    unfolding execute
+    reserve-0 h = rw (q, le-ltb (n - length (nodes l)) (needed l (store l i 0 reservedWord)) h)

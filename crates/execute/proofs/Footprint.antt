@@ -17,31 +17,34 @@ use Rattle.model.specs.declared.Entry.{Entry}
 use Rattle.model.specs.Model.{
   Valid,
   storable,
+  reservedWord,
   maxOrder,
   aligned,
   markCount,
   matchedMark,
   covers,
   covering,
+  present,
   over,
   withWord,
   withMark,
   store,
   remark,
 }
-use Rattle.model.proofs.AlignedLaws.{base-aligned, store-is}
+use Rattle.model.proofs.AlignedLaws.{base-aligned, store-is, bare-is}
 use Rattle.model.proofs.RangeLaws.{Room}
 use Rattle.model.proofs.ValidLaws.{sorted-ok, room, room-some, erase-clear, erase-none}
+use Rattle.model.proofs.WordLaws.{present-some}
 use Rattle.tree.proofs.ReadLaws.{over-some, over-none}
-use Rattle.marks.proofs.RemarkLaws.{remark-none}
+use Rattle.marks.proofs.RemarkLaws.{remark-absent}
 use Rattle.layout.specs.Places.{Places, newPlaces, wordAt, render}
 use Rattle.layout.proofs.StayLaws.{same-places}
 use Rattle.batch.specs.declared.Command.{Command}
-use Rattle.batch.specs.declared.Command.the-variants.{Store, Load, Erase, Mark, Unmark, Find}
+use Rattle.batch.specs.declared.Command.the-variants.{Store, Load, Erase, Mark, Unmark, Find, Reserve}
 use Rattle.execute.specs.Execute.{execute, short}
 use Rattle.execute.specs.State.{State, next}
 use Rattle.execute.specs.Part.{rangeOf, addressed, changing, mayWrite}
-use Rattle.execute.proofs.ExecuteLaws.{Kept, load-list, find-list}
+use Rattle.execute.proofs.ExecuteLaws.{Kept, load-list, find-list, index-aligned}
 use Rattle.execute.proofs.LocalLaws.{
   Agree,
   agree-store,
@@ -53,7 +56,7 @@ use Rattle.execute.proofs.LocalLaws.{
   only-stored,
 }
 use Rattle.execute.proofs.PartLaws.{word-same}
-use Rattle.execute.proofs.TableLaws.{covered-0, covering-marked, covering-stored}
+use Rattle.execute.proofs.TableLaws.{covered-0, present-marked, covering-stored, covering-reserved}
 
 -- a command leaves the list, or is done and changes it within the range that it addresses
 abbrev Within : ℕ → List Entry → Command → Type 0
@@ -78,14 +81,14 @@ module _ (n : ℕ) (l : List Entry) (v : Valid l) where
 
   mark-within : (i m : ℕ) → Within n l (Mark i m)
   unfolding execute
-  mark-within i m = byT (leb markCount m) (λ t. inl (rw t)) (λ t. go t (covering l i) refl)
+  mark-within i m = byT (leb markCount m) (λ t. inl (rw t)) (λ t. go t (present (covering l i)) refl)
     where
-      go : leb markCount m ≡ false → (o : Option Entry) → covering l i ≡ o → Within n l (Mark i m)
-      go t none q = inl (rw t (remark-none l i m true q))
-      go t (some e) q =
+      go : leb markCount m ≡ false → (o : Option Entry) → present (covering l i) ≡ o → Within n l (Mark i m)
+      go t none q = inl (rw t (remark-absent l i m true v q))
+      go t (some e) p = let q = present-some (covering l i) p .0 in
           inr (
             refl,
-            rw t (covered-0 132 0 _ (covering-marked l i m true q)),
+            rw t (covered-0 132 0 _ (present-marked l i m true p)),
             rw (q, le-leb 0 (e .order) (omega arith)) (entry-range i q),
             rw (t, q, le-leb 0 (e .order) (omega arith))
                 (agree-mark i m true q),
@@ -93,14 +96,14 @@ module _ (n : ℕ) (l : List Entry) (v : Valid l) where
 
   unmark-within : (i m : ℕ) → Within n l (Unmark i m)
   unfolding execute
-  unmark-within i m = byT (leb markCount m) (λ t. inl (rw t)) (λ t. go t (covering l i) refl)
+  unmark-within i m = byT (leb markCount m) (λ t. inl (rw t)) (λ t. go t (present (covering l i)) refl)
     where
-      go : leb markCount m ≡ false → (o : Option Entry) → covering l i ≡ o → Within n l (Unmark i m)
-      go t none q = inl (rw t (remark-none l i m false q))
-      go t (some e) q =
+      go : leb markCount m ≡ false → (o : Option Entry) → present (covering l i) ≡ o → Within n l (Unmark i m)
+      go t none q = inl (rw t (remark-absent l i m false v q))
+      go t (some e) p = let q = present-some (covering l i) p .0 in
           inr (
             refl,
-            rw t (covered-0 133 0 _ (covering-marked l i m false q)),
+            rw t (covered-0 133 0 _ (present-marked l i m false p)),
             rw (q, le-leb 0 (e .order) (omega arith)) (entry-range i q),
             rw (t, q, le-leb 0 (e .order) (omega arith))
                 (agree-mark i m false q),
@@ -133,27 +136,28 @@ module _ (n : ℕ) (l : List Entry) (v : Valid l) where
         rw (t, q, h) (agree-map (withWord i w) (λ x. refl) (λ x. refl) i (λ x z. rw z) (only-found i v q))
 
     -- the new entry, then its mark 2
-    agree-new : aligned k i ≡ true → any (over i k) l ≡ false → Agree i k l (store l i k w)
-    agree-new al t =
+    agree-new : aligned k i ≡ true → storable w ≡ true → any (over i k) l ≡ false → Agree i k l (store l i k w)
+    agree-new al st t =
         let r : All (Room i k) l = room l i k t in
-        rw (store-is i k al l w, t)
+        rw (store-is i k al l w st, t)
         (agree-then i k (agree-store i k w l r)
         (agree-move (block k i * 2 ^ k) i k (block-at k (block k i))
         (agree-map (withMark i matchedMark false) (λ x. refl) (λ x. refl) i (λ x z. rw z) (only-stored i k w l r))))
 
-    fresh : aligned k i ≡ true → (o : Option Entry) → covering l i ≡ o → any (over i k) l ≡ false →
+    fresh : aligned k i ≡ true → storable w ≡ true → (o : Option Entry) → covering l i ≡ o → any (over i k) l ≡ false →
         Agree (rangeOf (record { index = i; order = k }) o .index)
         (rangeOf (record { index = i; order = k }) o .order) l (store l i k w)
-    fresh al o q t = rw (range o q) (agree-new al t)
+    fresh al st o q t = rw (range o q) (agree-new al st t)
       where
         range : (o : Option Entry) → covering l i ≡ o →
             rangeOf (record { index = i; order = k }) o ≡ record { index = i; order = k }
         range none q = refl
         range (some e) q = rw (sym (over-some l i k e v q) ∙ t)
 
-    within-range : aligned k i ≡ true →
+    within-range : aligned k i ≡ true → storable w ≡ true →
         Agree (addressed l (Store i k w) .index) (addressed l (Store i k w) .order) l (store l i k w)
-    within-range al = byT (any (over i k) l) (λ t. found (covering l i) refl t) (λ t. fresh al (covering l i) refl t)
+    within-range al st =
+        byT (any (over i k) l) (λ t. found (covering l i) refl t) (λ t. fresh al st (covering l i) refl t)
       where
         found : (o : Option Entry) → covering l i ≡ o → any (over i k) l ≡ true →
             Agree (rangeOf (record { index = i; order = k }) (covering l i) .index)
@@ -175,12 +179,33 @@ module _ (n : ℕ) (l : List Entry) (v : Valid l) where
         (λ a. byT (not (storable w)) (λ s. inl (rw (t, a, s)))
         (λ s. byT (short n l (store l i k w)) (λ d. inl (rw (t, a, s, d)))
         (λ d. let al : aligned k i ≡ true = not-false _ a in
+        let st : storable w ≡ true = not-false _ s in
         inr (
           refl,
-          rw (t, a, s, d) (covered-0 129 0 _ (covering-stored l i k w al .1)),
+          rw (t, a, s, d) (covered-0 129 0 _ (covering-stored l i k w al st .1)),
           range-aligned al (covering l i) refl,
-          rw (t, a, s, d) (within-range al),
+          rw (t, a, s, d) (within-range al st),
         )))))
+
+  -- RESERVE
+  reserve-within : (i : ℕ) → Within n l (Reserve i)
+  unfolding execute
+  reserve-within i = go (covering l i) refl
+    where
+      agree : covering l i ≡ none → Agree i 0 l (store l i 0 reservedWord)
+      agree q = let t : any (over i 0) l ≡ false = over-none l i 0 q in
+          rw (bare-is i 0 (index-aligned i) l reservedWord refl t, t) (agree-store i 0 reservedWord l (room l i 0 t))
+
+      go : (o : Option Entry) → covering l i ≡ o → Within n l (Reserve i)
+      go (some e) q = inl (rw q)
+      go none q =
+          byT (short n l (store l i 0 reservedWord)) (λ d. inl (rw (q, d)))
+          (λ d. inr (
+            refl,
+            rw (q, d) (covered-0 135 0 _ (covering-reserved l i q)),
+            index-aligned i,
+            rw (q, d) (agree q),
+          ))
 
   within : (c : Command) → Within n l c
   within (Store i k w) = store-within i k w
@@ -189,6 +214,7 @@ module _ (n : ℕ) (l : List Entry) (v : Valid l) where
   within (Mark i m) = mark-within i m
   within (Unmark i m) = unmark-within i m
   within (Find a z f k) = inl (find-list n l a z f k)
+  within (Reserve i) = reserve-within i
 
 -- R41
 pub footprint : (n : ℕ) (s : State) → Kept n s → (c : Command) (w : ℕ) → mayWrite n s c w ≡ false →

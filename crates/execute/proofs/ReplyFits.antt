@@ -12,8 +12,9 @@ use Rattle.blocks.specs.Blocks.{block}
 use Rattle.blocks.proofs.BoolLaws.{byT}
 use Rattle.blocks.proofs.ListLaws.{first-yes, each, look}
 use Rattle.model.specs.declared.Entry.{Entry}
-use Rattle.model.specs.Model.{EntryOk, Valid, storable, maxOrder, aligned, markCount, covers, covering, store}
+use Rattle.model.specs.Model.{EntryOk, Valid, storable, reservedWord, reserved, present, maxOrder, aligned, markCount, covers, covering, store}
 use Rattle.model.proofs.ValidLaws.{sorted-ok}
+use Rattle.model.proofs.WordLaws.{present-some}
 use Rattle.tree.specs.Tree.{has, height, tierOrder, topTier}
 use Rattle.lookup.specs.Load.{depth, depthTo}
 use Rattle.lookup.specs.declared.Outcome.{Outcome}
@@ -21,10 +22,10 @@ use Rattle.lookup.specs.Find.{anyMark, meets}
 use Rattle.lookup.proofs.FindLaws.{Right, right-found, right-ended, right-paused, find-right}
 use Rattle.tree.proofs.HeightLaws.{height-most}
 use Rattle.batch.specs.declared.Command.{Command}
-use Rattle.batch.specs.declared.Command.the-variants.{Store, Load, Erase, Mark, Unmark, Find}
+use Rattle.batch.specs.declared.Command.the-variants.{Store, Load, Erase, Mark, Unmark, Find, Reserve}
 use Rattle.batch.specs.Reply.{answered, answeredBy}
 use Rattle.batch.specs.Fits.{Fits}
-use Rattle.execute.specs.Execute.{execute, replyOf, finding, short}
+use Rattle.execute.specs.Execute.{execute, replyOf, finding, short, reserving}
 use Rattle.execute.specs.Widths.{FitsReply}
 use Rattle.execute.proofs.ExecuteLaws.{execute-keeps}
 
@@ -59,7 +60,7 @@ module _ {l : List Entry} (v : Valid l) (t : ℕ) (t< : t < 256) where
         answer-fits = omega arith;
         index-fits = ok .in-range;
         order-fits = omega (arith, ok .order-le);
-        word-fits = ok .word-fits;
+        word-fits = byT (reserved e) (λ r. rw r (omega arith)) (λ r. rw r (ok .word-fits));
         marks-fit = omega (arith, ok .marks-fit);
         count-fits = n<;
       }
@@ -70,6 +71,13 @@ module _ {l : List Entry} (v : Valid l) (t : ℕ) (t< : t < 256) where
       go : (o : Option Entry) → covering l i ≡ o → FitsReply (replyOf t n o)
       go none q = plain t 10 0 n t< (omega arith) (omega arith) n<
       go (some e) q = entry-fits e n (first-yes (covers i) (each l (λ x m. m)) q .1) n<
+
+  present-fits : (i n : ℕ) → n < 256 ^ 2 → FitsReply (replyOf t n (present (covering l i)))
+  present-fits i n n< = go (present (covering l i)) refl
+    where
+      go : (o : Option Entry) → present (covering l i) ≡ o → FitsReply (replyOf t n o)
+      go none q = plain t 10 0 n t< (omega arith) (omega arith) n<
+      go (some e) q = entry-fits e n (first-yes (covers i) (each l (λ x m. m)) (present-some (covering l i) q .0) .1) n<
 
   found-fits : (a z f k : ℕ) → z < 256 ^ 8 → k < 256 ^ 2 → {o : Outcome} → Right l a z f k o → FitsReply (finding t o)
   found-fits a z f k z< k< (right-found e n q le _) =
@@ -84,7 +92,7 @@ module _ (n : ℕ) (l : List Entry) (v : Valid l) where
   load-fits i =
       let h : height l ≤ topTier = height-most l in
       let d : depthTo l i (height l) ≤ height l = depth-le l i (height l) in
-      covered-fits v 130 (omega arith) i (depth l i) (omega arith)
+      present-fits v 130 (omega arith) i (depth l i) (omega arith)
 
   erase-fits : (i : ℕ) → FitsReply (execute n l (Erase i) .reply)
   unfolding execute
@@ -109,7 +117,7 @@ module _ (n : ℕ) (l : List Entry) (v : Valid l) where
       go : Valid (execute n l (Mark i m) .list) → FitsReply (execute n l (Mark i m) .reply)
       go u =
           byT (leb markCount m) (λ t. rw t (bare 132 7 (omega arith) (omega arith)))
-          (λ t. rw t (covered-fits (rw t at u) 132 (omega arith) i 0 (omega arith)))
+          (λ t. rw t (present-fits (rw t at u) 132 (omega arith) i 0 (omega arith)))
 
   unmark-fits : (i m : ℕ) → FitsReply (execute n l (Unmark i m) .reply)
   unfolding execute
@@ -118,7 +126,7 @@ module _ (n : ℕ) (l : List Entry) (v : Valid l) where
       go : Valid (execute n l (Unmark i m) .list) → FitsReply (execute n l (Unmark i m) .reply)
       go u =
           byT (leb markCount m) (λ t. rw t (bare 133 7 (omega arith) (omega arith)))
-          (λ t. rw t (covered-fits (rw t at u) 133 (omega arith) i 0 (omega arith)))
+          (λ t. rw t (present-fits (rw t at u) 133 (omega arith) i 0 (omega arith)))
 
   find-fits : (a z f k : ℕ) → z < 256 ^ 8 → k < 256 ^ 2 → FitsReply (execute n l (Find a z f k) .reply)
   unfolding execute
@@ -129,6 +137,17 @@ module _ (n : ℕ) (l : List Entry) (v : Valid l) where
       (λ d. rw (t, s, d)
       (found-fits v 134 (omega arith) a z f k z< k< (find-right l v a z f k (ltb-false _ _ s))))))
 
+  reserve-fits : (i : ℕ) → i < 2 ^ 64 → FitsReply (execute n l (Reserve i) .reply)
+  unfolding execute
+  reserve-fits i i< = go (covering l i) refl (execute-keeps n l v (Reserve i) i< .valid)
+    where
+      go : (o : Option Entry) → covering l i ≡ o → Valid (reserving n 135 l i (covering l i) .list) →
+          FitsReply (reserving n 135 l i (covering l i) .reply)
+      go (some e) q u = rw q (bare 135 15 (omega arith) (omega arith))
+      go none q u =
+          byT (short n l (store l i 0 reservedWord)) (λ d. rw (q, d) (bare 135 11 (omega arith) (omega arith)))
+          (λ d. rw (q, d) (covered-fits (rw (q, d) at u) 135 (omega arith) i 0 (omega arith)))
+
   -- R49
   pub reply-fits : (c : Command) → Fits c → FitsReply (execute n l c .reply)
   reply-fits (Store i k w) f = store-fits i k w f
@@ -137,3 +156,4 @@ module _ (n : ℕ) (l : List Entry) (v : Valid l) where
   reply-fits (Mark i m) f = mark-fits i m
   reply-fits (Unmark i m) f = unmark-fits i m
   reply-fits (Find a z f k) b = find-fits a z f k (b .0) (b .1)
+  reply-fits (Reserve i) f = reserve-fits i f

@@ -14,8 +14,11 @@ use Rattle.blocks.proofs.BoolLaws.{byT}
 use Rattle.model.specs.declared.Entry.{Entry}
 use Rattle.model.specs.Model.{
   covering,
+  present,
   covered,
   storable,
+  reserved,
+  reservedWord,
   maxOrder,
   aligned,
   store,
@@ -36,11 +39,12 @@ use Rattle.lookup.specs.Load.{load, loaded, depth}
 use Rattle.lookup.specs.Find.{anyMark, find}
 use Rattle.store.specs.declared.Stored.{Stored}
 use Rattle.store.specs.declared.Stored.the-variants.{Done, Short}
-use Rattle.store.specs.Stored.{Stores}
+use Rattle.store.specs.Stored.{Holding, Stores, Reserves, taken, tried}
 use Rattle.store.proofs.AfterLaws.{after-done}
 use Rattle.erase.proofs.FreedLaws.{in-use-remark}
+use Rattle.store.specs.declared.Reserving.{Reserving}
 use Rattle.batch.specs.declared.Command.{Command}
-use Rattle.batch.specs.declared.Command.the-variants.{Store, Load, Erase, Find}
+use Rattle.batch.specs.declared.Command.the-variants.{Store, Load, Erase, Find, Reserve}
 use Rattle.batch.specs.declared.Reply.{Reply}
 use Rattle.batch.specs.Reply.{answered}
 use Rattle.execute.specs.Execute.{
@@ -59,8 +63,19 @@ use Rattle.execute.specs.Execute.{
   noBudget,
   tooFewNodes,
 }
-use Rattle.execute.proofs.ExecuteLaws.{erase-new, short-11, enough-0}
-use Rattle.execute.specs.Contracts.{coveredReply, loadedReply, remarking, replyTo, wordsTo, asStored, Settles, Executes}
+use Rattle.execute.proofs.ExecuteLaws.{erase-new, short-11, enough-0, taken-15, reserve-11, reserve-0}
+use Rattle.execute.specs.Contracts.{
+  coveredReply,
+  loadedReply,
+  triedReply,
+  reservedReply,
+  remarking,
+  replyTo,
+  wordsTo,
+  asStored,
+  Settles,
+  Executes,
+}
 
 -- REPLIES
 pub loaded-is : (t d : ℕ) (o : Option Entry) → loadedReply t (loaded d o) ≡ replyOf t d o
@@ -74,7 +89,7 @@ covered-is t (some e) = refl
 module _ (n : ℕ) (l : List Entry) where
   pub load-runs : (i : ℕ) → execute n l (Load i) ≡ leave l (loadedReply 130 (load l i))
   unfolding execute
-  load-runs i = ap (leave l) (sym (loaded-is 130 (depth l i) (covering l i)))
+  load-runs i = ap (leave l) (sym (loaded-is 130 (depth l i) (present (covering l i))))
 
   module _ (a z f k : ℕ) where
     pub find-mark : anyMark < f → execute n l (Find a z f k) ≡ refuse l 134 markAbove
@@ -127,10 +142,10 @@ leaves s c e q = record {
 -- a command that changes a mark
 pub remarks : {ws ws′ : List ℕ} (s : WellFormed ws) (c : Command) (t i m : ℕ) (b : Bool) {q : Reply} →
     execute (s .n) (s .list) c ≡ marking t (s .list) i m b →
-    q ≡ coveredReply t (covered (covering (remark (s .list) i m b) i)) →
+    q ≡ coveredReply t (covered (present (covering (remark (s .list) i m b) i))) →
     ws′ ≡ render (remark (s .list) i m b) (s .places) (s .n) → Executes s c q ws′
 remarks s c t i m b e r w = record {
-  reply-is = r ∙ covered-is t (covering (remark (s .list) i m b) i) ∙ sym (ap (λ (x : Executed). x .reply) e);
+  reply-is = r ∙ covered-is t (present (covering (remark (s .list) i m b) i)) ∙ sym (ap (λ (x : Executed). x .reply) e);
   words-are =
       w
       ∙ ap (λ (os : Places). render (remark (s .list) i m b) os (s .n)) (sym (places-remark (s .list) i m b (s .placed)))
@@ -146,10 +161,12 @@ unmarked-words s i m h x =
     ∙ ap (λ (os : Places). render (remark (s .list) i m false) os (s .n)) (places-remark (s .list) i m false (s .placed))
 
 pub unmarked-reply : {ws ws′ : List ℕ} (s : WellFormed ws) (i m : ℕ) {q : Reply} → m < markCount →
+    present (covering (remark (s .list) i m false) i) ≡ covering (remark (s .list) i m false) i →
     Executes s (remarking i m false) q ws′ →
     asStored q ≡ coveredReply 129 (covered (covering (remark (s .list) i m false) i))
-unmarked-reply s i m h x =
-    ap asStored (x .reply-is ∙ ap (λ (y : Executed). y .reply) (remark-runs (s .n) (s .list) i m false h))
+unmarked-reply s i m h p x =
+    ap asStored (x .reply-is ∙ ap (λ (y : Executed). y .reply) (remark-runs (s .n) (s .list) i m false h)
+    ∙ ap (replyOf 133 0) p)
     ∙ go (covering (remark (s .list) i m false) i)
   where
     go : (o : Option Entry) → asStored (replyOf 133 0 o) ≡ coveredReply 129 (covered o)
@@ -242,7 +259,7 @@ module _ {ws ws₁ : List ℕ} (s : WellFormed ws) (i k w : ℕ) {x : Stored} (i
       free = omega (arith, free-places (s .n) (s .list) (s .places) (s .placed))
 
       new-is : store (s .list) i k w ≡ l₂
-      new-is = store-is i k al (s .list) w
+      new-is = store-is i k al (s .list) w st
 
       -- clearing a mark takes no node, and no node goes
       same-needed : needed (s .list) (store (s .list) i k w) ≡ needed (s .list) l₁
@@ -273,6 +290,43 @@ module _ {ws ws₁ : List ℕ} (s : WellFormed ws) (i k w : ℕ) {x : Stored} (i
 
       pub stores : Executes s (Store i k w) q ws′
       stores = by-room full less
+
+-- A RESERVATION: done, or short of nodes, exactly as the free nodes are enough
+module _ {ws : List ℕ} (s : WellFormed ws) (i : ℕ) where
+  abbrev reserved-list : List Entry
+  reserved-list = store (s .list) i 0 reservedWord
+
+  module _ {ws′ : List ℕ} {q : Reply} {x : Stored} (c : covering (s .list) i ≡ none)
+      (r : Stores (s .n) (s .list) (s .places) reserved-list i ws ws′ x) (e : q ≡ triedReply x) where
+    free-count : freeCount (s .places) ≡ s .n - length (nodes (s .list))
+    free-count = omega (arith, free-places (s .n) (s .list) (s .places) (s .placed))
+
+    reserve-full : needed (s .list) reserved-list ≤ freeCount (s .places) → Executes s (Reserve i) q ws′
+    reserve-full d =
+        let o : Holding (s .n) (s .list) (s .places) reserved-list i ws′ x = r .done d in
+        let a : execute (s .n) (s .list) (Reserve i)
+        ≡ record { reply = replyOf 135 0 (covering reserved-list i); list = reserved-list } =
+        reserve-0 (s .n) (s .list) i c (omega (arith, free-count)) in
+        record {
+          reply-is =
+              e ∙ ap triedReply (o .outcome-is) ∙ sym (ap (replyOf 135 0) (o .covering-is))
+              ∙ sym (ap (λ (y : Executed). y .reply) a);
+          words-are = o .words-are ∙ sym (words-after s (Reserve i) (ap (λ (y : Executed). y .list) a));
+        }
+
+    reserve-less : freeCount (s .places) < needed (s .list) reserved-list → Executes s (Reserve i) q ws′
+    reserve-less d =
+        let (o, f) = r .short d in
+        subst (λ (v : List ℕ). Executes s (Reserve i) q v) (sym f)
+        (leaves s (Reserve i) (reserve-11 (s .n) (s .list) i c (omega (arith, free-count))) (e ∙ ap triedReply o))
+
+  pub reserves : {ws′ : List ℕ} {q : Reply} {x : Reserving} → Reserves (s .n) (s .list) (s .places) i ws ws′ x → q ≡ reservedReply x →
+      Executes s (Reserve i) q ws′
+  reserves {q = q} (taken e c w) r = subst (λ (v : List ℕ). Executes s (Reserve i) q v) (sym w)
+      (leaves s (Reserve i) (taken-15 (s .n) (s .list) i c) r)
+  reserves (tried x c h) r =
+      byT (leb (needed (s .list) reserved-list) (freeCount (s .places))) (λ d. reserve-full c h r (leb-true _ _ d))
+      (λ d. reserve-less c h r (leb-false _ _ d))
 
 -- COMMANDS THAT ONLY READ
 pub leaves-words : {ws : List ℕ} (s : WellFormed ws) (c : Command) {q : Reply} →

@@ -1,4 +1,4 @@
--- Each answer of a reply is given exactly when its row of the table says (R73 to R81, R181).
+-- Each answer of a reply is given exactly when its row of the table says (R73 to R81, R181, R205).
 use Prim.Native.Nat.{ℕ, _≤_}
 use mathlib.Core.Path.{_≡_, refl, sym, ap, subst, _∙_}
 use mathlib.Core.Bool.{Bool, true, false}
@@ -7,17 +7,23 @@ use mathlib.Core.List.{List}
 use mathlib.Core.Option.{Option, none, some}
 use lib.Dec.{leb, ltb, eqb}
 use borrow.Author.Tests.{leb-true, leb-false, ltb-true, ltb-false, eqb-true, eqb-false}
+use Rattle.blocks.specs.Blocks.{bit}
 use Rattle.blocks.specs.Lists.{any}
 use Rattle.blocks.proofs.BoolLaws.{byT, clash}
+use Rattle.blocks.proofs.ListLaws.{first-yes}
 use Rattle.model.specs.declared.Entry.{Entry}
 use Rattle.model.specs.Model.{
   Valid,
   storable,
+  reservedWord,
+  reserved,
   maxOrder,
   aligned,
   markCount,
   matchedMark,
+  covers,
   covering,
+  present,
   over,
   store,
   erase,
@@ -25,18 +31,21 @@ use Rattle.model.specs.Model.{
   remark,
 }
 use Rattle.model.specs.ByBlock as B
-use Rattle.model.proofs.ValidLaws.{room, erase-none}
-use Rattle.model.proofs.AlignedLaws.{store-is}
+use Rattle.model.proofs.ValidLaws.{sorted-ok, room, bare, erase-none}
+use Rattle.model.proofs.AlignedLaws.{store-is, bare-is, whole}
+use Rattle.model.proofs.WordLaws.{present-some, marked-kind}
 use Rattle.tree.proofs.ReadLaws.{over-none}
 use Rattle.tree.proofs.RelabelLaws.{mapO, covering-map}
 use Rattle.tree.proofs.StoreLaws.{store-covering}
-use Rattle.marks.proofs.RemarkLaws.{remark-none}
+use Rattle.marks.proofs.RemarkLaws.{remark-absent}
 use Rattle.lookup.specs.declared.Outcome.{Outcome}
 use Rattle.lookup.specs.Load.{depth}
 use Rattle.lookup.specs.Find.{anyMark, find}
 use Rattle.batch.specs.declared.Command.{Command}
-use Rattle.batch.specs.declared.Command.the-variants.{Store, Load, Erase, Mark, Unmark, Find}
+use Rattle.batch.specs.declared.Command.the-variants.{Store, Load, Erase, Mark, Unmark, Find, Reserve}
 use Rattle.execute.specs.Execute.{Executed, execute, leave, replyOf, finding, marking, short}
+use Rattle.batch.specs.declared.Reply.{Reply}
+use Rattle.batch.specs.Reply.{answered}
 use Rattle.execute.specs.Table.{CommandRow}
 use Rattle.execute.specs.Table.CommandRow.{
   store-5,
@@ -54,6 +63,9 @@ use Rattle.execute.specs.Table.CommandRow.{
   unmark-7,
   unmark-10,
   unmark-0,
+  reserve-15,
+  reserve-11,
+  reserve-0,
   find-7,
   find-8,
   find-9,
@@ -62,7 +74,8 @@ use Rattle.execute.specs.Table.CommandRow.{
   find-13,
 }
 use Rattle.execute.proofs.BudgetLaws.{Comes, matched, ended, paused, comes, matched-is, ended-is}
-use Rattle.execute.proofs.ExecuteLaws.{short-11, enough-0}
+use Rattle.execute.proofs.ExecuteLaws.{short-11, enough-0, taken-15, index-aligned}
+use Rattle.execute.proofs.ExecuteLaws as X
 use Rattle.execute.proofs.ReplyLaws.{
   find-mark,
   find-first,
@@ -95,23 +108,50 @@ module _ (l : List Entry) where
       go t (some e) q =
           (B.withWord i w e, rw t (covering-map (B.withWord i w) (λ x. refl) (λ x. refl) i l ∙ ap (mapO (B.withWord i w)) q))
 
-  marked-none : (t i m : ℕ) (b : Bool) → covering l i ≡ none → marking t l i m b ≡ leave l (replyOf t 0 none)
-  marked-none t i m b q = rw (remark-none l i m b q, q)
+  -- and a mark leaves it present
+  pub present-marked : (i m : ℕ) (b : Bool) {e : Entry} → present (covering l i) ≡ some e →
+      present (covering (remark l i m b) i) ≡ some (withMark i m b e)
+  present-marked i m b q =
+      let (c, r) = present-some (covering l i) q in rw (covering-marked i m b c, r)
 
-  marked-some : (t i m : ℕ) (b : Bool) {e : Entry} → covering l i ≡ some e →
+  marked-none : Valid l → (t i m : ℕ) (b : Bool) → present (covering l i) ≡ none →
+      marking t l i m b ≡ leave l (replyOf t 0 none)
+  marked-none v t i m b q = rw (remark-absent l i m b v q, q)
+
+  marked-some : (t i m : ℕ) (b : Bool) {e : Entry} → present (covering l i) ≡ some e →
       marking t l i m b ≡ record { reply = replyOf t 0 (some (withMark i m b e)); list = remark l i m b }
-  marked-some t i m b q = rw (covering-marked i m b q)
+  marked-some t i m b q = rw (present-marked i m b q)
 
-pub covering-stored : (l : List Entry) (i k w : ℕ) → aligned k i ≡ true →
+  -- what has a mark is no reservation, so it stays present where a mark of it is cleared
+  pub present-cleared : Valid l → (i m : ℕ) {e : Entry} → covering l i ≡ some e → bit m (e .marks) ≡ 1 →
+      present (covering (remark l i m false) i) ≡ covering (remark l i m false) i
+  present-cleared v i m {e} q b =
+      let r : reserved e ≡ false = marked-kind e (first-yes (covers i) (sorted-ok v) q .1 .word-ok) m b in
+      rw (covering-marked i m false q, r)
+
+  -- a reservation, and its reply: its index, and all else 0
+  pub covering-reserved : (i : ℕ) → covering l i ≡ none →
+      covering (store l i 0 reservedWord) i ≡ some (B.newEntry l i 0 reservedWord)
+  covering-reserved i q =
+      let t : any (over i 0) l ≡ false = over-none l i 0 q in
+      rw (bare-is i 0 (index-aligned i) l reservedWord refl t, t)
+      (store-covering i 0 reservedWord l (room l i 0 t) i refl)
+
+  pub reserved-reply : (i : ℕ) → covering l i ≡ none →
+      replyOf 135 0 (covering (store l i 0 reservedWord) i) ≡ answered 135 0 i 0
+  reserved-reply i q =
+      rw (covering-reserved i q, whole i 0 (index-aligned i), bare i 0 reservedWord l (over-none l i 0 q) refl)
+
+pub covering-stored : (l : List Entry) (i k w : ℕ) → aligned k i ≡ true → storable w ≡ true →
     (e : Entry) × (covering (store l i k w) i ≡ some e)
-covering-stored l i k w al =
+covering-stored l i k w al st =
     let (e, q) = covering-kept l i k w in (
       withMark i matchedMark false e,
-      rw (store-is i k al l w) (covering-marked (B.store l i k w) i matchedMark false q),
+      rw (store-is i k al l w st) (covering-marked (B.store l i k w) i matchedMark false q),
     )
 
 module _ (n : ℕ) (l : List Entry) (i : ℕ) where
-  loads : {o : Option Entry} → covering l i ≡ o → leave l (replyOf 130 (depth l i) o) ≡ execute n l (Load i)
+  loads : {o : Option Entry} → present (covering l i) ≡ o → leave l (replyOf 130 (depth l i) o) ≡ execute n l (Load i)
   unfolding execute
   loads q = rw q
 
@@ -144,11 +184,15 @@ module _ (n : ℕ) (l : List Entry) (v : Valid l) where
   row-sole (erase-10 {i} q) = erases-none n l i q
   row-sole (erase-0 {i} q) = erases-some n l i q
   row-sole (mark-7 {i} {m} h) = sym (remark-above n l i m true h)
-  row-sole (mark-10 {i} {m} h q) = sym (remark-runs n l i m true h ∙ marked-none l 132 i m true q)
+  row-sole (mark-10 {i} {m} h q) = sym (remark-runs n l i m true h ∙ marked-none l v 132 i m true q)
   row-sole (mark-0 {i} {m} h q) = sym (remark-runs n l i m true h ∙ marked-some l 132 i m true q)
   row-sole (unmark-7 {i} {m} h) = sym (remark-above n l i m false h)
-  row-sole (unmark-10 {i} {m} h q) = sym (remark-runs n l i m false h ∙ marked-none l 133 i m false q)
+  row-sole (unmark-10 {i} {m} h q) = sym (remark-runs n l i m false h ∙ marked-none l v 133 i m false q)
   row-sole (unmark-0 {i} {m} h q) = sym (remark-runs n l i m false h ∙ marked-some l 133 i m false q)
+  row-sole (reserve-15 {i} q) = sym (taken-15 n l i q)
+  row-sole (reserve-11 {i} q d) = sym (X.reserve-11 n l i q d)
+  row-sole (reserve-0 {i} q d) = sym (X.reserve-0 n l i q d
+      ∙ ap (λ (r : Reply). record { reply = r; list = store l i 0 reservedWord }) (reserved-reply l i q))
   row-sole (find-7 {a} {z} {f} {k} h) = sym (find-mark n l a z f k h)
   row-sole (find-8 {a} {z} {f} {k} h g) = sym (find-first n l a z f k h g)
   row-sole (find-9 {a} {z} {f} {k} h g b) = sym (find-budget n l a z f k h g b)
@@ -167,6 +211,15 @@ module _ (n : ℕ) (l : List Entry) (v : Valid l) where
       go none q = f q
       go (some e) q = g e q
 
+  by-present : {c : Command} (i : ℕ) → (present (covering l i) ≡ none → CommandRow n l c (execute n l c)) →
+      ((e : Entry) → present (covering l i) ≡ some e → CommandRow n l c (execute n l c)) →
+      CommandRow n l c (execute n l c)
+  by-present {c} i f g = go (present (covering l i)) refl
+    where
+      go : (o : Option Entry) → present (covering l i) ≡ o → CommandRow n l c (execute n l c)
+      go none q = f q
+      go (some e) q = g e q
+
   -- every command comes to what some row says
   pub rows : (c : Command) → CommandRow n l c (execute n l c)
   rows (Store i k w) =
@@ -175,17 +228,21 @@ module _ (n : ℕ) (l : List Entry) (v : Valid l) where
       (λ a. byT (storable w)
       (λ s. byT (short n l (store l i k w))
       (λ d. given (store-11 (ltb-false _ _ t) a s (ltb-true _ _ d)))
-      (λ d. given (store-0 (ltb-false _ _ t) a s (ltb-false _ _ d) (covering-stored l i k w a .1))))
+      (λ d. given (store-0 (ltb-false _ _ t) a s (ltb-false _ _ d) (covering-stored l i k w a s .1))))
       (λ s. given (store-6 (ltb-false _ _ t) a s)))
       (λ a. given (store-14 (ltb-false _ _ t) a)))
-  rows (Load i) = by-cover i (λ q. given (load-10 q)) (λ e q. given (load-0 q))
+  rows (Load i) = by-present i (λ q. given (load-10 q)) (λ e q. given (load-0 q))
   rows (Erase i) = by-cover i (λ q. given (erase-10 q)) (λ e q. given (erase-0 q))
   rows (Mark i m) =
       byT (leb markCount m) (λ t. given (mark-7 (leb-true _ _ t)))
-      (λ t. by-cover i (λ q. given (mark-10 (leb-false _ _ t) q)) (λ e q. given (mark-0 (leb-false _ _ t) q)))
+      (λ t. by-present i (λ q. given (mark-10 (leb-false _ _ t) q)) (λ e q. given (mark-0 (leb-false _ _ t) q)))
   rows (Unmark i m) =
       byT (leb markCount m) (λ t. given (unmark-7 (leb-true _ _ t)))
-      (λ t. by-cover i (λ q. given (unmark-10 (leb-false _ _ t) q)) (λ e q. given (unmark-0 (leb-false _ _ t) q)))
+      (λ t. by-present i (λ q. given (unmark-10 (leb-false _ _ t) q)) (λ e q. given (unmark-0 (leb-false _ _ t) q)))
+  rows (Reserve i) = by-cover i
+      (λ q. byT (short n l (store l i 0 reservedWord)) (λ d. given (reserve-11 q (ltb-true _ _ d)))
+      (λ d. given (reserve-0 q (ltb-false _ _ d))))
+      (λ e q. given (reserve-15 q))
   rows (Find a z f k) =
       byT (ltb anyMark f) (λ t. given (find-7 (ltb-true _ _ t)))
       (λ t. byT (ltb z a) (λ s. given (find-8 (ltb-false _ _ t) (ltb-true _ _ s)))

@@ -18,7 +18,9 @@ use Rattle.batch.specs.declared.Reply.{Reply}
 use Rattle.batch.specs.Reply.{answered, answeredBy}
 use Rattle.store.specs.declared.Stored.{Stored}
 use Rattle.store.specs.declared.Stored.the-variants.{Done, Short}
-use Rattle.execute.specs.Execute.{absent, tooFewNodes, execute}
+use Rattle.store.specs.declared.Reserving.{Reserving}
+use Rattle.store.specs.declared.Reserving.the-variants.{Taken, Tried}
+use Rattle.execute.specs.Execute.{absent, tooFewNodes, isTaken, execute}
 use Rattle.execute.specs.State.{State, next}
 
 -- the reply by what covers the index
@@ -30,6 +32,15 @@ coveredReply t (By e) = answeredBy t e 0
 abbrev pub loadedReply : ℕ → Loaded → Reply
 loadedReply t (Absent d) = answered t absent 0 d
 loadedReply t (Present e d) = answeredBy t e d
+
+-- the reply by what a reservation comes to
+abbrev pub triedReply : Stored → Reply
+triedReply (Done e) = answeredBy 135 e 0
+triedReply Short = answered 135 tooFewNodes 0 0
+
+abbrev pub reservedReply : Reserving → Reply
+reservedReply Taken = answered 135 isTaken 0 0
+reservedReply (Tried x) = triedReply x
 
 -- the command that sets a mark, or clears it
 abbrev pub remarking : (i m : ℕ) → Bool → Command

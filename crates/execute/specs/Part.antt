@@ -11,7 +11,7 @@ use Rattle.model.specs.Model.{covering}
 use Rattle.tree.specs.Tree.{tierOrder, height, Node}
 use Rattle.layout.specs.Words.{anchorWords, nodeOf}
 use Rattle.batch.specs.declared.Command.{Command}
-use Rattle.batch.specs.declared.Command.the-variants.{Store, Load, Erase, Mark, Unmark, Find}
+use Rattle.batch.specs.declared.Command.the-variants.{Store, Load, Erase, Mark, Unmark, Find, Reserve}
 use Rattle.execute.specs.Execute.{execute}
 use Rattle.execute.specs.State.{State, next}
 
@@ -33,6 +33,7 @@ addressed l (Erase i) = rangeOf (record { index = i; order = 0 }) (covering l i)
 addressed l (Mark i m) = rangeOf (record { index = i; order = 0 }) (covering l i)
 addressed l (Unmark i m) = rangeOf (record { index = i; order = 0 }) (covering l i)
 addressed l (Find a z f k) = record { index = a; order = 0 }
+addressed l (Reserve i) = record { index = i; order = 0 }
 
 -- the block of a node, from its first index on, meets the range
 abbrev pub firstOf : Node → ℕ
@@ -69,6 +70,7 @@ changing (Erase i) = true
 changing (Mark i m) = true
 changing (Unmark i m) = true
 changing (Find a z f k) = false
+changing (Reserve i) = true
 
 -- a command on a pool of n nodes may write word w
 abbrev pub mayWrite : ℕ → State → Command → ℕ → Bool

@@ -1,4 +1,4 @@
--- The table of answers that stand in a reply (R73 to R81, R181): what a command comes to, a row for every answer of every
+-- The table of answers that stand in a reply (R73 to R81, R181, R205): what a command comes to, a row for every answer of every
 -- command. A row has its condition and the failure of those tested before it, so no two rows of a command hold at once.
 -- Tags and answers stand in it as numbers, so that it holds `Execute` to them.
 use Prim.Native.Nat.{ℕ, _+_, _*_, _-_, _≤_, _<_}
@@ -9,14 +9,26 @@ use mathlib.Core.List.{List}
 use mathlib.Core.Option.{none, some}
 use lib.ListN.{length}
 use Rattle.model.specs.declared.Entry.{Entry}
-use Rattle.model.specs.Model.{storable, maxOrder, aligned, markCount, covering, store, erase, withMark, remark}
+use Rattle.model.specs.Model.{
+  storable,
+  reservedWord,
+  maxOrder,
+  aligned,
+  markCount,
+  covering,
+  present,
+  store,
+  erase,
+  withMark,
+  remark,
+}
 use Rattle.tree.specs.Tree.{slots, nodes, needed}
 use Rattle.lookup.specs.declared.Outcome.the-variants.{Paused}
 use Rattle.lookup.specs.Load.{depth}
 use Rattle.lookup.specs.Find.{anyMark, find, firstMatch}
 use Rattle.lookup.specs.Steps.{steps}
 use Rattle.batch.specs.declared.Command.{Command}
-use Rattle.batch.specs.declared.Command.the-variants.{Store, Load, Erase, Mark, Unmark, Find}
+use Rattle.batch.specs.declared.Command.the-variants.{Store, Load, Erase, Mark, Unmark, Find, Reserve}
 use Rattle.batch.specs.Reply.{answered, answeredBy}
 use Rattle.execute.specs.Execute.{Executed, leave, refuse}
 
@@ -47,8 +59,8 @@ pub data CommandRow (n : ℕ) (l : List Entry) : Command → Executed → Type 0
       needed l (store l i k w) ≤ n - length (nodes l) → covering (store l i k w) i ≡ some e →
       CommandRow n l (Store i k w) (record { reply = answeredBy 129 e 0; list = store l i k w })
   -- a load
-  load-10 : {i : ℕ} → covering l i ≡ none → CommandRow n l (Load i) (leave l (answered 130 10 0 (depth l i)))
-  load-0 : {i : ℕ} {e : Entry} → covering l i ≡ some e →
+  load-10 : {i : ℕ} → present (covering l i) ≡ none → CommandRow n l (Load i) (leave l (answered 130 10 0 (depth l i)))
+  load-0 : {i : ℕ} {e : Entry} → present (covering l i) ≡ some e →
       CommandRow n l (Load i) (leave l (answeredBy 130 e (depth l i)))
   -- an erase
   erase-10 : {i : ℕ} → covering l i ≡ none → CommandRow n l (Erase i) (refuse l 131 10)
@@ -56,14 +68,20 @@ pub data CommandRow (n : ℕ) (l : List Entry) : Command → Executed → Type 0
       CommandRow n l (Erase i) (record { reply = answeredBy 131 e 0; list = erase l i })
   -- a mark
   mark-7 : {i m : ℕ} → markCount ≤ m → CommandRow n l (Mark i m) (refuse l 132 7)
-  mark-10 : {i m : ℕ} → m < markCount → covering l i ≡ none → CommandRow n l (Mark i m) (refuse l 132 10)
-  mark-0 : {i m : ℕ} {e : Entry} → m < markCount → covering l i ≡ some e →
+  mark-10 : {i m : ℕ} → m < markCount → present (covering l i) ≡ none → CommandRow n l (Mark i m) (refuse l 132 10)
+  mark-0 : {i m : ℕ} {e : Entry} → m < markCount → present (covering l i) ≡ some e →
       CommandRow n l (Mark i m) (record { reply = answeredBy 132 (withMark i m true e) 0; list = remark l i m true })
   -- an unmark
   unmark-7 : {i m : ℕ} → markCount ≤ m → CommandRow n l (Unmark i m) (refuse l 133 7)
-  unmark-10 : {i m : ℕ} → m < markCount → covering l i ≡ none → CommandRow n l (Unmark i m) (refuse l 133 10)
-  unmark-0 : {i m : ℕ} {e : Entry} → m < markCount → covering l i ≡ some e →
+  unmark-10 : {i m : ℕ} → m < markCount → present (covering l i) ≡ none → CommandRow n l (Unmark i m) (refuse l 133 10)
+  unmark-0 : {i m : ℕ} {e : Entry} → m < markCount → present (covering l i) ≡ some e →
       CommandRow n l (Unmark i m) (record { reply = answeredBy 133 (withMark i m false e) 0; list = remark l i m false })
+  -- a reservation; done, its reply has the index and all else 0
+  reserve-15 : {i : ℕ} {e : Entry} → covering l i ≡ some e → CommandRow n l (Reserve i) (refuse l 135 15)
+  reserve-11 : {i : ℕ} → covering l i ≡ none → n - length (nodes l) < needed l (store l i 0 reservedWord) →
+      CommandRow n l (Reserve i) (refuse l 135 11)
+  reserve-0 : {i : ℕ} → covering l i ≡ none → needed l (store l i 0 reservedWord) ≤ n - length (nodes l) →
+      CommandRow n l (Reserve i) (record { reply = answered 135 0 i 0; list = store l i 0 reservedWord })
   -- a find from a to z with filter f and budget k
   find-7 : {a z f k : ℕ} → anyMark < f → CommandRow n l (Find a z f k) (refuse l 134 7)
   find-8 : {a z f k : ℕ} → f ≤ anyMark → z < a → CommandRow n l (Find a z f k) (refuse l 134 8)

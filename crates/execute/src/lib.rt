@@ -8,6 +8,8 @@ use lookup::Loaded;
 use lookup::Outcome;
 use model::Covered;
 use model::Entry;
+use model::shown_word;
+use store::Reserving;
 use store::Stored;
 ghost use mathlib.Core.Path.{_≡_};
 ghost use mathlib.Core.Bool.{false};
@@ -19,7 +21,8 @@ ghost use Rattle.layout.specs.Places.{render};
 ghost use Rattle.layout.specs.WellFormed.{WellFormed, InUse};
 ghost use Rattle.batch.specs.Reply.{answered, answeredBy};
 ghost use Rattle.execute.specs.Execute.{finding};
-ghost use Rattle.execute.specs.Contracts.{coveredReply, loadedReply, remarking, replyTo, asStored, Settles, Executes};
+ghost use Rattle.execute.specs.Contracts.{coveredReply, loadedReply, triedReply, reservedReply, asStored};
+ghost use Rattle.execute.specs.Contracts.{remarking, replyTo, Settles, Executes};
 
 // The answers that stand in a reply, and the reply's tags.
 const ORDER_ABOVE: u64 = 5;
@@ -42,6 +45,8 @@ const FIND_PAUSED: u64 = 13;
 
 const NOT_ALIGNED: u64 = 14;
 
+const TAKEN: u64 = 15;
+
 const STORED: u64 = 129;
 
 const LOADED: u64 = 130;
@@ -53,6 +58,8 @@ const MARKED: u64 = 132;
 const UNMARKED: u64 = 133;
 
 const FOUND: u64 = 134;
+
+const RESERVED: u64 = 135;
 
 // The highest order of an entry, the number of marks, and the filter that takes any entry.
 const MAX_ORDER: u64 = 63;
@@ -85,16 +92,17 @@ fn answered(tag: u64, answer: u64, index: u64, count: u64) -> Reply
     }
 }
 
-// Done, with an entry and a count.
+// Done, with an entry or a reservation and a count.
 fn answered_by(tag: u64, e: Entry, count: u64) -> Reply
     ensures { λ r. ⌜ r ≡ answeredBy tag e count ⌝ }
 {
+    let word = shown_word(e);
     Reply {
         tag,
         answer: 0,
         index: e.base,
         order: e.order,
-        word: e.word,
+        word,
         marks: e.marks,
         count,
     }
@@ -125,6 +133,24 @@ fn found_reply(x: Outcome) -> Reply
         Outcome::Found(e, n) => answered_by(FOUND, e, n),
         Outcome::Ended(n) => answered(FOUND, FIND_ENDED, 0, n),
         Outcome::Paused(p, n) => answered(FOUND, FIND_PAUSED, p, n),
+    }
+}
+
+fn tried_reply(x: Stored) -> Reply
+    ensures { λ r. ⌜ r ≡ triedReply x ⌝ }
+{
+    match x {
+        Stored::Done(e) => answered_by(RESERVED, e, 0),
+        Stored::Short => answered(RESERVED, TOO_FEW_NODES, 0, 0),
+    }
+}
+
+fn reserved_reply(x: Reserving) -> Reply
+    ensures { λ r. ⌜ r ≡ reservedReply x ⌝ }
+{
+    match x {
+        Reserving::Taken => answered(RESERVED, TAKEN, 0, 0),
+        Reserving::Tried(o) => tried_reply(o),
     }
 }
 
@@ -283,6 +309,23 @@ fn run_store(pool: &mut [u64], index: u64, order: u64, word: u64, low: u64) -> E
     }
 }
 
+// A reservation: a store of order 0 where nothing covers the index.
+fn run_reserve(pool: &mut [u64], index: u64, low: u64) -> Execution
+    requires { ⌜ WellFormed (now pool) ⌝ }
+    requires { ⌜ InUse low (now pool) ⌝ }
+    ensures { λ r. ⌜ ((s : WellFormed (now (pool .entry))) →
+        Executes s (Command.Reserve index) (r .reply) (now (pool .exit))) ⌝ }
+    ensures { λ r. ⌜ InUse (r .low) (now (pool .exit)) ⌝ }
+{
+    let r = store::reserve(pool, index, low);
+    let outcome = r.outcome;
+    let next = r.low;
+    Execution {
+        reply: reserved_reply(outcome),
+        low: next,
+    }
+}
+
 // One command: its reply, and the number below which every node is in use.
 pub fn execute(pool: &mut [u64], c: Command, low: u64) -> Execution
     requires { ⌜ WellFormed (now pool) ⌝ }
@@ -314,5 +357,6 @@ pub fn execute(pool: &mut [u64], c: Command, low: u64) -> Execution
             reply: run_find(pool, first, last, filter, budget),
             low: low,
         },
+        Command::Reserve { index } => run_reserve(pool, index, low),
     }
 }

@@ -6,15 +6,18 @@ use native.Mathlib.Omega.{arith}
 use lib.Dec.{eqb, ltb}
 use borrow.Author.Tests.{eqb-true, eqb-false, eq-eqb, ne-eqb, ltb-true, ltb-false, lt-ltb, le-ltb}
 use Rattle.blocks.proofs.BoolLaws.{byT}
+use Rattle.model.specs.Model.{reservedWord}
+use Rattle.tree.specs.Tree.{slots}
 use Rattle.tree.specs.Slots.{nodeWord, siblingWord, nodeOffset}
 use Rattle.layout.specs.declared.Slot.{Slot}
-use Rattle.layout.specs.declared.Slot.the-variants.{Empty, Held, Sibling, Child}
+use Rattle.layout.specs.declared.Slot.the-variants.{Empty, Reserved, Held, Sibling, Child}
 use Rattle.layout.specs.Pool.{slotOf}
 
 abbrev pub Says : ℕ → Slot → Type 0
 Says w Empty = w ≡ 0
+Says w Reserved = w ≡ reservedWord
 Says w Held = (w ≢ 0) × (w % 4 ≢ 2)
-Says w (Sibling o) = (w ≡ siblingWord o) × (o < nodeOffset)
+Says w (Sibling o) = (w ≡ siblingWord o) × (o < nodeOffset) × (w ≢ reservedWord)
 Says w (Child m) = w ≡ nodeWord m
 
 pub says : (w : ℕ) → Says w (slotOf w)
@@ -22,14 +25,19 @@ unfolding slotOf
 says w =
     byT (eqb w 0) (λ p. rw p (eqb-true _ _ p)) (λ p.
     byT (eqb (w % 4) 2)
-    (λ q. byT (ltb w (4 * nodeOffset))
-    (λ r. rw (p, q, r) (omega (arith, eqb-true (w % 4) 2 q, ltb-true w (4 * nodeOffset) r)))
-    (λ r. rw (p, q, r) (omega (arith, eqb-true (w % 4) 2 q, ltb-false w (4 * nodeOffset) r))))
+    (λ q. byT (eqb w reservedWord) (λ z. rw (p, q, z) (eqb-true _ _ z)) (λ z. byT (ltb w (4 * nodeOffset))
+    (λ r. rw (p, q, z, r) (
+      omega (arith, eqb-true (w % 4) 2 q),
+      omega (arith, ltb-true w (4 * nodeOffset) r),
+      eqb-false _ _ z,
+    ))
+    (λ r. rw (p, q, z, r) (omega (arith, eqb-true (w % 4) 2 q, ltb-false w (4 * nodeOffset) r)))))
     (λ q. rw (p, q) (eqb-false _ _ p, eqb-false _ _ q)))
 
 pub said : (w : ℕ) (κ : Slot) → Says w κ → slotOf w ≡ κ
 unfolding slotOf
 said w Empty e = rw e
+said w Reserved e = rw e
 said w Held e = rw (ne-eqb _ _ (e .0), ne-eqb _ _ (e .1))
 said w (Sibling o) e =
     let d = e .0 in let f = e .1 in
@@ -37,6 +45,7 @@ said w (Sibling o) e =
     rw (
       ne-eqb w 0 (λ (z : w ≡ 0). omega arith),
       eq-eqb (w % 4) 2 (omega arith),
+      ne-eqb w reservedWord (e .2),
       lt-ltb w (4 * nodeOffset) (omega arith),
       a,
     )
@@ -45,9 +54,14 @@ said w (Child m) e =
     rw (
       ne-eqb w 0 (λ (z : w ≡ 0). omega arith),
       eq-eqb (w % 4) 2 (omega arith),
+      ne-eqb w reservedWord (λ (z : w ≡ reservedWord). omega arith),
       le-ltb w (4 * nodeOffset) (omega arith),
       a,
     )
 
 pub word-of : (w : ℕ) (κ : Slot) → slotOf w ≡ κ → Says w κ
 word-of w κ e = subst (Says w) e (says w)
+
+-- of a slot of a node
+pub said-sibling : (w o : ℕ) → w ≡ siblingWord o → o < slots → slotOf w ≡ Sibling o
+said-sibling w o e h = said w (Sibling o) (e, omega arith, λ (z : w ≡ reservedWord). omega arith)

@@ -1,6 +1,6 @@
--- What the word of a slot says, and the view of a block through it: empty, an entry, a sibling, a node.
+-- What the word of a slot says, and the view of a block through it: empty, a reservation, an entry, a sibling, a node.
 use Prim.Native.Nat.{ℕ, _*_, _-_, _/_, _%_, _^_, _≤_, _<_}
-use mathlib.Core.Path.{_≡_, refl}
+use mathlib.Core.Path.{_≡_, refl, ap, _∙_}
 use mathlib.Core.Bool.{true, false}
 use mathlib.Core.List.{List}
 use mathlib.Core.Option.{none, some}
@@ -13,14 +13,15 @@ use Rattle.blocks.specs.Lists.{any, All}
 use Rattle.blocks.specs.Blocks.{block}
 use Rattle.blocks.proofs.BoolLaws.{byT}
 use Rattle.model.specs.declared.Entry.{Entry}
-use Rattle.model.specs.Model.{EntryOk, covering, within}
+use Rattle.model.specs.Model.{EntryOk, storable, reservedWord, covering, within}
+use Rattle.model.proofs.WordLaws.{by-word, storable-kind}
 use Rattle.tree.specs.Slots.{slot, nodeWord, siblingWord, Numbering, nodeOffset}
-use Rattle.tree.proofs.ReadLaws.{Seen, nothing, lower, entry, sibling, see, word-kind}
+use Rattle.tree.proofs.ReadLaws.{Seen, nothing, lower, entry, sibling, see}
 use Rattle.tree.specs.Tree.{slots, tierOrder}
 use Rattle.layout.specs.Pool.{slotOf, siblingBit}
 use Rattle.layout.specs.declared.Slot.{Slot}
-use Rattle.layout.specs.declared.Slot.the-variants.{Empty, Held, Sibling, Child}
-pub use Rattle.layout.specs.View.{View, v-empty, v-child, v-held, v-sibling}
+use Rattle.layout.specs.declared.Slot.the-variants.{Empty, Reserved, Held, Sibling, Child}
+pub use Rattle.layout.specs.View.{View, v-empty, v-child, v-reserved, v-held, v-sibling}
 
 pub slot-empty : slotOf 0 ≡ Empty
 unfolding slotOf
@@ -30,24 +31,39 @@ pub slot-held : (w : ℕ) → (w ≡ 0 → ⊥) → (w % 4 ≡ 2 → ⊥) → sl
 unfolding slotOf
 slot-held w z m = rw (ne-eqb w 0 z, ne-eqb (w % 4) 2 m) refl
 
-pub slot-sibling : (w : ℕ) → w % 4 ≡ 2 → w < 4096 → slotOf w ≡ Sibling (w / 4)
+pub slot-reserved : slotOf reservedWord ≡ Reserved
 unfolding slotOf
-slot-sibling w m h = rw (ne-eqb w 0 (omega arith), eq-eqb (w % 4) 2 m, lt-ltb w (4 * nodeOffset) h) refl
+slot-reserved = refl
+
+pub slot-sibling : (w : ℕ) → w % 4 ≡ 2 → (w ≡ reservedWord → ⊥) → w < 4096 → slotOf w ≡ Sibling (w / 4)
+unfolding slotOf
+slot-sibling w m n h = rw (
+  ne-eqb w 0 (omega arith),
+  eq-eqb (w % 4) 2 m,
+  ne-eqb w reservedWord n,
+  lt-ltb w (4 * nodeOffset) h,
+) refl
 
 pub slot-child : (w : ℕ) → w % 4 ≡ 2 → 4096 ≤ w → slotOf w ≡ Child (w / 4 - nodeOffset)
 unfolding slotOf
-slot-child w m h = rw (ne-eqb w 0 (omega arith), eq-eqb (w % 4) 2 m, le-ltb w (4 * nodeOffset) h) refl
+slot-child w m h = rw (
+  ne-eqb w 0 (omega arith),
+  eq-eqb (w % 4) 2 m,
+  ne-eqb w reservedWord (omega arith),
+  le-ltb w (4 * nodeOffset) h,
+) refl
 
 -- a sibling's bit
-pub sibling-bit-0 : (w : ℕ) → (w % 4 ≡ 2 → w < 4096 → ⊥) → siblingBit w ≡ 0
+pub sibling-bit-0 : (w : ℕ) → (w % 4 ≡ 2 → w < reservedWord → ⊥) → siblingBit w ≡ 0
 sibling-bit-0 w f = byT (eqb (w % 4) 2)
-    (λ s. byT (ltb w 4096) (λ t. absurd (f (eqb-true _ _ s) (ltb-true _ _ t))) (λ t. rw (s, t) refl)) (λ s. rw s refl)
+    (λ s. byT (ltb w reservedWord) (λ t. absurd (f (eqb-true _ _ s) (ltb-true _ _ t))) (λ t. rw (s, t) refl))
+    (λ s. rw s refl)
 
-pub sibling-bit-1 : (w : ℕ) → w % 4 ≡ 2 → w < 4096 → siblingBit w ≡ 1
-sibling-bit-1 w e h = rw (eq-eqb (w % 4) 2 e, lt-ltb w 4096 h) refl
+pub sibling-bit-1 : (w : ℕ) → w % 4 ≡ 2 → w < reservedWord → siblingBit w ≡ 1
+sibling-bit-1 w e h = rw (eq-eqb (w % 4) 2 e, lt-ltb w reservedWord h) refl
 
 pub sibling-bit-le : (w : ℕ) → siblingBit w ≤ 1
-sibling-bit-le w = byT (both (eqb (w % 4) 2) (ltb w 4096)) (λ t. rw t (le-refl 1)) (λ t. rw t (omega arith))
+sibling-bit-le w = byT (both (eqb (w % 4) 2) (ltb w reservedWord)) (λ t. rw t (le-refl 1)) (λ t. rw t (omega arith))
 
 pub view : (l : List Entry) (ν : Numbering) (u c : ℕ) → All EntryOk l → View l ν u c (slotOf (slot l ν u c))
 view l ν u c ok = go (see l ν u c ok)
@@ -57,10 +73,14 @@ view l ν u c ok = go (see l ν u c ok)
     go (lower t) =
         let d : nodeWord (ν u c) / 4 - nodeOffset ≡ ν u c = omega arith in
         rw (slot-child (nodeWord (ν u c)) (omega arith) (omega arith), d) (v-child t)
-    go (entry e t q s y) = rw (slot-held (e .word) (word-kind (e .word) (y .word-ok) .0)
-        (word-kind (e .word) (y .word-ok) .1)) (v-held e t q (eqb-true _ _ s))
+    go (entry e t q s y) = by-word e (y .word-ok)
+        (λ o. let k = storable-kind (e .word) o in rw (slot-held (e .word) (k .0) (k .1)) (v-held e t q (eqb-true _ _ s)))
+        (λ r o m. rw (ap slotOf r ∙ slot-reserved) (v-reserved e t q (eqb-true _ _ s) (eq-eqb _ _ r)))
     go (sibling e t q s y) =
         let d : siblingWord (block (tierOrder u) (e .base) % slots) / 4 ≡ block (tierOrder u) (e .base) % slots =
         omega arith in
-        rw (slot-sibling (siblingWord (block (tierOrder u) (e .base) % slots)) (omega arith) (omega arith), d)
+        rw (
+          slot-sibling (siblingWord (block (tierOrder u) (e .base) % slots)) (omega arith) (omega arith) (omega arith),
+          d,
+        )
         (v-sibling e t q (eqb-false _ _ s))

@@ -8,7 +8,7 @@ use Rattle.blocks.specs.Choice.{both}
 use Rattle.blocks.specs.Placing as P
 use Rattle.blocks.specs.Blocks.{block}
 use Rattle.model.specs.declared.Entry.{Entry}
-use Rattle.model.specs.Model.{storable, maxOrder, markCount}
+use Rattle.model.specs.Model.{wordOk, maxOrder, markCount}
 use Rattle.tree.specs.Tree.{nodes}
 use Rattle.layout.specs.Words.{anchorWords, nodeWords, maxNodes, poolWords}
 use Rattle.layout.specs.Places.{Places, same, hasNode, render}
@@ -28,7 +28,7 @@ isEntry e =
     both (leb (e .order) maxOrder)
     (both (eqb (block (e .order) (e .base) * 2 ^ e .order) (e .base))
     (both (ltb (e .base) (2 ^ 64))
-    (both (storable (e .word))
+    (both (wordOk e)
     (both (ltb (e .word) (2 ^ 64)) (ltb (e .marks) (2 ^ markCount))))))
 
 abbrev pub isSorted : ℕ → List Entry → Bool

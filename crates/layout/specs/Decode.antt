@@ -11,7 +11,7 @@ use Rattle.model.specs.declared.Entry.{Entry}
 use Rattle.tree.specs.Tree.{slotBits, slots, tierOrder, Node}
 use Rattle.layout.specs.Words.{countWord}
 use Rattle.layout.specs.Places.{Places}
-use Rattle.layout.specs.Pool.{Slot, Empty, Held, Sibling, Child, slotOf, slotAt, Pool, poolOf, run}
+use Rattle.layout.specs.Pool.{Slot, Empty, Reserved, Held, Sibling, Child, slotOf, slotAt, Pool, poolOf, run}
 
 -- how many indices a slot of level v covers (the level of a node is its shift / 6, its tier less 1)
 abbrev pub wide : ℕ → ℕ
@@ -26,6 +26,7 @@ span f j (suc k) = f j ++ span f (suc j) k
 -- what a slot holds, by what its word says: e is the entry there, `down m c` what lies below node m over block c
 abbrev pub cell : (ℕ → ℕ → List Entry) → Entry → ℕ → Slot → List Entry
 cell down e c Empty = []
+cell down e c Reserved = e ∷ []
 cell down e c Held = e ∷ []
 cell down e c (Sibling o) = []
 cell down e c (Child m) = down m c
@@ -56,6 +57,7 @@ module _ (P : Pool) where
   -- by what the head's word says
   abbrev pub listFor : Slot → List Entry
   listFor Empty = []
+  listFor Reserved = record { base = 0; order = 0; word = P .head; marks = P .marks } ∷ []
   listFor Held = record { base = 0; order = 0; word = P .head; marks = P .marks } ∷ []
   listFor (Sibling o) = []
   listFor (Child m) = below (suc (levelOf m)) m 0
@@ -66,6 +68,7 @@ module _ (P : Pool) where
   -- THE PLACES
   abbrev pub headNumber : Slot → ℕ
   headNumber Empty = 0
+  headNumber Reserved = 0
   headNumber Held = 0
   headNumber (Sibling o) = 0
   headNumber (Child m) = m

@@ -5,7 +5,7 @@ use mathlib.Core.List.{List}
 use lib.Dec.{ltb, eqb}
 use lib.ListN.{getD}
 use Rattle.blocks.specs.Choice.{pick, both}
-use Rattle.model.specs.Model.{markCount}
+use Rattle.model.specs.Model.{reservedWord, markCount}
 use Rattle.tree.specs.Tree.{slotBits, slots}
 use Rattle.tree.specs.Slots.{nodeOffset, siblingWord}
 use Rattle.layout.specs.Words.{
@@ -19,21 +19,23 @@ use Rattle.layout.specs.Words.{
   slotField,
 }
 pub use Rattle.layout.specs.declared.Slot.{Slot}
-pub use Rattle.layout.specs.declared.Slot.the-variants.{Empty, Held, Sibling, Child}
+pub use Rattle.layout.specs.declared.Slot.the-variants.{Empty, Reserved, Held, Sibling, Child}
 
 -- an entry of a node takes fewer than all its slots
 abbrev pub maxRun : ℕ
 maxRun = slotBits - 1
 
--- R31 read backwards
+-- R31, R200 read backwards
 unfoldable pub slotOf : ℕ → Slot
 slotOf w =
     pick (eqb w 0) Empty
-    (pick (eqb (w % 4) 2) (pick (ltb w (4 * nodeOffset)) (Sibling (w / 4)) (Child (w / 4 - nodeOffset))) Held)
+    (pick (eqb (w % 4) 2)
+    (pick (eqb w reservedWord) Reserved
+    (pick (ltb w (4 * nodeOffset)) (Sibling (w / 4)) (Child (w / 4 - nodeOffset)))) Held)
 
--- 1 for the word of a sibling slot, else 0
+-- 1 for the word of a sibling slot, which is below that of a reservation, else 0
 abbrev pub siblingBit : ℕ → ℕ
-siblingBit w = pick (both (eqb (w % 4) 2) (ltb w (4 * nodeOffset))) 1 0
+siblingBit w = pick (both (eqb (w % 4) 2) (ltb w reservedWord)) 1 0
 
 -- the words of a pool
 pub record Pool : Type 0 where

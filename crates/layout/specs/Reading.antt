@@ -10,7 +10,7 @@ use Rattle.layout.specs.Words.{place, slotPlace}
 abbrev pub Decides : Bool → Type 0 → Type 0
 Decides r A = (r ≡ true → A) × (r ≡ false → A → ⊥)
 
--- the word is that of a sibling slot or of a node
+-- the word is that of a sibling slot, of a reservation or of a node
 abbrev pub Internal : ℕ → Type 0
 Internal w = w % 4 ≡ 2
 

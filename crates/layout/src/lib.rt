@@ -48,13 +48,17 @@ pub const TOP_TIER: u64 = 11;
 // A node of tier u has the shift word SLOT_BITS * u - SHIFT_DROP.
 pub const SHIFT_DROP: u64 = SLOT_BITS - 1;
 
+// The word of a slot that is reserved.
+const RESERVED: u64 = 1030;
+
 const NODE_OFFSET: u64 = 1024;
 // Internal words from here on are those of nodes, below it those of siblings.
 const NODES_FROM: u64 = 4 * NODE_OFFSET;
 
-// What the word of a slot says: nothing; an entry's word; a sibling of the slot at an offset; the node with a number.
+// What the word of a slot says: nothing; a reservation; an entry's word; a sibling of the slot at an offset; the node with a number.
 pub enum Slot {
     Empty,
+    Reserved,
     Held,
     Sibling(u64),
     Child(u64),
@@ -225,23 +229,26 @@ pub fn read_slot(w: u64) -> Slot
     if w % 4 != 2 {
         return Slot::Held;
     }
+    if w == RESERVED {
+        return Slot::Reserved;
+    }
     if w < NODES_FROM {
         return Slot::Sibling(w / 4);
     }
     Slot::Child(w / 4 - NODE_OFFSET)
 }
 
-// 1 for the word of a sibling slot, else 0.
+// 1 for the word of a sibling slot, else 0; such a word is below that of a reservation.
 pub fn sibling_bit(w: u64) -> u64
     ensures { λ r. ⌜ r ≡ siblingBit w ⌝ }
 {
     if w % 4 != 2 {
         return 0;
     }
-    if w < NODES_FROM { 1 } else { 0 }
+    if w < RESERVED { 1 } else { 0 }
 }
 
-// Odd for the word of a sibling slot or of a node.
+// Odd for the word of a sibling slot, of a reservation or of a node.
 pub fn internal_bit(w: u64) -> u64
     ensures { λ r. ⌜ Decides (eqb (r % 2) 0) (Internal w → ⊥) ⌝ }
 {

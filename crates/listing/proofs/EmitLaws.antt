@@ -11,7 +11,7 @@ use borrow.Author.Tests.{lt-ltb, le-ltb, le-leb, lt-leb, leb-true, leb-false}
 use Rattle.blocks.specs.Choice.{pick}
 use Rattle.blocks.proofs.BoolLaws.{byT}
 use Rattle.model.specs.declared.Entry.{Entry}
-use Rattle.model.specs.Model.{meets}
+use Rattle.model.specs.Model.{meets, shown}
 use Rattle.batch.specs.Bytes.{writeFrom, overwrite}
 use Rattle.batch.proofs.WriteLaws.{written, overwrite-append, overwrite-all}
 use Rattle.batch.specs.Bytes.{bytesThen}
@@ -32,15 +32,15 @@ use Rattle.listing.specs.Listing.{
 use Rattle.listing.specs.Visits.{putAt, emit, Emits}
 
 -- the six numbers of an entry, one after the other
-pub entry-written : (s : List ℕ) {a b c d e f : List ℕ} (at : ℕ) (x : Entry) →
+pub entry-written : (s : List ℕ) {a b c d e f : List ℕ} (at : ℕ) (x : Entry) {w : ℕ} → w ≡ shown x →
     a ≡ overwrite s (at + 0) (bytesThen 1 listedTag []) → b ≡ overwrite a (at + 1) (bytesThen 2 listedLength []) →
     c ≡ overwrite b (at + 3) (bytesThen 8 (x .base) []) → d ≡ overwrite c (at + 11) (bytesThen 1 (x .order) []) →
-    e ≡ overwrite d (at + 12) (bytesThen 8 (x .word) []) → f ≡ overwrite e (at + 20) (bytesThen 1 (x .marks) []) →
+    e ≡ overwrite d (at + 12) (bytesThen 8 w []) → f ≡ overwrite e (at + 20) (bytesThen 1 (x .marks) []) →
     f ≡ overwrite s at (encodeEntry x)
 unfolding writeFrom
-entry-written s {a} {b} {c} {d} {e} {f} at x ha hb hc hd he hf =
+entry-written s {a} {b} {c} {d} {e} {f} at x hw ha hb hc hd he hf =
     let m₅ : List ℕ = bytesThen 1 (x .marks) [] in
-    let m₄ : List ℕ = bytesThen 8 (x .word) m₅ in
+    let m₄ : List ℕ = bytesThen 8 (shown x) m₅ in
     let m₃ : List ℕ = bytesThen 1 (x .order) m₄ in
     let m₂ : List ℕ = bytesThen 8 (x .base) m₃ in
     let m₁ : List ℕ = bytesThen 2 listedLength m₂ in
@@ -49,7 +49,7 @@ entry-written s {a} {b} {c} {d} {e} {f} at x ha hb hc hd he hf =
     ∙ written a at 1 2 listedLength m₂ hb
     ∙ written b at 3 8 (x .base) m₃ hc
     ∙ written c at 11 1 (x .order) m₄ hd
-    ∙ written d at 12 8 (x .word) m₅ he
+    ∙ written d at 12 8 (shown x) m₅ (he ∙ ap (λ (v : ℕ). overwrite d (at + 12) (bytesThen 8 v [])) hw)
     ∙ written e at 20 1 (x .marks) [] hf)
 
 -- ONE LIST OF ENTRIES AFTER ANOTHER

@@ -7,7 +7,7 @@ use lib.ListN.{length, drop}
 use Rattle.blocks.specs.Choice.{pick}
 use Rattle.blocks.specs.Lists.{keep}
 use Rattle.model.specs.declared.Entry.{Entry}
-use Rattle.model.specs.Model.{meets}
+use Rattle.model.specs.Model.{shown, meets}
 use Rattle.batch.specs.Bytes.{bytesThen}
 pub use Rattle.listing.specs.declared.Listed.{Listed}
 pub use Rattle.listing.specs.declared.Listed.the-variants.{Short, Done}
@@ -23,7 +23,7 @@ listedTag = 32
 abbrev pub listedLength : ℕ
 listedLength = 18
 
--- the bytes of an entry, with its tag and length
+-- the bytes of an entry, with its tag and length; of a reservation with entry 0 (R202)
 abbrev pub entryBytes : ℕ
 entryBytes = 21
 
@@ -33,7 +33,7 @@ encodeEntry e =
     (bytesThen 2 listedLength
     (bytesThen 8 (e .base)
     (bytesThen 1 (e .order)
-    (bytesThen 8 (e .word)
+    (bytesThen 8 (shown e)
     (bytesThen 1 (e .marks) [])))))
 
 abbrev pub listing : List Entry → List ℕ

@@ -16,6 +16,7 @@ use lookup::enter;
 use lookup::entry_at;
 use lookup::look;
 use model::Entry;
+use model::shown_word;
 ghost use Prim.Native.Nat.{_+_, _*_, _/_, suc, _≤_, _<_, _^_};
 ghost use mathlib.Core.Path.{_≡_};
 ghost use mathlib.Core.List.{[], _∷_};
@@ -52,11 +53,12 @@ fn write_entry(out: &mut [u8], at: usize, e: Entry)
     requires { ⌜ at + entryBytes ≤ length (now out) ⌝ }
     ensures { λ _. ⌜ now (out .exit) ≡ overwrite (now (out .entry)) at (encodeEntry e) ⌝ }
 {
+    let w = shown_word(e);
     put1(out, at + 0, TAG);
     put2(out, at + 1, LENGTH);
     put8(out, at + 3, e.base);
     put1(out, at + 11, e.order);
-    put8(out, at + 12, e.word);
+    put8(out, at + 12, w);
     put1(out, at + 20, e.marks);
 }
 

@@ -67,6 +67,7 @@ use Rattle.marks.proofs.MarkLaws.{
 use Rattle.marks.proofs.BitSetLaws.{bit-kept}
 use Rattle.tree.proofs.NodeListLaws.{has-low, has-tier}
 use Rattle.layout.proofs.RenderWordLaws.{pool-length, pool-anchor, place-of, pool-node}
+use Rattle.marks.specs.Climb.{Markable}
 
 -- the words where the nodes of the tiers up to v are new
 module _ (l l′ : List Entry) (ν : Numbering) (v : ℕ) where
@@ -81,7 +82,7 @@ pub record Hybrid {ws₀ : List ℕ} (s : WellFormed ws₀) (l′ : List Entry) 
       (getD (s .places) m none) k
 
 module _ {ws₀ : List ℕ} (s : WellFormed ws₀) (i m : ℕ) (m< : m < markCount) (b : Bool) (e : Entry)
-    (q : covering (s .list) i ≡ some e) where
+    (q : covering (s .list) i ≡ some e) (may : Markable e b) where
   abbrev l : List Entry
   l = s .list
 
@@ -106,7 +107,7 @@ module _ {ws₀ : List ℕ} (s : WellFormed ws₀) (i m : ℕ) (m< : m < markCou
       go n (some p) r k h =
           let (a, t) = place-of s n p r in
           byT (leb (p .tier) v)
-          (λ f. rw f (sym (field-off l (s .valid) i e q m m< b ν (p .tier) (p .number) k
+          (λ f. rw f (sym (field-off l (s .valid) i e q m m< b may ν (p .tier) (p .number) k
           (has-tier l (p .tier) (p .number) t .0) h (λ _ z. below p t (leb-true _ _ f) z))))
           (λ f. rw f)
         where
@@ -161,7 +162,7 @@ module _ {ws₀ : List ℕ} (s : WellFormed ws₀) (i m : ℕ) (m< : m < markCou
               (setBit (block (tierOrder v) (e .base) % slots) (slotMark l′ m v (block (tierOrder v) (e .base)))
               (getD ws (markPlace n m) 0)) 0 (omega (arith, hy .size, n< .0)) ∙
               (ap (setBit (block (tierOrder v) (e .base) % slots) (slotMark l′ m v (block (tierOrder v) (e .base))))
-              hybrid-old ∙ field-on l (s .valid) i e q m m< b ν v))
+              hybrid-old ∙ field-on l (s .valid) i e q m m< b may ν v))
 
           other : (n′ : ℕ) (o : Option Node) → getD (s .places) n′ none ≡ o → (k : ℕ) → IsField k →
               (n′ ≡ n → k ≡ fieldMark m → ⊥) → mixed l l′ ν v o k ≡ mixed l l′ ν (suc v) o k
@@ -177,7 +178,7 @@ module _ {ws₀ : List ℕ} (s : WellFormed ws₀) (i m : ℕ) (m< : m < markCou
               byT (leb (p .tier) (suc v))
               (λ f′. let g′ : p .tier ≤ suc v = leb-true _ _ f′ in
               let at : p .tier ≡ suc v = omega arith in
-              rw (f, f′) (sym (field-off l (s .valid) i e q m m< b ν (p .tier) (p .number) k (omega arith) h
+              rw (f, f′) (sym (field-off l (s .valid) i e q m m< b may ν (p .tier) (p .number) k (omega arith) h
               (λ c d. ne (y ∙ (ap₂ ν at (d ∙ ap (λ (u : ℕ). block (tierOrder u) (e .base)) at) ∙ sym (a .number)))
               c))))
               (λ f′. rw (f, f′)))
@@ -201,7 +202,7 @@ module _ {ws₀ : List ℕ} (s : WellFormed ws₀) (i m : ℕ) (m< : m < markCou
 
     pub hybrid-owner : getD ws (ownerPlace n) 0 ≡ owner l ν (suc v) (block (tierOrder (suc v)) (e .base))
     hybrid-owner = get-owner ws n l′ ν (height l′) v (block (tierOrder (suc v)) (e .base)) hybrid-new ∙ ap
-        (λ (h : ℕ). ownerUnder h ν (suc v) (block (tierOrder (suc v)) (e .base))) (same-height l (s .valid) i e q m m< b)
+        (λ (h : ℕ). ownerUnder h ν (suc v) (block (tierOrder (suc v)) (e .base))) (same-height l (s .valid) i e q m m< b may)
 
     v-top : suc v ≤ height l
     v-top = has-tier l (suc v) _ (a .there) .1
@@ -249,7 +250,7 @@ module _ {ws₀ : List ℕ} (s : WellFormed ws₀) (i m : ℕ) (m< : m < markCou
       flat = fits-base u e (look (height-fits low (omega arith)) (entry-in l (s .valid) i e q))
 
       marked : t ≡ any (hasMark m) l′
-      marked = tq ∙ (ap₂ (slotMark l′ m) top flat ∙ mark-top l (s .valid) i e q m m< b)
+      marked = tq ∙ (ap₂ (slotMark l′ m) top flat ∙ mark-top l (s .valid) i e q m m< b may)
 
       anchor : (k : ℕ) → k < anchorWords → getD (set ws marksWord (setBit m t (getD ws marksWord 0))) k 0 ≡ anchorWord
           l′ ν (s .n) k
@@ -257,10 +258,10 @@ module _ {ws₀ : List ℕ} (s : WellFormed ws₀) (i m : ℕ) (m< : m < markCou
           byT (eqb k marksWord)
           (λ f. let z : k ≡ marksWord = eqb-true _ _ f in
           rw z (getD-set-same ws marksWord (setBit m t (getD ws marksWord 0)) 0 (omega (arith, hy .size)) ∙
-          (ap₂ (setBit m) marked (hy .anchor marksWord (omega arith)) ∙ marks-on l (s .valid) i e q m m< b)))
+          (ap₂ (setBit m) marked (hy .anchor marksWord (omega arith)) ∙ marks-on l (s .valid) i e q m m< b may)))
           (λ f. let z : k ≡ marksWord → ⊥ = eqb-false _ _ f in
           getD-set-other ws marksWord k (setBit m t (getD ws marksWord 0)) 0 z ∙
-          (hy .anchor k h ∙ sym (anchor-off l (s .valid) i e q m m< b ν (s .n) k z)))
+          (hy .anchor k h ∙ sym (anchor-off l (s .valid) i e q m m< b may ν (s .n) k z)))
 
       node : (n k : ℕ) → n < s .n → IsField k → getD (set ws marksWord (setBit m t (getD ws marksWord 0)))
           (place n k) 0 ≡ fieldAt
@@ -275,7 +276,7 @@ module _ {ws₀ : List ℕ} (s : WellFormed ws₀) (i m : ℕ) (m< : m < markCou
 
 -- where the mark of the path's slot does not change, the rest is as it is to be
 module _ {ws₀ : List ℕ} (s : WellFormed ws₀) (i m : ℕ) (m< : m < markCount) (b : Bool) (e : Entry)
-    (q : covering (s .list) i ≡ some e) where
+    (q : covering (s .list) i ≡ some e) (may : Markable e b) where
   pub hybrid-same : {v : ℕ} {ws : List ℕ} → Hybrid s (remark (s .list) i m b) v ws →
       slotMark (remark (s .list) i m b) m v (block (tierOrder v) (e .base)) ≡ slotMark (s .list) m v
       (block (tierOrder v) (e .base)) → ws ≡ render (remark (s .list) i m b) (s .places) (s .n)
@@ -286,10 +287,10 @@ module _ {ws₀ : List ℕ} (s : WellFormed ws₀) (i m : ℕ) (m< : m < markCou
       anchor k h =
           byT (eqb k marksWord)
           (λ f. let z : k ≡ marksWord = eqb-true _ _ f in
-          rw z (hy .anchor marksWord (omega arith) ∙ sym (marks-same (s .list) (s .valid) i e q m m< b
-          (settled-any (s .list) (s .valid) i e q m m< b v same))))
+          rw z (hy .anchor marksWord (omega arith) ∙ sym (marks-same (s .list) (s .valid) i e q m m< b may
+          (settled-any (s .list) (s .valid) i e q m m< b may v same))))
           (λ f. let z : k ≡ marksWord → ⊥ = eqb-false _ _ f in
-          hy .anchor k h ∙ sym (anchor-off (s .list) (s .valid) i e q m m< b (num s) (s .n) k z))
+          hy .anchor k h ∙ sym (anchor-off (s .list) (s .valid) i e q m m< b may (num s) (s .n) k z))
 
       go : (n k : ℕ) → IsField k → (o : Option Node) → getD (s .places) n none ≡ o →
           mixed (s .list) (remark (s .list) i m b) (num s) v o k ≡ fieldAt (remark (s .list) i m b) (num s) o k
@@ -301,8 +302,8 @@ module _ {ws₀ : List ℕ} (s : WellFormed ws₀) (i m : ℕ) (m< : m < markCou
           (λ g. let g′ : v < p .tier = leb-false _ _ g in
           rw g (byT (eqb (p .number) (block (tierOrder (p .tier)) (e .base)))
           (λ d. let d′ : p .number ≡ block (tierOrder (p .tier)) (e .base) = eqb-true _ _ d in
-          rw d′ (sym (field-settled (s .list) (s .valid) i e q m m< b v same (num s) (p .tier) k g′ h)))
-          (λ d. sym (field-off (s .list) (s .valid) i e q m m< b (num s) (p .tier) (p .number) k pos h
+          rw d′ (sym (field-settled (s .list) (s .valid) i e q m m< b may v same (num s) (p .tier) k g′ h)))
+          (λ d. sym (field-off (s .list) (s .valid) i e q m m< b may (num s) (p .tier) (p .number) k pos h
           (λ _ z. eqb-false _ _ d z)))))
 
 -- THE WAY UP, as the loop takes it: the words of the tiers below are new, and b is the mark of the slot
@@ -310,6 +311,7 @@ pub record Climbing {ws₀ : List ℕ} (s : WellFormed ws₀) (i m : ℕ) (on : 
     Type 0 where
   pub entry : Entry
   pub covering-is : covering (s .list) i ≡ some entry
+  pub markable : Markable entry on
   pub at-node : AtNode (s .list) (num s) v (block (tierOrder (suc v)) (entry .base)) n
   pub slot-is : o ≡ block (tierOrder v) (entry .base) % slots
   pub bit-is : b ≡ slotMark (remark (s .list) i m on) m v (block (tierOrder v) (entry .base))
@@ -323,14 +325,16 @@ pub record Bounds (ws₀ ws : List ℕ) (n v o : ℕ) : Type 0 where
   pub same : length ws ≡ length ws₀
 
 module _ {ws₀ : List ℕ} (s : WellFormed ws₀) {i m : ℕ} (m< : m < markCount) {on : Bool} where
-  pub climb-start : {v n o : ℕ} → Holds (s .list) (num s) i n v o → Climbing s i m on v n o on ws₀
-  climb-start {v} h = record {
+  pub climb-start : {v n o : ℕ} (h : Holds (s .list) (num s) i n v o) → Markable (h .entry) on →
+      Climbing s i m on v n o on ws₀
+  climb-start {v} h may = record {
     entry = h .entry;
     covering-is = h .covering-is;
+    markable = may;
     at-node = h .at-node;
     slot-is = h .slot-is;
-    bit-is = sym (mark-entry (s .list) (s .valid) i (h .entry) (h .covering-is) m m< on v (h .low));
-    words-are = hybrid-start s i m m< on (h .entry) (h .covering-is) v (h .low);
+    bit-is = sym (mark-entry (s .list) (s .valid) i (h .entry) (h .covering-is) m m< on may v (h .low));
+    words-are = hybrid-start s i m m< on (h .entry) (h .covering-is) may v (h .low);
   }
 
   module _ {v n o : ℕ} {b : Bool} {ws : List ℕ} (a : Climbing s i m on v n o b ws) where
@@ -350,20 +354,21 @@ module _ {ws₀ : List ℕ} (s : WellFormed ws₀) {i m : ℕ} (m< : m < markCou
     module _ {ws′ : List ℕ} (e : ws′ ≡ set ws (markPlace n m)
         (setBit o b (getD ws (markPlace n m) 0))) where
       climb-put : Hybrid s (remark (s .list) i m on) (suc v) ws′
-      climb-put = rw (e, a .slot-is, a .bit-is) (hybrid-step s i m m< on (a .entry) (a .covering-is) (a .words-are)
+      climb-put = rw (e, a .slot-is, a .bit-is) (hybrid-step s i m m< on (a .entry) (a .covering-is) (a .markable) (a .words-are)
           (a .at-node))
 
       module _ {b′ : Bool} (t : b′ ≡ not (eqb (getD ws′ (markPlace n m) 0) 0)) {p : ℕ}
           (r : p ≡ getD ws′ (ownerPlace n) 0) where
         pub climb-next : (p ≡ 0 → ⊥) → Climbing s i m on (suc v) ((p - 1) / slots) ((p - 1) % slots) b′ ws′
         climb-next z =
-            let (h, k) = hybrid-up s i m m< on (a .entry) (a .covering-is) climb-put (a .at-node) p r z in
+            let (h, k) = hybrid-up s i m m< on (a .entry) (a .covering-is) (a .markable) climb-put (a .at-node) p r z in
             record {
               entry = a .entry;
               covering-is = a .covering-is;
+              markable = a .markable;
               at-node = h;
               slot-is = k;
-              bit-is = t ∙ hybrid-mark s i m m< on (a .entry) (a .covering-is) climb-put (a .at-node);
+              bit-is = t ∙ hybrid-mark s i m m< on (a .entry) (a .covering-is) (a .markable) climb-put (a .at-node);
               words-are = climb-put;
             }
 
@@ -371,15 +376,15 @@ module _ {ws₀ : List ℕ} (s : WellFormed ws₀) {i m : ℕ} (m< : m < markCou
             (remark (s .list) i m on) (s .places)
             (s .n)
         climb-end z =
-            hybrid-end s i m m< on (a .entry) (a .covering-is) climb-put
-            (hybrid-top s i m m< on (a .entry) (a .covering-is) climb-put (a .at-node) (sym r ∙ z)) b′
-            (t ∙ hybrid-mark s i m m< on (a .entry) (a .covering-is) climb-put (a .at-node))
+            hybrid-end s i m m< on (a .entry) (a .covering-is) (a .markable) climb-put
+            (hybrid-top s i m m< on (a .entry) (a .covering-is) (a .markable) climb-put (a .at-node) (sym r ∙ z)) b′
+            (t ∙ hybrid-mark s i m m< on (a .entry) (a .covering-is) (a .markable) climb-put (a .at-node))
 
     pub climb-stop : setBit o b (getD ws (markPlace n m) 0) ≡ getD ws (markPlace n m) 0 →
         ws ≡ render (remark (s .list) i m on) (s .places) (s .n)
     climb-stop z =
         let old : getD ws (markPlace n m) 0 ≡ field (s .list) (num s) (suc v)
-        (block (tierOrder (suc v)) (a .entry .base)) (fieldMark m) = hybrid-old s i m m< on (a .entry) (a .covering-is)
+        (block (tierOrder (suc v)) (a .entry .base)) (fieldMark m) = hybrid-old s i m m< on (a .entry) (a .covering-is) (a .markable)
         (a .words-are) (a .at-node) in
         let k : bit o (getD ws (markPlace n m) 0) ≡ pick b 1 0 = bit-kept o
         (getD ws (markPlace n m) 0) b z in
@@ -394,7 +399,7 @@ module _ {ws₀ : List ℕ} (s : WellFormed ws₀) {i m : ℕ} (m< : m < markCou
         (slotMark (s .list) m v (block (tierOrder v) (a .entry .base))) 1 0 = ap (bit o) (old ∙ w) ∙
         (bits-read (λ j. slotMark (s .list) m v (slots * block (tierOrder (suc v)) (a .entry .base) + j)) slots o
         (omega (arith, a .slot-is)) ∙ ap (λ (x : ℕ). pick (slotMark (s .list) m v x) 1 0) at) in
-        hybrid-same s i m m< on (a .entry) (a .covering-is) (a .words-are)
+        hybrid-same s i m m< on (a .entry) (a .covering-is) (a .markable) (a .words-are)
         (sym (a .bit-is) ∙ one b (slotMark (s .list) m v (block (tierOrder v) (a .entry .base))) (sym k ∙ r))
       where
         one : (x y : Bool) → pick {A = ℕ} x 1 0 ≡ pick {A = ℕ} y 1 0 → x ≡ y

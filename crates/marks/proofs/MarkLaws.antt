@@ -29,19 +29,7 @@ use Rattle.blocks.proofs.ListLaws.{
 use Rattle.blocks.proofs.BlockLaws.{block-up}
 use Rattle.blocks.proofs.BitLaws.{bits-read, bits-same, bits-zero, bits-none}
 use Rattle.model.specs.declared.Entry.{Entry}
-use Rattle.model.specs.Model.{
-  Valid,
-  covers,
-  covering,
-  starts,
-  within,
-  hasMark,
-  marksOf,
-  withMark,
-  remark,
-  erase,
-  markCount,
-}
+use Rattle.model.specs.Model.{Valid, covers, covering, starts, within, hasMark, marksOf, withMark, remark, erase, markCount, reserved}
 use Rattle.model.proofs.ValidLaws.{covers-self, sorted-ok, unique}
 use Rattle.tree.specs.Slots.{slot, entryWord, Numbering, nodeWord}
 use Rattle.tree.specs.Tree.{slotMark, height, slots, tierOrder}
@@ -53,6 +41,8 @@ use Rattle.layout.specs.Words.{field, fieldMark, ownerUnder, anchorWord, marksW
 use Rattle.layout.proofs.FieldLaws.{by-field, field-shift, field-owner, field-mark, field-slot, level-mark}
 use Rattle.marks.proofs.BitSetLaws.{set-bits}
 use Rattle.model.proofs.MarkLaws.{marks-bits, marks-of-bits}
+use Rattle.marks.specs.Climb.{Markable}
+use Rattle.model.proofs.WordLaws.{reserved-bare}
 
 -- a node's mark word is 0 where the slot that leads to the node has no mark
 pub word-mark : (l : List Entry) (m v b : ℕ) → not (eqb (bitsTo (λ j. slotMark l m v (slots * b + j)) slots) 0) ≡
@@ -108,7 +98,7 @@ module _ (l : List Entry) (val : Valid l) (i : ℕ) (e : Entry) (q : covering l 
   unfolding slotMark
   mark-old m u c = one-apart (λ x. both (starts (tierOrder u) c x) (hasMark m x))
 
-  module _ (m : ℕ) (m< : m < markCount) (b : Bool) where
+  module _ (m : ℕ) (m< : m < markCount) (b : Bool) (may : Markable e b) where
     abbrev f : Entry → Entry
     f = withMark i m b
 
@@ -135,14 +125,23 @@ module _ (l : List Entry) (val : Valid l) (i : ℕ) (e : Entry) (q : covering l 
     unfolding slotMark
     mark-new k u c = one-new (λ x. both (starts (tierOrder u) c x) (hasMark k x))
 
-    -- the entry's own marks
+    -- the entry's own marks; clearing leaves a reservation as it is
+    set-marks : f e .marks ≡ setBit m b (e .marks)
+    set-marks = byT (reserved e)
+        (λ t. let z : e .marks ≡ 0 = reserved-bare e (look (sorted-ok val) entry-in .word-ok) t .1 in
+        rw (entry-covers, t, may t, z) (sym (bare m)))
+        (λ t. rw (entry-covers, t) refl)
+      where
+        bare : (m : ℕ) → setBit m false 0 ≡ 0
+        bare m = omega arith
+
     new-marks : f e .marks ≡ bitsTo (λ j. pick (eqb j m) b (hasMark j e)) 3
     new-marks =
         let g : ℕ → Bool = λ j. pick (eqb j m) b (hasMark j e) in
         let w : setBit m (g m) (bitsTo (λ j. hasMark j e) 3) ≡ bitsTo g 3 = set-bits (λ j. hasMark j e) g m 3 m<
         (λ j lt ne. sym (rw (ne-eqb j m ne))) in
         let t : b ≡ pick (eqb m m) b (hasMark m e) = rw (eq-eqb m m refl) in
-        rw entry-covers (ap₂ (λ (t : Bool) (x : ℕ). setBit m t x) t
+        set-marks ∙ (ap₂ (λ (t : Bool) (x : ℕ). setBit m t x) t
         (sym (marks-bits e (look (sorted-ok val) entry-in .marks-fit))) ∙ w)
 
     pub has-new : (k : ℕ) → k < markCount → hasMark k (f e) ≡ pick (eqb k m) b (hasMark k e)

@@ -3,16 +3,16 @@ use Prim.Native.Nat.{ℕ, suc, _+_, _*_, _-_, _^_, _<_}
 use mathlib.Core.Path.{_≡_, refl, sym, ap, ap₂, subst, _∙_}
 use mathlib.Core.Bool.{Bool, true, false}
 use mathlib.Core.List.{List, [], _∷_}
-use mathlib.Core.Option.{none, some}
+use mathlib.Core.Option.{none, some, Option}
 use native.Mathlib.Omega.{arith}
-use lib.Dec.{eqb}
+use lib.Dec.{eqb, T}
 use lib.ListN.{getD, set}
 use borrow.Author.Tests.{eq-eqb, ne-eqb}
-use Rattle.blocks.specs.Choice.{pick}
+use Rattle.blocks.specs.Choice.{pick, either, both}
 use Rattle.blocks.specs.Blocks.{block, bit, bitsTo, setBit}
-use Rattle.blocks.proofs.BoolLaws.{byT}
+use Rattle.blocks.proofs.BoolLaws.{byT, clash, both-l}
 use Rattle.blocks.specs.Lists.{All, there, end, also}
-use Rattle.blocks.proofs.ListLaws.{All-map, first-yes, each, first-no}
+use Rattle.blocks.proofs.ListLaws.{All-map, first-yes, each}
 use Rattle.blocks.proofs.BitLaws.{bits-lt}
 use Rattle.model.specs.declared.Entry.{Entry}
 use Rattle.model.specs.Model.{
@@ -20,9 +20,14 @@ use Rattle.model.specs.Model.{
   Valid,
   done,
   more,
+  storable,
+  reserved,
+  wordOk,
   covers,
   covering,
+  present,
   hasMark,
+  takesMark,
   withMark,
   remark,
   erase,
@@ -42,7 +47,9 @@ use Rattle.marks.proofs.MarkLaws.{mark-entry}
 use Rattle.layout.specs.Words.{marksWord}
 use Rattle.model.proofs.MarkLaws.{marks-bits}
 use Rattle.model.proofs.ValidLaws.{sole}
+use Rattle.model.proofs.WordLaws.{entry-storable}
 use Rattle.layout.proofs.StayLaws.{places-stay, places-alike}
+use Rattle.marks.specs.Climb.{Markable}
 
 -- A MARK CHANGED: still a list, at the same places
 set-small : (w m : ℕ) (b : Bool) → w < 8 → m < markCount → setBit m b w < 8
@@ -55,6 +62,15 @@ set-small w m b h lt =
     let q : setBit m b w ≡ bitsTo g 3 = ap₂ (λ (t : Bool) (x : ℕ). setBit m t x) t (sym (marks-bits e h)) ∙ p in
     subst (λ (x : ℕ). x < 8) (sym q) (bits-lt g 3)
 
+marked-word : (i m : ℕ) (b : Bool) (e : Entry) → T (wordOk e) → T (wordOk (withMark i m b e))
+marked-word i m b e ok = byT (reserved e)
+    (λ r. subst (λ (x : ℕ). T (either (storable (e .word)) (both (reserved e) (both (eqb (e .order) 0) (eqb x 0)))))
+    (sym (kept r)) ok)
+    (λ r. rw (entry-storable e ok r) tt)
+  where
+    kept : reserved e ≡ true → withMark i m b e .marks ≡ e .marks
+    kept r = byT (covers i e) (λ t. rw (t, r) refl) (λ t. rw t refl)
+
 pub sorted-remark : (i m : ℕ) (b : Bool) → m < markCount → {n : ℕ} {l : List Entry} → Sorted n l →
     Sorted n (remark l i m b)
 sorted-remark i m b lt done = done
@@ -62,9 +78,9 @@ sorted-remark i m b lt (more {e} h ok s) = more {e = withMark i m b e} h (record
   order-le = ok .order-le;
   aligned = ok .aligned;
   in-range = ok .in-range;
-  word-ok = ok .word-ok;
+  word-ok = marked-word i m b e (ok .word-ok);
   word-fits = ok .word-fits;
-  marks-fit = byT (covers i e) (λ t. rw t (set-small (e .marks) m b (ok .marks-fit) lt)) (λ t. rw t (ok .marks-fit));
+  marks-fit = byT (takesMark i e) (λ t. rw t (set-small (e .marks) m b (ok .marks-fit) lt)) (λ t. rw t (ok .marks-fit));
 }) (sorted-remark i m b lt s)
 
 module _ (i m : ℕ) (b : Bool) where
@@ -98,15 +114,12 @@ module _ (i m : ℕ) (b : Bool) where
       (λ t. rw t (ap (λ (r : List Entry). x ∷ r) (erase-remark l)))
 
 -- NOTHING THERE, AND AN ENTRY AS HEAD
-pub remark-none : (l : List Entry) (i m : ℕ) (b : Bool) → covering l i ≡ none → remark l i m b ≡ l
-remark-none l i m b q = go (first-no (covers i) l q)
+still : (i m : ℕ) (b : Bool) {l : List Entry} → All (λ x. takesMark i x ≡ false) l → remark l i m b ≡ l
+still i m b end = refl
+still i m b (also {x} f a) = ap₂ _∷_ (off x f) (still i m b a)
   where
-    go : {s : List Entry} → All (λ x. covers i x ≡ false) s → remark s i m b ≡ s
-    go end = refl
-    go (also {x} {l = s} f a) = ap₂ _∷_ (off x f) (go a)
-      where
-        off : (x : Entry) → covers i x ≡ false → withMark i m b x ≡ x
-        off x t = rw t refl
+    off : (x : Entry) → takesMark i x ≡ false → withMark i m b x ≡ x
+    off x t = rw t refl
 
 -- a mark that the entry there does not have
 clear-bit : (m y : ℕ) → bit m y ≡ 0 → setBit m false y ≡ y
@@ -119,8 +132,8 @@ remark-clear {l} {e} i m v q z = go (All-map off (sole i v))
     off : (x : Entry) → (covers i x ≡ true → covering l i ≡ some x) → withMark i m false x ≡ x
     off x f =
         ap (λ (y : ℕ). record { base = x .base; order = x .order; word = x .word; marks = y })
-        (byT (covers i x)
-        (λ t. let d : e ≡ x = cc (f t) in
+        (byT (takesMark i x)
+        (λ t. let d : e ≡ x = cc (f (both-l (covers i x) _ t)) in
         rw t (clear-bit m (x .marks) (subst (λ (y : Entry). bit m (y .marks) ≡ 0) d z)))
         (λ t. rw t))
 
@@ -128,18 +141,32 @@ remark-clear {l} {e} i m v q z = go (All-map off (sole i v))
     go end = refl
     go (also h a) = ap₂ _∷_ h (go a)
 
-pub words-none : {ws : List ℕ} (s : WellFormed ws) (i m : ℕ) (b : Bool) → covering (s .list) i ≡ none →
+pub remark-absent : (l : List Entry) (i m : ℕ) (b : Bool) → Valid l → present (covering l i) ≡ none → remark l i m b ≡ l
+remark-absent l i m b v q = still i m b (All-map (λ x f. no x f) (sole i v))
+  where
+    no : (x : Entry) → (covers i x ≡ true → covering l i ≡ some x) → takesMark i x ≡ false
+    no x f = byT (covers i x)
+        (λ t. byT (reserved x) (λ r. rw (t, r) refl)
+        (λ r. absurd (let z : _≡_ {A = Option Entry} (some x) none = sym (rw r refl) ∙ ap present (sym (f t)) ∙ q in
+        clash {b = true} refl (ap given z))))
+        (λ t. rw t refl)
+      where
+        given : Option Entry → Bool
+        given none = false
+        given (some e) = true
+
+pub words-absent : {ws : List ℕ} (s : WellFormed ws) (i m : ℕ) (b : Bool) → present (covering (s .list) i) ≡ none →
     ws ≡ render (remark (s .list) i m b) (s .places) (s .n)
-words-none s i m b q = s .words-are ∙ ap (λ (l : List Entry). render l (s .places) (s .n))
-    (sym (remark-none (s .list) i m b q))
+words-absent s i m b q = s .words-are ∙ ap (λ (l : List Entry). render l (s .places) (s .n))
+    (sym (remark-absent (s .list) i m b (s .valid) q))
 
 -- an entry as head
 pub head-mark : {ws : List ℕ} (s : WellFormed ws) (i m : ℕ) (b : Bool) → m < markCount → (e : Entry) →
-    covering (s .list) i ≡ some e → height (s .list) ≡ 0 →
+    covering (s .list) i ≡ some e → Markable e b → height (s .list) ≡ 0 →
     set ws marksWord (setBit m b (getD ws marksWord 0)) ≡ render (remark (s .list) i m b) (s .places) (s .n)
-head-mark s i m b m< e q z =
-    hybrid-end s i m m< b e q (hybrid-start s i m m< b e q 0 (omega arith)) (sym z) b
-    (sym (mark-entry (s .list) (s .valid) i e q m m< b 0 (omega arith)))
+head-mark s i m b m< e q may z =
+    hybrid-end s i m m< b e q may (hybrid-start s i m m< b e q may 0 (omega arith)) (sym z) b
+    (sym (mark-entry (s .list) (s .valid) i e q m m< b may 0 (omega arith)))
 
 -- the entry stays where it is
 pub holds-remark : {l : List Entry} {ν : Numbering} {n v o : ℕ} (i m : ℕ) (b : Bool) → Holds l ν i n v o →
@@ -176,11 +203,13 @@ places-then-remark old l os i m b = places-alike old l (remark l i m b) os (new-
 
 -- THE ANSWER
 module _ (l : List Entry) (i m : ℕ) (b : Bool) where
-  pub answer-none : covering l i ≡ none → Nothing ≡ covered (covering (remark l i m b) i)
-  answer-none q = sym (ap (λ (k : List Entry). covered (covering k i)) (remark-none l i m b q) ∙ ap covered q)
+  pub answer-none : Valid l → present (covering l i) ≡ none → Nothing ≡ covered (present (covering (remark l i m b) i))
+  answer-none v q = sym (ap (λ (k : List Entry). covered (present (covering k i))) (remark-absent l i m b v q) ∙
+      ap covered q)
 
-  pub answer-some : {e r : Entry} → covering l i ≡ some e → (covers i e ≡ true → r ≡ withMark i m b e) →
-      By r ≡ covered (covering (remark l i m b) i)
-  answer-some {e} q f =
-      ap By (f (first-yes (covers i) (each l (λ x m. m)) q .0)) ∙
-      ap covered (sym (covering-map (withMark i m b) (λ x. refl) (λ x. refl) i l ∙ ap (mapO (withMark i m b)) q))
+  pub answer-some : {e r : Entry} → covering l i ≡ some e → reserved e ≡ false →
+      (covers i e ≡ true → r ≡ withMark i m b e) → By r ≡ covered (present (covering (remark l i m b) i))
+  answer-some {e} q n f =
+      ap By (f (first-yes (covers i) (each l (λ x m. m)) q .0)) ∙ sym
+      (ap (λ (o : Option Entry). covered (present o))
+      (covering-map (withMark i m b) (λ x. refl) (λ x. refl) i l ∙ ap (mapO (withMark i m b)) q) ∙ (rw n refl))

@@ -13,13 +13,14 @@ use lookup::Spot;
 use lookup::locate;
 use model::Covered;
 use model::Entry;
+use model::is_reserved;
 ghost use Prim.Native.Nat.{ℕ, _<_};
 ghost use mathlib.Core.Path.{_≡_};
-ghost use mathlib.Core.Bool.{Bool, true, not};
+ghost use mathlib.Core.Bool.{Bool, true, false, not};
 ghost use lib.Dec.{eqb};
 ghost use lib.ListN.{getD, set};
 ghost use Rattle.blocks.specs.Blocks.{setBit};
-ghost use Rattle.model.specs.Model.{markCount, covers, covering, covered, withMark, remark};
+ghost use Rattle.model.specs.Model.{reserved, markCount, covers, covering, present, covered, withMark, remark};
 ghost use Rattle.tree.specs.Tree.{slots};
 ghost use Rattle.layout.specs.Words.{marksWord};
 ghost use Rattle.layout.specs.Places.{render};
@@ -67,7 +68,7 @@ fn mark_anchor(pool: &mut [u64], m: u64, on: bool)
 // a slot above keeps the mark while any slot of the node below has it. Then the anchor's.
 pub fn climb(pool: &mut [u64], i: u64, at: Spot, m: u64, on: bool)
     requires { ⌜ m < markCount ⌝ }
-    requires { ⌜ StandsAt i (at .node) (at .tier) (at .slot) (now pool) ⌝ }
+    requires { ⌜ StandsAt i (at .node) (at .tier) (at .slot) on (now pool) ⌝ }
     ensures { λ _. ⌜ ((s : WellFormed (now (pool .entry))) →
         Holds (s .list) (num s) i (at .node) (at .tier) (at .slot) →
         now (pool .exit) ≡ render (remark (s .list) i m on) (s .places) (s .n)) ⌝ }
@@ -98,6 +99,7 @@ pub fn climb(pool: &mut [u64], i: u64, at: Spot, m: u64, on: bool)
 // The entry with mark m set or cleared.
 fn remarked(e: Entry, m: u64, on: bool) -> Entry
     requires { ⌜ m < markCount ⌝ }
+    requires { ⌜ reserved e ≡ false ⌝ }
     ensures { λ r. ⌜ ((i : ℕ) → covers i e ≡ true → r ≡ withMark i m on e) ⌝ }
 {
     let b = e.base;
@@ -113,11 +115,11 @@ fn remarked(e: Entry, m: u64, on: bool) -> Entry
     }
 }
 
-// Sets or clears mark m of the entry that covers i; the entry as it then stands.
+// Sets or clears mark m of the entry that covers i; the entry as it then stands. A reservation has no marks, and stays.
 pub fn set_mark(pool: &mut [u64], i: u64, m: u64, on: bool) -> Covered
     requires { ⌜ WellFormed (now pool) ⌝ }
     requires { ⌜ m < markCount ⌝ }
-    ensures { λ r. ⌜ ((s : WellFormed (now (pool .entry))) → r ≡ covered (covering (remark (s .list) i m on) i)) ⌝ }
+    ensures { λ r. ⌜ ((s : WellFormed (now (pool .entry))) → r ≡ covered (present (covering (remark (s .list) i m on) i))) ⌝ }
     ensures { λ _. ⌜ ((s : WellFormed (now (pool .entry))) →
         now (pool .exit) ≡ render (remark (s .list) i m on) (s .places) (s .n)) ⌝ }
 {
@@ -126,12 +128,18 @@ pub fn set_mark(pool: &mut [u64], i: u64, m: u64, on: bool) -> Covered
         Located::Apart => Covered::Nothing,
         Located::Vacant(_, _, _) => Covered::Nothing,
         Located::AtHead(e) => {
+            if is_reserved(e) {
+                return Covered::Nothing;
+            }
             mark_anchor(pool, m, on);
             Covered::By(remarked(e, m, on))
         }
-        Located::InNode(e, at, _) => {
+        Located::InNode(x, at, _) => {
+            if is_reserved(x) {
+                return Covered::Nothing;
+            }
             climb(pool, i, at, m, on);
-            Covered::By(remarked(e, m, on))
+            Covered::By(remarked(x, m, on))
         }
     }
 }

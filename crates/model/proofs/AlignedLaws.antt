@@ -2,13 +2,13 @@
 -- the laws of the latter, and of marks, are laws of it.
 use Prim.Native.Nat.{ℕ, _+_, _*_, _%_, _^_, _<_, _≤_}
 use mathlib.Core.Path.{_≡_, refl, sym, ap, ap₂, subst, _∙_}
-use mathlib.Core.Bool.{Bool, true, false}
+use mathlib.Core.Bool.{Bool, true, false, not}
 use mathlib.Core.List.{List, [], _∷_, map}
 use native.Mathlib.Omega.{arith}
 use native.Mathlib.Nat.{div-add-mod', mul-mod-left, zero-div, zero-mul}
 use lib.Dec.{leb, eqb}
-use borrow.Author.Tests.{leb-true, ltb-true, le-leb, lt-ltb, eqb-true, eq-eqb}
-use Rattle.blocks.specs.Choice.{pick}
+use borrow.Author.Tests.{leb-true, ltb-true, le-leb, lt-ltb, eqb-true, eq-eqb, ne-eqb}
+use Rattle.blocks.specs.Choice.{pick, both}
 use Rattle.blocks.specs.Lists.{any, All, end, also}
 use Rattle.blocks.specs.Blocks.{block, setBit}
 use Rattle.blocks.proofs.BoolLaws.{both-l, both-r, byT, iff, is-false}
@@ -17,6 +17,8 @@ use Rattle.blocks.proofs.BlockLaws.{block-at, block-lo, block-hi}
 use Rattle.model.specs.declared.Entry.{Entry}
 use Rattle.model.specs.Model.{
   EntryOk,
+  storable,
+  reservedWord,
   aligned,
   matchedMark,
   covers,
@@ -32,13 +34,15 @@ use Rattle.model.specs.Model.{
   over,
   withWord,
   store,
+  takesMark,
   withMark,
   remark,
 }
 use Rattle.model.specs.ByBlock as B
 use Rattle.model.proofs.InsertLaws.{map-insert}
 use Rattle.model.proofs.RangeLaws.{clear-uncovered}
-use Rattle.model.proofs.ValidLaws.{block-in, room}
+use Rattle.model.proofs.ValidLaws.{block-in, room, bare}
+use Rattle.model.proofs.WordLaws.{storable-kind}
 
 -- R7: so is the base of an entry
 pub base-aligned : (e : Entry) → EntryOk e → aligned (e .order) (e .base) ≡ true
@@ -60,9 +64,20 @@ kept-marks l = go (any (hasMark 0) l) (any (hasMark 1) l) (any (hasMark 2) l)
     go false false true = refl
     go false false false = refl
 
-over-is : (l : List Entry) (i w : ℕ) → map (withWord i w) l ≡ remark (map (B.withWord i w) l) i matchedMark false
-over-is [] i w = refl
-over-is (x ∷ l) i w = ap (λ (r : List Entry). withWord i w x ∷ r) (over-is l i w)
+-- what a store carries is no reservation, so a mark can be cleared in it
+storable-takes : (w : ℕ) → storable w ≡ true → eqb w reservedWord ≡ false
+storable-takes w st = ne-eqb w reservedWord (λ q. storable-kind w st .1 (omega (arith, q)))
+
+over-one : (i w : ℕ) (x : Entry) → eqb w reservedWord ≡ false →
+    withWord i w x ≡ withMark i matchedMark false (B.withWord i w x)
+over-one i w x n =
+    ap (λ (m : ℕ). record { base = x .base; order = x .order; word = pick (covers i x) w (x .word); marks = m })
+    (byT (covers i x) (λ t. rw (t, n)) (λ t. rw t))
+
+over-is : (l : List Entry) (i w : ℕ) → eqb w reservedWord ≡ false →
+    map (withWord i w) l ≡ remark (map (B.withWord i w) l) i matchedMark false
+over-is [] i w n = refl
+over-is (x ∷ l) i w n = ap₂ _∷_ (over-one i w x n) (over-is l i w n)
 
 remark-off : {l : List Entry} (i m : ℕ) (b : Bool) → All (λ x. covers i x ≡ true → ⊥) l → remark l i m b ≡ l
 remark-off i m b end = refl
@@ -109,19 +124,35 @@ module _ (i k : ℕ) (al : aligned k i ≡ true) where
     new-covers : (w : ℕ) → covers i (B.newEntry l i k w) ≡ true
     new-covers w = eq-eqb (block k i) _ (sym (block-at k (block k i)))
 
-    new-is : (w : ℕ) → newEntry l i k w ≡ withMark i matchedMark false (B.newEntry l i k w)
-    new-is w =
+    kept-is : keptMarks (inside l i k) ≡ setBit matchedMark false (marksOf (B.inside l i k))
+    kept-is = ap keptMarks inside-is ∙ kept-marks (B.inside l i k)
+
+    new-is : (w : ℕ) → eqb w reservedWord ≡ false → newEntry l i k w ≡ withMark i matchedMark false (B.newEntry l i k w)
+    new-is w n =
         ap₂ (λ (b m : ℕ). record { base = b; order = k; word = w; marks = m }) (sym whole)
-        (ap keptMarks inside-is ∙ kept-marks (B.inside l i k)
-        ∙ ap (λ (t : Bool). pick t (setBit matchedMark false x) x) (sym (new-covers w)))
+        (kept-is ∙ ap (λ (t : Bool). pick t (setBit matchedMark false x) x) (sym (takes (new-covers w))))
       where
         x : ℕ
         x = marksOf (B.inside l i k)
 
+        takes : covers i (B.newEntry l i k w) ≡ true → takesMark i (B.newEntry l i k w) ≡ true
+        takes c = rw (c, n)
+
     -- R11, R14, R190: no other entry is over it
-    pub store-is : (w : ℕ) → store l i k w ≡ remark (B.store l i k w) i matchedMark false
-    store-is w = byT (any (over i k) l) (λ t. rw t (over-is l i w)) (λ t. rw t (ap₂ insert (new-is w) (cleared t)
+    pub store-is : (w : ℕ) → storable w ≡ true → store l i k w ≡ remark (B.store l i k w) i matchedMark false
+    store-is w st = byT (any (over i k) l) (λ t. rw t (over-is l i w n)) (λ t. rw t (ap₂ insert (new-is w n) (cleared t)
         ∙ sym (map-insert (withMark i matchedMark false) (λ x. refl) (B.newEntry l i k w) (B.clear l i k))))
       where
+        n : eqb w reservedWord ≡ false
+        n = storable-takes w st
+
         cleared : any (over i k) l ≡ false → clear l i k ≡ remark (B.clear l i k) i matchedMark false
         cleared t = clear-is ∙ sym (remark-off i matchedMark false (clear-uncovered i k l (room l i k t) i refl))
+
+    -- R201: where nothing is replaced there are no marks to keep
+    pub bare-is : (w : ℕ) → k ≡ 0 → any (over i k) l ≡ false → store l i k w ≡ B.store l i k w
+    bare-is w z t = rw t (ap₂ insert new clear-is)
+      where
+        new : newEntry l i k w ≡ B.newEntry l i k w
+        new = ap₂ (λ (b m : ℕ). record { base = b; order = k; word = w; marks = m }) (sym whole)
+            (kept-is ∙ ap (setBit matchedMark false) (bare i k w l t z) ∙ sym (bare i k w l t z))

@@ -3,3 +3,4 @@ pub mod InsertLaws
 pub mod RangeLaws
 pub mod ValidLaws
 pub mod AlignedLaws
+pub mod WordLaws

@@ -6,11 +6,12 @@ use mathlib.Core.List.{List, map}
 use mathlib.Core.Option.{none, some}
 use native.Mathlib.Omega.{arith}
 use native.Mathlib.Nat.{le-refl, le-trans, lt-of-le-of-lt, div-eq-of-lt-le}
-use lib.Dec.{leb, ltb, T}
-use borrow.Author.Tests.{leb-true, leb-false, eqb-true, ltb-true, ltb-false, eq-eqb}
+use lib.Dec.{leb, ltb, eqb, T}
+use borrow.Author.Tests.{le-leb, leb-true, leb-false, eqb-true, ltb-true, ltb-false, eq-eqb}
+use Rattle.blocks.specs.Choice.{both}
 use Rattle.blocks.specs.Lists.{any, without, All, end, also, In}
 use Rattle.blocks.specs.Blocks.{block}
-use Rattle.blocks.proofs.BoolLaws.{clash, byT, iff}
+use Rattle.blocks.proofs.BoolLaws.{clash, byT, iff, is-false, both-i, both-l, both-r, T-true}
 use Rattle.blocks.proofs.ListLaws.{
   All-map,
   All-without,
@@ -19,14 +20,19 @@ use Rattle.blocks.proofs.ListLaws.{
   first-no,
   without-none,
   without-same,
+  keep-none,
   each,
   look,
 }
-use Rattle.blocks.proofs.BlockLaws.{pow-pos, block-at, block-lo, block-hi}
+use Rattle.blocks.proofs.BlockLaws.{pow-pos, block-up, block-at, block-lo, block-hi}
 use Rattle.model.specs.declared.Entry.{Entry}
 use Rattle.model.specs.Model.{
   EntryOk,
   storable,
+  reservedWord,
+  enterable,
+  wordOk,
+  marksOf,
   insert,
   covers,
   covering,
@@ -92,6 +98,11 @@ sorted-insert e le ok (more {e = x} h okx s) (also b a) =
         byT (ltb (x .base) (e .base)) (λ d. b .0 (ltb-true _ _ d))
         (λ d. absurd (omega (arith, pow-pos (e .order), b .1 (omega (arith, ltb-false)), ltb-false)))
 
+pub room : (l : List Entry) (i k : ℕ) → any (over i k) l ≡ false → All (Room i k) l
+room l i k n =
+    All-map (λ x f t. byT (leb k (x .order)) (λ s. absurd (clash {b = over i k x} (rw (t, s)) f))
+    (λ s. omega (arith, leb-false))) (any-no (over i k) l n)
+
 -- what is cleared lies beside the run
 module _ (i k w : ℕ) (l : List Entry) where
   beside : (x : Entry) → EntryOk x → starts k (block k i) x ≡ false → (covers (block k i * 2 ^ k) x ≡ true → ⊥) →
@@ -112,21 +123,39 @@ module _ (i k w : ℕ) (l : List Entry) where
       zip end end = end
       zip (also {x} h a) (also c d) = also (beside x (h .1) (h .0) c) (zip a d)
 
-  new-ok : i < 2 ^ 64 → k ≤ 63 → T (storable w) → w < 2 ^ 64 → EntryOk (newEntry l i k w)
-  new-ok i< k≤ st w< = record {
+  -- where nothing covers the index, a new entry of order 0 has no marks
+  pub bare : any (over i k) l ≡ false → k ≡ 0 → marksOf (inside l i k) ≡ 0
+  bare n z = ap marksOf (keep-none (starts k (block k i)) (All-map (λ x f. off x f) (any-no (over i k) l n)))
+    where
+      off : (x : Entry) → over i k x ≡ false → starts k (block k i) x ≡ false
+      off x f = is-false (λ t. clash (both-i (eq-eqb _ _ (sym (up x (eqb-true _ _ t))))
+          (le-leb k (x .order) (omega (arith, z)))) f)
+        where
+          up : (x : Entry) → block k (x .base) ≡ block k i → block (x .order) (x .base) ≡ block (x .order) i
+          up x q = block-up {j = k} {k = x .order} (x .base) i (omega (arith, z)) q
+
+  new-word : any (over i k) l ≡ false → T (enterable k w) → T (wordOk (newEntry l i k w))
+  new-word n st = byT (storable w) (λ t. rw t tt) (λ t. let h : T (both (eqb w reservedWord) (eqb k 0)) = rw t at st in
+      let h′ : both (eqb w reservedWord) (eqb k 0) ≡ true = T-true _ h in
+      let a : eqb w reservedWord ≡ true = both-l (eqb w reservedWord) _ h′ in
+      let b : eqb k 0 ≡ true = both-r (eqb w reservedWord) _ h′ in
+      rw (t, a, b, bare n (eqb-true _ _ b)) tt)
+
+  new-ok : any (over i k) l ≡ false → i < 2 ^ 64 → k ≤ 63 → T (enterable k w) → w < 2 ^ 64 → EntryOk (newEntry l i k w)
+  new-ok n i< k≤ st w< = record {
     order-le = k≤;
     aligned = ap (λ (q : ℕ). q * 2 ^ k) (block-at k (block k i));
     in-range = lt-of-le-of-lt (block-lo k i) i<;
-    word-ok = st;
+    word-ok = new-word n st;
     word-fits = w<;
     marks-fit = marks-lt (inside l i k);
   }
 
-  pub store-at-valid : Valid l → All (Room i k) l → i < 2 ^ 64 → k ≤ 63 → T (storable w) → w < 2 ^ 64 →
+  pub store-at-valid : Valid l → any (over i k) l ≡ false → i < 2 ^ 64 → k ≤ 63 → T (enterable k w) → w < 2 ^ 64 →
       Valid (storeNew l i k w)
-  store-at-valid v r i< k≤ st w< =
-      sorted-insert (newEntry l i k w) (omega arith) (new-ok i< k≤ st w<) (sorted-without (starts k (block k i)) v)
-      (all-beside (sorted-ok v) r)
+  store-at-valid v n i< k≤ st w< =
+      sorted-insert (newEntry l i k w) (omega arith) (new-ok n i< k≤ st w<) (sorted-without (starts k (block k i)) v)
+      (all-beside (sorted-ok v) (room l i k n))
 
 -- ONE ENTRY AT MOST COVERS AN INDEX
 sorted-above : {n : ℕ} {l : List Entry} (y : ℕ) → y < n → Sorted n l → All (λ x. covers y x ≡ true → ⊥) l
@@ -147,11 +176,6 @@ unique {l} {x} {y} z v m n s t =
     let q : covering l z ≡ some y = look (sole z v) n t in
     cc
 
-pub room : (l : List Entry) (i k : ℕ) → any (over i k) l ≡ false → All (Room i k) l
-room l i k n =
-    All-map (λ x f t. byT (leb k (x .order)) (λ s. absurd (clash {b = over i k x} (rw (t, s)) f))
-    (λ s. omega (arith, leb-false))) (any-no (over i k) l n)
-
 pub room-some : {l : List Entry} {e : Entry} (i : ℕ) → Valid l → covering l i ≡ some e → All (Room i (e .order)) l
 room-some {l} {e} i v q = All-map (λ x f t. let d : e ≡ x = cc (f t) in rw d (le-refl _)) (sole i v)
 
@@ -162,16 +186,19 @@ sorted-word i w st w< (more {e} h ok s) = more {e = withWord i w e} h (record {
   order-le = ok .order-le;
   aligned = ok .aligned;
   in-range = ok .in-range;
-  word-ok = byT (covers i e) (λ t. rw t st) (λ t. rw t (ok .word-ok));
+  word-ok = byT (covers i e) (λ t. rw (t, T-true (storable w) st) tt) (λ t. rw t (ok .word-ok));
   word-fits = byT (covers i e) (λ t. rw t w<) (λ t. rw t (ok .word-fits));
   marks-fit = ok .marks-fit;
 }) (sorted-word i w st w< s)
+
+pub storable-enters : (k w : ℕ) → T (storable w) → T (enterable k w)
+storable-enters k w st = rw (T-true (storable w) st) tt
 
 pub store-valid : {l : List Entry} (i k w : ℕ) → Valid l → i < 2 ^ 64 → k ≤ 63 → T (storable w) → w < 2 ^ 64 →
     Valid (store l i k w)
 store-valid {l} i k w v i< k≤ st w< =
     byT (any (over i k) l) (λ t. rw t (sorted-word i w st w< v))
-    (λ t. rw t (store-at-valid i k w l v (room l i k t) i< k≤ st w<))
+    (λ t. rw t (store-at-valid i k w l v t i< k≤ (storable-enters k w st) w<))
 
 pub erase-valid : {l : List Entry} (i : ℕ) → Valid l → Valid (erase l i)
 erase-valid i v = sorted-without (covers i) v

@@ -5,7 +5,7 @@ use mathlib.Core.Bool.{Bool, false, not}
 use mathlib.Core.List.{List, [], _∷_, map}
 use mathlib.Core.Option.{Option, none, some}
 use lib.Dec.{leb, ltb, eqb, T}
-use Rattle.blocks.specs.Choice.{pick, both}
+use Rattle.blocks.specs.Choice.{pick, both, either}
 use Rattle.blocks.specs.Lists.{any, keep, without, first}
 use Rattle.blocks.specs.Blocks.{block, bit, setBit}
 pub use Rattle.model.specs.declared.Entry.{Entry}
@@ -16,6 +16,25 @@ pub use Rattle.model.specs.declared.Covered.the-variants.{Nothing, By}
 -- R6: odd, or a multiple of 4 and not 0
 abbrev pub storable : ℕ → Bool
 storable w = both (not (eqb w 0)) (not (eqb (w % 4) 2))
+
+-- R200: the word of a reservation, XArray's zero entry (internal 257); no store carries it
+abbrev pub reservedWord : ℕ
+reservedWord = 1030
+
+abbrev pub reserved : Entry → Bool
+reserved e = eqb (e .word) reservedWord
+
+-- the word of a new entry of order k (R6), or of a new reservation
+abbrev pub enterable : (k w : ℕ) → Bool
+enterable k w = either (storable w) (both (eqb w reservedWord) (eqb k 0))
+
+-- R6, R200: a reservation is of order 0, without marks
+abbrev pub wordOk : Entry → Bool
+wordOk e = either (storable (e .word)) (both (reserved e) (both (eqb (e .order) 0) (eqb (e .marks) 0)))
+
+-- R202: the word that a host is shown
+abbrev pub shown : Entry → ℕ
+shown e = pick (reserved e) 0 (e .word)
 
 -- R7
 abbrev pub maxOrder : ℕ
@@ -49,7 +68,7 @@ pub record EntryOk (e : Entry) : Type 0 where
   pub order-le : e .order ≤ maxOrder
   pub aligned : block (e .order) (e .base) * 2 ^ e .order ≡ e .base
   pub in-range : e .base < 2 ^ 64
-  pub word-ok : T (storable (e .word))
+  pub word-ok : T (wordOk e)
   pub word-fits : e .word < 2 ^ 64
   pub marks-fit : e .marks < 2 ^ markCount
 
@@ -66,6 +85,11 @@ Valid l = Sorted 0 l
 -- the entry that covers an index
 abbrev pub covering : List Entry → ℕ → Option Entry
 covering l i = first (covers i) l
+
+-- R203: what load, find, mark and unmark see there
+abbrev pub present : Option Entry → Option Entry
+present none = none
+present (some e) = pick (reserved e) none (some e)
 
 abbrev pub covered : Option Entry → Covered
 covered none = Nothing
@@ -132,8 +156,13 @@ store l i k w = pick (any (over i k) l) (map (withWord i w) l) (storeNew l i k w
 
 -- ERASE, MARK, UNMARK
 -- R15: they concern the entry that covers the index
+-- (erase also a reservation)
 abbrev pub erase : List Entry → ℕ → List Entry
 erase l i = without (covers i) l
+
+-- R203: a reservation takes no mark
+abbrev pub takesMark : ℕ → Entry → Bool
+takesMark i e = both (covers i e) (not (reserved e))
 
 abbrev pub withMark : ℕ → ℕ → Bool → Entry → Entry
 withMark i m b e =
@@ -141,7 +170,7 @@ withMark i m b e =
       base = e .base;
       order = e .order;
       word = e .word;
-      marks = pick (covers i e) (setBit m b (e .marks)) (e .marks);
+      marks = pick (takesMark i e) (setBit m b (e .marks)) (e .marks);
     }
 
 -- mark m of the entry that covers i is set, or cleared

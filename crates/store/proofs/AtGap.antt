@@ -19,7 +19,7 @@ use Rattle.blocks.proofs.ListLaws.{each, look, any-in, in-any}
 use Rattle.blocks.proofs.BlockLaws.{block-up, block-at, block-block}
 use Rattle.blocks.proofs.UpToLaws.{getD-upTo}
 use Rattle.model.specs.declared.Entry.{Entry}
-use Rattle.model.specs.Model.{storable, over, within}
+use Rattle.model.specs.Model.{enterable, over, within}
 use Rattle.model.specs.ByBlock.{newEntry, storeNew}
 use Rattle.model.proofs.ValidLaws.{sorted-ok}
 use Rattle.tree.specs.Tree.{slots, tierOrder, fits, height, has, Node, needed, slotBits}
@@ -382,7 +382,7 @@ module _ {ws : List ℕ} (s : WellFormed ws) (i k w u first : ℕ) (i< : i < 2 ^
         Stores (s .n) (s .list) (s .places) (storeNew (s .list) i k w) i ws ws′ (Done e)
     below-done q e = stores-unmarked s i k w i< k≤ (g .new) none-below enough q (words e)
 
-    pub below-used : {ws′ : List ℕ} → T (storable w) → w < 2 ^ 64 → ws′ ≡ built ws ps i k w u → InUse next ws′
+    pub below-used : {ws′ : List ℕ} → T (enterable k w) → w < 2 ^ 64 → ws′ ≡ built ws ps i k w u → InUse next ws′
     below-used st w< e = in-use-after s i k w i< k≤ (g .new) none-below enough st w< (words e) next (found .next-le)
         (omega (arith, needed-as, found .count-is, found .next-is))
 
@@ -442,7 +442,7 @@ module _ {ws : List ℕ} (s : WellFormed ws) (i k w u a : ℕ) (i< : i < 2 ^ 64)
       Stores (s .n) (s .list) (s .places) (storeNew (s .list) i k w) i ws ws′ (Done e)
   slots-done q e = stores-unmarked s i k w i< k≤ (g .new) none-in enough₀ q (words₀ e)
 
-  pub slots-used : {ws′ : List ℕ} {low : ℕ} → T (storable w) → w < 2 ^ 64 → InUse low ws →
+  pub slots-used : {ws′ : List ℕ} {low : ℕ} → T (enterable k w) → w < 2 ^ 64 → InUse low ws →
       ws′ ≡ entered ws a (offset i k) (span k) w → InUse low ws′
   slots-used {ws′} {low} st w< h e = in-use-after s i k w i< k≤ (g .new) none-in enough₀ st w< (words₀ e) low
       (omega (arith, size-is s, low-le s h)) (omega (arith, none-before (s .places) low (low-used s h)))

@@ -14,7 +14,7 @@ use Rattle.blocks.specs.Blocks.{block}
 use Rattle.blocks.proofs.BoolLaws.{byT, clash, both-l, both-r}
 use Rattle.blocks.proofs.ListLaws.{each, look}
 use Rattle.model.specs.declared.Entry.{Entry}
-use Rattle.model.specs.Model.{storable}
+use Rattle.model.specs.Model.{enterable}
 use Rattle.model.specs.ByBlock.{storeNew}
 use Rattle.tree.specs.Tree.{height, slotBits}
 use Rattle.tree.proofs.HeightLaws.{height-fits, fits-base}
@@ -95,7 +95,7 @@ module _ {ws : List ℕ} (s : WellFormed ws) {ps cs : List ℕ} {i k w n low h t
         Stores (s .n) l (s .places) (storeNew l i k w) i ws ws′ (Done e)
     beside-done q e = stores-unmarked s i k w i< k≤ (r .new) none-start (r .enough) q (words e)
 
-    pub beside-used : {ws′ : List ℕ} → T (storable w) → w < 2 ^ 64 → ws′ ≡ extended ws ps cs i k w h top head m →
+    pub beside-used : {ws′ : List ℕ} → T (enterable k w) → w < 2 ^ 64 → ws′ ≡ extended ws ps cs i k w h top head m →
         InUse low ws′
     beside-used st w< e = in-use-after s i k w i< k≤ (r .new) none-start (r .enough) st w< (words e) low (r .next-le)
         (r .next-taken)

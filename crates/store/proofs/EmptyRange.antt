@@ -16,7 +16,7 @@ use Rattle.blocks.proofs.BoolLaws.{both-l, both-no}
 use Rattle.blocks.proofs.ListLaws.{All-map, any-none, any-in, any-keep-both, look}
 use Rattle.blocks.proofs.BitLaws.{bits-same}
 use Rattle.model.specs.declared.Entry.{Entry}
-use Rattle.model.specs.Model.{Valid, storable, over, starts, within, hasMark, marksOf}
+use Rattle.model.specs.Model.{Valid, enterable, over, starts, within, hasMark, marksOf}
 use Rattle.model.specs.ByBlock.{inside, newEntry, storeNew}
 use Rattle.model.proofs.RangeLaws.{Inside}
 use Rattle.model.proofs.ValidLaws.{room, store-at-valid}
@@ -115,7 +115,7 @@ module _ {ws : List ℕ} (s : WellFormed ws) (i k w : ℕ) (i< : i < 2 ^ 64) (k�
       getD os₁ m none ≡ none → ⊥
   next-used next le tk m h z = new-stays l l₁ os m (was-free m z) (below-taken os (newNodes l l₁) next m le tk h) z
 
-  pub in-use-after : T (storable w) → w < 2 ^ 64 → {ws′ : List ℕ} → ws′ ≡ render l₁ os₁ (s .n) → (next : ℕ) →
+  pub in-use-after : T (enterable k w) → w < 2 ^ 64 → {ws′ : List ℕ} → ws′ ≡ render l₁ os₁ (s .n) → (next : ℕ) →
       next ≤ length os → freeTo os next ≤ needed l l₁ → InUse next ws′
   in-use-after st w< {ws′} e next le tk = in-use after next (omega (arith, s .placed .size)) (next-used next le tk)
     where
@@ -126,7 +126,7 @@ module _ {ws : List ℕ} (s : WellFormed ws) (i k w : ℕ) (i< : i < 2 ^ 64) (k�
         places = os₁;
         least = s .least;
         most = s .most;
-        valid = store-at-valid i k w l (s .valid) (room l i k new) i< k≤ st w<;
+        valid = store-at-valid i k w l (s .valid) new i< k≤ st w<;
         placed = placed-new (s .n) l os (s .placed) l₁ enough;
         words-are = e;
       }

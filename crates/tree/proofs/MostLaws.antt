@@ -8,17 +8,30 @@ use native.Mathlib.Omega.{arith}
 use native.Mathlib.Nat.{div-eq-of-lt}
 use lib.Dec.{leb, ltb, eqb, T}
 use lib.ListN.{length, length-append}
-use borrow.Author.Tests.{leb-true, leb-false}
+use borrow.Author.Tests.{leb-true, leb-false, eqb-true}
 use Rattle.blocks.specs.Blocks.{block}
+use Rattle.blocks.specs.Choice.{both}
 use Rattle.blocks.specs.Lists.{any}
-use Rattle.blocks.proofs.BoolLaws.{byT}
+use Rattle.blocks.proofs.BoolLaws.{byT, both-r, T-true}
 use Rattle.blocks.proofs.ListLaws.{All-map}
 use Rattle.model.specs.declared.Entry.{Entry}
-use Rattle.model.specs.Model.{Valid, maxOrder, aligned, matchedMark, over, store, storable, withMark}
+use Rattle.model.specs.Model.{
+  Valid,
+  maxOrder,
+  aligned,
+  matchedMark,
+  storable,
+  reservedWord,
+  enterable,
+  over,
+  store,
+  withMark,
+}
+use Rattle.model.specs.Model as M
 use Rattle.model.specs.ByBlock as B
 use Rattle.model.specs.ByBlock.{storeNew, withWord}
-use Rattle.model.proofs.ValidLaws.{sorted-ok, store-valid}
-use Rattle.model.proofs.AlignedLaws.{store-is}
+use Rattle.model.proofs.ValidLaws.{sorted-ok, store-at-valid}
+use Rattle.model.proofs.AlignedLaws.{store-is, bare-is}
 use Rattle.tree.specs.Tree.{at, addIf, height, tierOrder, needed}
 use Rattle.tree.proofs.HeightLaws.{fits-most, height-le}
 use Rattle.tree.proofs.NewNodeLaws.{chained, missing, freshAt, freshTo, new-nodes}
@@ -68,14 +81,14 @@ module _ (l : List Entry) (i k : ℕ) where
       (λ t. let e : u ≡ 11 = omega (arith, leb-false u 10 t) in
       subst (λ (x : ℕ). length (freshTo l i k x) ≤ 21) (sym e) (fresh-top h))
 
-by-block : {l : List Entry} (i k w : ℕ) → Valid l → i < 2 ^ 64 → k ≤ maxOrder → T (storable w) → w < 2 ^ 64 →
+by-block : {l : List Entry} (i k w : ℕ) → Valid l → i < 2 ^ 64 → k ≤ maxOrder → T (enterable k w) → w < 2 ^ 64 →
     needed l (B.store l i k w) ≤ 21
 by-block {l} i k w v i< k≤ st w< =
     byT (any (over i k) l)
     (λ t. let z : needed l (map (withWord i w) l) ≡ 0 =
     ap length (new-nodes-map (withWord i w) (λ x. refl) (λ x. refl) l) in
     rw t (omega (arith, z)))
-    (λ t. let vs : Valid (storeNew l i k w) = rw t at (store-valid i k w v i< k≤ st w<) in
+    (λ t. let vs : Valid (storeNew l i k w) = store-at-valid i k w l v t i< k≤ st w< in
     let h : height (storeNew l i k w) ≤ 11 =
     height-le (All-map (λ x ok. fits-most x (ok .order-le, ok .in-range)) (sorted-ok vs)) in
     let e : needed l (storeNew l i k w) ≡ length (freshTo l i k (height (storeNew l i k w))) =
@@ -84,7 +97,24 @@ by-block {l} i k w v i< k≤ st w< =
 
 -- R111
 pub needed-most : {l : List Entry} (i k w : ℕ) → aligned k i ≡ true → Valid l → i < 2 ^ 64 → k ≤ maxOrder →
-    T (storable w) → w < 2 ^ 64 → needed l (store l i k w) ≤ 21
+    T (enterable k w) → w < 2 ^ 64 → needed l (store l i k w) ≤ 21
 needed-most {l} i k w al v i< k≤ st w< =
-    rw (store-is i k al l w, new-nodes-then (withMark i matchedMark false) (λ x. refl) (λ x. refl) l (B.store l i k w))
-    (by-block i k w v i< k≤ st w<)
+    byT (any (over i k) l)
+    (λ t. let z : needed l (map (M.withWord i w) l) ≡ 0 =
+    ap length (new-nodes-map (M.withWord i w) (λ x. refl) (λ x. refl) l) in
+    rw t (omega (arith, z)))
+    (λ t. byT (storable w) (λ s. stored s) (λ s. rw (bare-is i k al l w (order-0 s) t) by-blocks))
+  where
+    by-blocks : needed l (B.store l i k w) ≤ 21
+    by-blocks = by-block i k w v i< k≤ st w<
+
+    stored : storable w ≡ true → needed l (store l i k w) ≤ 21
+    stored s =
+        rw (
+          store-is i k al l w s,
+          new-nodes-then (withMark i matchedMark false) (λ x. refl) (λ x. refl) l (B.store l i k w),
+        ) by-blocks
+
+    order-0 : storable w ≡ false → k ≡ 0
+    order-0 s = let h : T (both (eqb w reservedWord) (eqb k 0)) = rw s at st in
+        eqb-true k 0 (both-r (eqb w reservedWord) _ (T-true _ h))

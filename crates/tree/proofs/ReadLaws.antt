@@ -15,8 +15,9 @@ use Rattle.blocks.proofs.BoolLaws.{clash, byT, iff, both-l, both-r}
 use Rattle.blocks.proofs.ListLaws.{All-map, any-none, each, any-in, in-any, first-yes, first-no, first-none}
 use Rattle.blocks.proofs.BlockLaws.{block-up}
 use Rattle.model.specs.declared.Entry.{Entry}
-use Rattle.model.specs.Model.{EntryOk, storable, covers, covering, starts, within, over, Valid}
+use Rattle.model.specs.Model.{EntryOk, covers, covering, starts, within, over, Valid}
 use Rattle.model.proofs.ValidLaws.{unique}
+use Rattle.model.proofs.WordLaws.{word-kind}
 use Rattle.tree.specs.Slots.{slot, entryWord, Numbering, nodeWord, siblingWord}
 use Rattle.tree.specs.Tree.{height, slots, tierOrder}
 use Rattle.tree.proofs.HeightLaws.{Low, height-fits, fits-order, fits-base}
@@ -43,22 +44,12 @@ see l ν u c ok = byT (any (within (tierOrder u) c) l) (λ t. rw t (lower t))
         let y : EntryOk e = first-yes (covers (c * 2 ^ (tierOrder u))) ok q .1 in
         byT (starts (tierOrder u) c e) (λ s. rw s (entry e t q s y)) (λ s. rw s (sibling e t q s y))
 
-pub word-kind : (w : ℕ) → T (storable w) → (w ≡ 0 → ⊥) × (w % 4 ≡ 2 → ⊥)
-word-kind w s = (
-  (λ e. subst (λ (w : ℕ). T (storable w)) e s),
-  (λ e. go (eqb w 0) (subst (λ (r : ℕ). T (both (not (eqb w 0)) (not (eqb r 2)))) e s)),
-)
-  where
-    go : (a : Bool) → T (both (not a) false) → ⊥
-    go true t = t
-    go false t = t
-
 -- by the word alone
 pub seen-node : (l : List Entry) (ν : Numbering) (u c x : ℕ) → Seen l ν u c x → x % 4 ≡ 2 → 4096 < x →
     (any (within (tierOrder u) c) l ≡ true) × (x ≡ nodeWord (ν u c))
 seen-node l ν u c x (nothing t q) m g = absurd (omega arith)
 seen-node l ν u c x (lower t) m g = (t, refl)
-seen-node l ν u c x (entry e t q s ok) m g = absurd (word-kind (e .word) (ok .word-ok) .1 m)
+seen-node l ν u c x (entry e t q s ok) m g = absurd (omega (arith, word-kind e (ok .word-ok) .1 m))
 seen-node l ν u c x (sibling e t q s ok) m g = absurd (omega arith)
 
 -- an entry of order k or more over i

@@ -5,7 +5,7 @@ use mathlib.Core.Bool.{true, false}
 use mathlib.Core.List.{List}
 use mathlib.Core.Option.{Option, none, some}
 use native.Mathlib.Omega.{arith}
-use lib.Dec.{ltb, T}
+use lib.Dec.{ltb}
 use borrow.Author.Tests.{eqb-true, ltb-true, ltb-false, lt-ltb, eq-eqb}
 use Rattle.blocks.specs.Choice.{both}
 use Rattle.blocks.specs.Lists.{any, All, In}
@@ -27,7 +27,8 @@ use Rattle.blocks.proofs.ListLaws.{
 }
 use Rattle.blocks.proofs.BlockLaws.{block-up, block-at}
 use Rattle.model.specs.declared.Entry.{Entry}
-use Rattle.model.specs.Model.{EntryOk, storable, covers, covering, starts, within, hasMark}
+use Rattle.model.specs.Model.{EntryOk, covers, covering, starts, within, hasMark}
+use Rattle.model.proofs.WordLaws.{word-kind}
 use Rattle.tree.specs.Slots.{slot, entryWord, Numbering}
 use Rattle.tree.specs.Tree.{slotMark, slotBits, slots, tierOrder}
 use Rattle.tree.proofs.StoreLaws.{within-only}
@@ -73,10 +74,7 @@ covering-slot l j c y n e = first-same (covers y) (covers (c * 2 ^ j)) (All-map 
 entry-word : (u c : ℕ) (o : Option Entry) → ((e : Entry) → o ≡ some e → EntryOk e) → entryWord u c o ≡ 0 → o ≡ none
 entry-word u c none f z = refl
 entry-word u c (some e) f z = absurd (byT (starts (tierOrder u) c e)
-    (λ t. no-word (e .word) (f e refl .word-ok) (rw t at z)) (λ t. omega (arith, rw t at z)))
-  where
-    no-word : (w : ℕ) → T (storable w) → w ≡ 0 → ⊥
-    no-word w s q = subst (λ (w : ℕ). T (storable w)) q s
+    (λ t. word-kind e (f e refl .word-ok) .0 (rw t at z)) (λ t. omega (arith, rw t at z)))
 
 module _ (l : List Entry) (ν : Numbering) (u c : ℕ) (ok : All EntryOk l) (z : slot l ν u c ≡ 0) where
   pub zero-within : any (within (tierOrder u) c) l ≡ false

@@ -144,6 +144,7 @@ fn free_slot(pool: &mut [u64], top: u64, w: u64, u: u64, low: u64) -> u64
         Slot::Empty => low,
         Slot::Held => low,
         Slot::Sibling(_) => low,
+        Slot::Reserved => low,
     }
 }
 

@@ -14,7 +14,7 @@ use Rattle.blocks.specs.Lists.{All, end, also}
 use Rattle.blocks.proofs.BoolLaws.{byT, not-false}
 use Rattle.blocks.proofs.UpToLaws.{length-upTo, getD-upTo}
 use Rattle.model.specs.declared.Entry.{Entry}
-use Rattle.model.specs.Model.{storable, maxOrder, aligned, covering, store}
+use Rattle.model.specs.Model.{storable, maxOrder, aligned, covering, store, reservedWord}
 use Rattle.tree.specs.Tree.{nodes, needed}
 use Rattle.layout.specs.Words.{maxNodes, poolWords}
 use Rattle.layout.specs.Places.{Places, wordAt}
@@ -24,39 +24,20 @@ use Rattle.decode.proofs.DecideLaws.{sized-is}
 use Rattle.verify.proofs.AnswerLaws.{prescribed-0}
 use Rattle.batch.specs.Fits.{Bytes, Fits}
 use Rattle.batch.specs.declared.Command.{Command}
-use Rattle.batch.specs.declared.Command.the-variants.{Store}
+use Rattle.batch.specs.declared.Command.the-variants.{Store, Reserve}
 use Rattle.batch.specs.Batch.{Parsed, Parsed.commands, Parsed.refused, parse}
 use Rattle.batch.specs.Reply.{replyBytes}
 use Rattle.batch.proofs.BoundLaws.{AllFit, parse-fits}
 use Rattle.batch.proofs.CutLaws.{cut}
-use Rattle.execute.specs.Execute.{Executed, execute, replyOf, short}
+use Rattle.execute.specs.Execute.{Executed, execute, replyOf, short, reserving}
 use Rattle.execute.specs.State.{State, next, states}
 use Rattle.execute.specs.Part.{mayWrite}
-use Rattle.execute.proofs.ExecuteLaws.{Kept, next-kept, states-kept, short-11}
+use Rattle.execute.proofs.ExecuteLaws.{Kept, next-kept, states-kept, short-11, reserve-11}
 use Rattle.execute.proofs.Footprint.{footprint, refused-words}
 use Rattle.execute.proofs.ReplyFits.{reply-fits}
 use Rattle.xapool.specs.Calls.{Called, run, runParsed, replies, result, done, listOver}
 use Rattle.xapool.specs.Running.{wordsOf}
-use Rattle.xapool.specs.Demand.{
-  Call,
-  Call.init,
-  Call.check,
-  Call.batch,
-  Call.list,
-  wordsAfterAll,
-  executeAll,
-  listAfterAll,
-  Bytewise,
-  Stands,
-  ShortExact,
-  Commanded,
-  AtCommand,
-  Ran,
-  AtBatch,
-  AtCall,
-  Demand3,
-  Starts,
-}
+use Rattle.xapool.specs.Demand.{Call, Call.init, Call.check, Call.batch, Call.list, wordsAfterAll, executeAll, listAfterAll, Bytewise, Stands, ShortExact, Commanded, AtCommand, Ran, AtBatch, AtCall, Demand3, Starts, ReserveShort}
 use Rattle.xapool.proofs.ListCallLaws.{list-checked}
 use Rattle.xapool.proofs.DemandLaws.{
   states-list,
@@ -80,11 +61,11 @@ states-last n s [] c = refl
 states-last n s (d ∷ cs) c = states-last n (next n s d) cs c
 
 -- SHORTAGE (R79)
-module _ (n : ℕ) (l : List Entry) (i k w : ℕ) where
-  never-11 : (o : Option Entry) → replyOf 129 0 o .answer ≡ 11 → ⊥
-  never-11 none e = omega arith
-  never-11 (some x) e = omega arith
+never-11 : (t : ℕ) (o : Option Entry) → replyOf t 0 o .answer ≡ 11 → ⊥
+never-11 t none e = omega arith
+never-11 t (some x) e = omega arith
 
+module _ (n : ℕ) (l : List Entry) (i k w : ℕ) where
   only-11 : execute n l (Store i k w) .reply .answer ≡ 11 →
       (k ≤ maxOrder) × (aligned k i ≡ true) × (storable w ≡ true) × (n - length (nodes l) < needed l (store l i k w))
   unfolding execute
@@ -94,12 +75,27 @@ module _ (n : ℕ) (l : List Entry) (i k w : ℕ) where
       (λ a. byT (not (storable w)) (λ s. absurd (let z : _≡_ {A = ℕ} 6 11 = rw (t, a, s) at e in omega arith))
       (λ s. byT (short n l (store l i k w))
       (λ d. (ltb-false _ _ t, not-false (aligned k i) a, not-false (storable w) s, ltb-true _ _ d))
-      (λ d. absurd (never-11 (covering (store l i k w) i) (rw (t, a, s, d) at e))))))
+      (λ d. absurd (never-11 129 (covering (store l i k w) i) (rw (t, a, s, d) at e))))))
 
   short-exact : ShortExact n l i k w
   short-exact = record {
     only = only-11;
     always = λ k≤ al st h. ap (λ (x : Executed). x .reply .answer) (short-11 n l i k w k≤ al st h);
+  }
+
+module _ (n : ℕ) (l : List Entry) (i : ℕ) where
+  reserve-only : (o : Option Entry) → covering l i ≡ o → reserving n 135 l i o .reply .answer ≡ 11 →
+      (covering l i ≡ none) × (n - length (nodes l) < needed l (store l i 0 reservedWord))
+  reserve-only (some x) q e = absurd (let z : _≡_ {A = ℕ} 15 11 = e in omega arith)
+  reserve-only none q e =
+      byT (short n l (store l i 0 reservedWord)) (λ d. (q, ltb-true _ _ d))
+      (λ d. absurd (never-11 135 (covering (store l i 0 reservedWord) i) (rw d at e)))
+
+  reserve-exact : ReserveShort n l i
+  unfolding execute
+  reserve-exact = record {
+    only = λ e. reserve-only (covering l i) refl e;
+    always = λ q h. ap (λ (x : Executed). x .reply .answer) (reserve-11 n l i q h);
   }
 
 -- ONE COMMAND on a state
@@ -130,6 +126,7 @@ module _ (n : ℕ) (s : State) (k : Kept n s) (c : Command) where
         outside = outside-same;
         refused = refused-words n s k c;
         shortage = λ i o w e. short-exact n (s .list) i o w;
+        reserve-shortage = λ i e. reserve-exact n (s .list) i;
         fits = reply-fits n (s .list) (k .valid) c f;
       }
 

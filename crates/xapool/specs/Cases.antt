@@ -1,4 +1,5 @@
--- The starred cases (R106 to R118, R182, R191, R192) as one table, of batches as bytes. proofs/Cases has the theorem that they all hold.
+-- The starred cases (R106 to R118, R182, R191, R192, R208) as one table, of batches as bytes. proofs/Cases has the theorem that they
+-- all hold.
 use Prim.Native.Nat.{ℕ, _+_, _*_, _-_, _^_}
 use mathlib.Core.Bool.{Bool, true}
 use mathlib.Core.List.{List, [], _∷_, _++_, map}
@@ -7,7 +8,7 @@ use lib.ListN.{length, getD, drop, replicate}
 use Rattle.blocks.specs.Choice.{both}
 use Rattle.blocks.specs.Lists.{upTo}
 use Rattle.model.specs.declared.Entry.{Entry}
-use Rattle.model.specs.Model.{store}
+use Rattle.model.specs.Model.{reservedWord, store}
 use Rattle.tree.specs.Tree.{tierOrder, Node, nodes, needed}
 use Rattle.layout.specs.Words.{poolWords, headWord, marksWord, markPlace, slotPlace}
 use Rattle.layout.specs.Decode.{listOf}
@@ -15,7 +16,7 @@ use Rattle.layout.specs.Decide.{equal}
 use Rattle.verify.specs.Answers.{initWords}
 use Rattle.batch.specs.Bytes.{bytesThen}
 use Rattle.batch.specs.declared.Command.{Command}
-use Rattle.batch.specs.declared.Command.the-variants.{Store, Load, Erase, Mark, Unmark, Find}
+use Rattle.batch.specs.declared.Command.the-variants.{Store, Load, Erase, Mark, Unmark, Find, Reserve}
 use Rattle.batch.specs.Reply.{replyBytes, encode, answered}
 use Rattle.batch.specs.declared.Reply.{Reply}
 use Rattle.xapool.specs.Calls.{Called, done, run}
@@ -24,7 +25,7 @@ use Rattle.xapool.specs.Calls.{Called, done, run}
 pub data Fact : Type 0 where
   -- the whole reply
   replies : Reply → Fact
-  -- the nodes that the store needs
+  -- the nodes that the store or the reservation needs
   needs : ℕ → Fact
   -- the shifts of the nodes that then stand, widest first
   shifts : List ℕ → Fact
@@ -40,7 +41,7 @@ pub record Case : Type 0 where
   pub last : Command
   pub facts : List Fact
 
--- THE BYTES OF COMMANDS (R42, R44 to R48), to be read back by `run`
+-- THE BYTES OF COMMANDS (R42, R44 to R48, R204), to be read back by `run`
 abbrev pub recordThen : Command → List ℕ → List ℕ
 recordThen (Store i k w) more = bytesThen 1 1 (bytesThen 2 17 (bytesThen 8 i (bytesThen 1 k (bytesThen 8 w more))))
 recordThen (Load i) more = bytesThen 1 2 (bytesThen 2 8 (bytesThen 8 i more))
@@ -49,6 +50,7 @@ recordThen (Mark i m) more = bytesThen 1 4 (bytesThen 2 9 (bytesThen 8 i (bytesT
 recordThen (Unmark i m) more = bytesThen 1 5 (bytesThen 2 9 (bytesThen 8 i (bytesThen 1 m more)))
 recordThen (Find a z f k) more =
     bytesThen 1 6 (bytesThen 2 19 (bytesThen 8 a (bytesThen 8 z (bytesThen 1 f (bytesThen 2 k more)))))
+recordThen (Reserve i) more = bytesThen 1 7 (bytesThen 2 8 (bytesThen 8 i more))
 
 abbrev pub batchOf : List Command → List ℕ
 batchOf [] = []
@@ -69,6 +71,7 @@ neededBy l (Erase i) = 0
 neededBy l (Mark i m) = 0
 neededBy l (Unmark i m) = 0
 neededBy l (Find a z f k) = 0
+neededBy l (Reserve i) = needed l (store l i 0 reservedWord)
 
 -- the last reply, and the words; lists are those that words decode to
 module _ (n : ℕ) (before : List Command) (c : Command) (words reply : List ℕ) where
@@ -109,6 +112,9 @@ store2 = Store 0 0 3 ∷ []
 
 abbrev store3 : List Command
 store3 = store2 ++ (Store 64 0 5 ∷ [])
+
+abbrev reserve5 : List Command
+reserve5 = Reserve 5 ∷ []
 
 -- slots from .. of node m, count of them, hold x
 abbrev slotsHold : (m from count x : ℕ) → List Fact
@@ -241,4 +247,46 @@ cases =
       last = Find 1 last64 0 64;
       facts = entry 6 64 0 5 1 2 ∷ [];
     }
+    -- reserved places (R208): on a fresh pool, and alone at index 0
+    ∷ record {
+      n = 1;
+      before = [];
+      last = Reserve 5;
+      facts = needs 1 ∷ answer 7 0 5 0 ∷ word (slotPlace 0 5) 1030 ∷ shifts (0 ∷ []) ∷ [];
+    }
+    ∷ record { n = 1; before = []; last = Reserve 0; facts = answer 7 0 0 0 ∷ word headWord 1030 ∷ shifts [] ∷ [] }
+    -- what is covered, by an entry and by a reservation
+    ∷ record {
+      n = 1;
+      before = Store 8 3 5 ∷ [];
+      last = Reserve 9;
+      facts = answer 7 15 0 0 ∷ asAfter (Store 8 3 5 ∷ []) ∷ [];
+    }
+    ∷ record { n = 1; before = reserve5; last = Reserve 5; facts = answer 7 15 0 0 ∷ asAfter reserve5 ∷ [] }
+    -- a store over it, of order 0 and of order 3
+    ∷ record {
+      n = 1;
+      before = reserve5;
+      last = Store 5 0 9;
+      facts = entry 1 5 0 9 0 0 ∷ asAfter (Store 5 0 9 ∷ []) ∷ [];
+    }
+    ∷ record {
+      n = 1;
+      before = reserve5;
+      last = Store 0 3 9;
+      facts = entry 1 0 3 9 0 0 ∷ asAfter (Store 0 3 9 ∷ []) ∷ [];
+    }
+    -- load, find, mark and erase of it
+    ∷ record { n = 1; before = reserve5; last = Load 5; facts = answer 2 10 0 1 ∷ [] }
+    ∷ record {
+      n = 1;
+      before = reserve5 ++ (Store 7 0 9 ∷ []);
+      last = Find 5 last64 3 3;
+      facts = entry 6 7 0 9 0 3 ∷ [];
+    }
+    ∷ record { n = 1; before = Reserve 0 ∷ []; last = Find 0 last64 3 5; facts = answer 6 12 0 2 ∷ [] }
+    ∷ record { n = 1; before = reserve5; last = Mark 5 0; facts = answer 4 10 0 0 ∷ asAfter reserve5 ∷ [] }
+    ∷ record { n = 1; before = reserve5; last = Erase 5; facts = answer 3 0 5 0 ∷ asAfter [] ∷ [] }
+    -- short of nodes
+    ∷ record { n = 2; before = store2; last = Reserve 64; facts = needs 3 ∷ answer 7 11 0 0 ∷ asAfter store2 ∷ [] }
     ∷ []

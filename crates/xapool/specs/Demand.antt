@@ -8,7 +8,7 @@ use lib.Dec.{ltb}
 use lib.ListN.{length, getD, take, drop}
 use Rattle.blocks.specs.Choice.{pick}
 use Rattle.model.specs.declared.Entry.{Entry}
-use Rattle.model.specs.Model.{storable, maxOrder, aligned, store}
+use Rattle.model.specs.Model.{storable, maxOrder, aligned, store, reservedWord, covering}
 use Rattle.tree.specs.Tree.{nodes, needed}
 use Rattle.layout.specs.Words.{nodeWords, place}
 use Rattle.layout.specs.Places.{Places, newPlaces}
@@ -17,7 +17,7 @@ use Rattle.layout.specs.Decode.{listOf}
 use Rattle.layout.specs.Decide.{nodeCount}
 use Rattle.batch.specs.Fits.{Bytes}
 use Rattle.batch.specs.declared.Command.{Command}
-use Rattle.batch.specs.declared.Command.the-variants.{Store}
+use Rattle.batch.specs.declared.Command.the-variants.{Store, Reserve}
 use Rattle.batch.specs.Batch.{Parsed, Parsed.commands, Parsed.refused, parse}
 use Rattle.batch.specs.Reply.{replyBytes}
 use Rattle.execute.specs.Execute.{execute, tooFewNodes}
@@ -101,6 +101,13 @@ pub record ShortExact (n : ℕ) (l : List Entry) (i k w : ℕ) : Type 0 where
   pub always : k ≤ maxOrder → aligned k i ≡ true → storable w ≡ true → n - length (nodes l) < needed l (store l i k w) →
       execute n l (Store i k w) .reply .answer ≡ tooFewNodes
 
+-- R205, R206: a reservation answers 11 exactly if nothing covers its index and it needs more nodes than are free
+pub record ReserveShort (n : ℕ) (l : List Entry) (i : ℕ) : Type 0 where
+  pub only : execute n l (Reserve i) .reply .answer ≡ tooFewNodes →
+      (covering l i ≡ none) × (n - length (nodes l) < needed l (store l i 0 reservedWord))
+  pub always : covering l i ≡ none → n - length (nodes l) < needed l (store l i 0 reservedWord) →
+      execute n l (Reserve i) .reply .answer ≡ tooFewNodes
+
 -- ONE COMMAND, where the model is l: the words before it are ws, those after it ws′
 pub record Commanded (n : ℕ) (l : List Entry) (c : Command) (ws ws′ : List ℕ) : Type 0 where
   pub before : Stands n l ws
@@ -113,6 +120,7 @@ pub record Commanded (n : ℕ) (l : List Entry) (c : Command) (ws ws′ : List �
   -- R40, R83
   pub refused : (execute n l c .reply .answer ≡ 0 → ⊥) → ws′ ≡ ws
   pub shortage : (i k w : ℕ) → c ≡ Store i k w → ShortExact n l i k w
+  pub reserve-shortage : (i : ℕ) → c ≡ Reserve i → ReserveShort n l i
   -- R49: no field of its reply is cut
   pub fits : FitsReply (execute n l c .reply)
 

@@ -8,7 +8,7 @@ use reference::random::Random;
 const SEED: u64 = 97;
 const CELLS: usize = 512;
 
-/// What each index below 512 is covered by: base, order, word, marks.
+/// What each index below 512 is covered by: base, order, word, marks. The word of a reservation is 0.
 type Cell = Option<(u64, u8, u64, u8)>;
 
 struct Cells {
@@ -24,9 +24,17 @@ impl Cells {
 
     fn said(&self, index: u64) -> Said {
         match self.cells[index as usize] {
-            Some((base, order, word, marks)) => gives(base, order, word, marks),
-            None => only(10),
+            Some((base, order, word, marks)) if word > 0 => gives(base, order, word, marks),
+            _ => only(10),
         }
+    }
+
+    fn reserve(&mut self, index: u64) -> Said {
+        if self.cells[index as usize].is_some() {
+            return only(15);
+        }
+        self.fill(index, 0, Some((index, 0, 0, 0)));
+        gives(index, 0, 0, 0)
     }
 
     /// Marks 0 and 1 are the rest by 4.
@@ -49,16 +57,19 @@ impl Cells {
     }
 
     fn erase(&mut self, index: u64) -> Said {
-        let said = self.said(index);
-        if let Some((base, order, _, _)) = self.cells[index as usize] {
-            self.fill(base, order, None);
-        }
-        said
+        let Some((base, order, word, marks)) = self.cells[index as usize] else {
+            return only(10);
+        };
+        self.fill(base, order, None);
+        gives(base, order, word, marks)
     }
 
     fn set_marks(&mut self, index: u64, change: impl Fn(u8) -> u8) -> Said {
-        if let Some((base, order, word, marks)) = self.cells[index as usize] {
-            self.fill(base, order, Some((base, order, word, change(marks))));
+        match self.cells[index as usize] {
+            Some((base, order, word, marks)) if word > 0 => {
+                self.fill(base, order, Some((base, order, word, change(marks))));
+            }
+            _ => {}
         }
         self.said(index)
     }
@@ -67,7 +78,7 @@ impl Cells {
     fn find(&self, first: u64, last: u64, filter: u8) -> Said {
         let range = &self.cells[first as usize..=last as usize];
         let wanted = |marks: u8| filter == 3 || marks >> filter & 1 == 1;
-        match range.iter().flatten().find(|cell| wanted(cell.3)) {
+        match range.iter().flatten().find(|cell| cell.2 > 0 && wanted(cell.3)) {
             Some((base, order, word, marks)) => gives(*base, *order, *word, *marks),
             None => only(12),
         }
@@ -101,7 +112,7 @@ fn random_commands_against_cells() {
 fn change(pool: &mut Pool, cells: &mut Cells, random: &mut Random) {
     let index = random.below(CELLS as u64);
     let mark = random.below(3) as u8;
-    match random.below(8) {
+    match random.below(10) {
         0..=3 => {
             let order = if random.one_in(8) { random.below(9) } else { random.below(5) } as u8;
             let word = 2 * random.below(900) + 1;
@@ -111,7 +122,8 @@ fn change(pool: &mut Pool, cells: &mut Cells, random: &mut Random) {
         }
         4 => pool.expect_erase(index, cells.erase(index)),
         5 | 6 => pool.expect_mark(index, mark, cells.set_marks(index, |m| m | 1 << mark)),
-        _ => pool.expect_unmark(index, mark, cells.set_marks(index, |m| m & !(1 << mark))),
+        7 => pool.expect_unmark(index, mark, cells.set_marks(index, |m| m & !(1 << mark))),
+        _ => pool.expect(Command::Reserve { index }, cells.reserve(index)),
     }
 }
 

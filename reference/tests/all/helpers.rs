@@ -74,6 +74,7 @@ pub fn bytes_of(command: Command) -> Vec<u8> {
                 (first.to_be_bytes(), last.to_be_bytes(), budget.to_be_bytes());
             record(6, 19, &[&first, &last, &[filter], &budget])
         }
+        Command::Reserve { index } => record(7, 8, &[&index.to_be_bytes()]),
     }
 }
 

@@ -2,6 +2,9 @@
 
 use crate::helpers::{at, node_word, slot_at};
 
+/// The word of a reservation.
+const RESERVED: u64 = 1030;
+
 fn is_node_word(word: u64) -> bool {
     word % 4 == 2 && word / 4 >= 1024
 }
@@ -22,6 +25,7 @@ pub fn assert_invariants(words: &[u64]) {
             assert_slots(words, number);
         }
     }
+    assert!(words[1] != RESERVED || words[2..].iter().all(|word| *word == 0));
     if is_node_word(words[1]) {
         assert_head_node(words, (words[1] / 4 - 1024) as usize);
     }
@@ -53,7 +57,8 @@ fn assert_slots(words: &[u64], number: usize) {
             let first = (*word / 4) as usize;
             assert!(first < slot && slots[first] % 4 != 2 && slots[first] != 0);
         }
-        if is_sibling_word(*word) || *word == 0 {
+        assert!(*word != RESERVED || words[at(number, 0)] == 1, "reserved above shift 0");
+        if is_sibling_word(*word) || *word == 0 || *word == RESERVED {
             assert!((2..5).all(|mark| words[at(number, mark)] >> slot & 1 == 0));
         }
     }

@@ -17,6 +17,7 @@ fn fields(name: &str) -> &'static [usize] {
         "load" | "erase" | "word" => &[2],
         "mark" | "unmark" => &[3],
         "find" => &[5],
+        "reserve" => &[2, 4],
         "entry" => &[4],
         "listing" => &[2, 3],
         "place" => &[2, 3],
@@ -39,6 +40,23 @@ fn the_shape_of_the_lines() {
     }
     assert_eq!(text.lines().filter(|line| line.starts_with("list ")).count(), 50);
     assert_eq!(text.lines().filter(|line| *line == "end").count(), 50);
+}
+
+/// Answer 15 (0f in hex) is told without the nodes needed, 0 and 11 (0b) with them.
+#[test]
+fn reserves_are_printed_with_what_they_need() {
+    let text = printed(8);
+    let mut met = std::collections::BTreeSet::new();
+    for line in text.lines().filter_map(|line| line.strip_prefix("reserve ")) {
+        let words: Vec<&str> = line.split(' ').collect();
+        let answer = &words[1][6..8];
+        assert_eq!(&words[1][..6], "870015");
+        assert_eq!(words.len(), if answer == "0f" { 2 } else { 4 }, "{line}");
+        assert!(answer == "0f" || words[2] == "needed", "{line}");
+        met.insert(answer.to_owned());
+    }
+    assert_eq!(met.into_iter().collect::<Vec<_>>(), ["00", "0b", "0f"]);
+    assert!(text.lines().any(|line| line.starts_with("entry ") && line.ends_with(" 0 1030 0")));
 }
 
 #[test]
@@ -81,5 +99,6 @@ fn listings_have_their_first_and_last_in_order() {
 fn listed_hex(entry: &str) -> String {
     let number = |text: &str| text.parse::<u64>().expect("a number");
     let fields: Vec<u64> = entry.split(' ').map(number).collect();
-    format!("200012{:016x}{:02x}{:016x}{:02x}", fields[0], fields[1], fields[2], fields[3])
+    let word = if fields[2] == 1030 { 0 } else { fields[2] };
+    format!("200012{:016x}{:02x}{:016x}{:02x}", fields[0], fields[1], word, fields[3])
 }

@@ -14,3 +14,4 @@ mod parts;
 mod program;
 mod random;
 mod refusals;
+mod reserved;

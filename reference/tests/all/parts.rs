@@ -49,6 +49,24 @@ fn the_path_of_the_entry() {
     assert_eq!(part_of(&pool(), Command::Erase { index: 64 }), (true, vec![0, 2]));
 }
 
+/// Of a reserve, and of a store and an erase of what it left.
+#[test]
+fn the_path_of_a_reservation() {
+    let reserve = |index| Command::Reserve { index };
+    assert_eq!(part_of(&pool(), reserve(65)), (true, vec![0, 2]));
+    assert_eq!(part_of(&pool(), reserve(128)), (true, vec![0, 4]));
+    assert_eq!(part_of(&pool(), reserve(64)), (false, vec![]));
+    assert_eq!(part_of(&pool(), reserve(4096)), (false, vec![]));
+    assert_eq!(part_of(&case_2(3), reserve(64)), (true, vec![0, 1, 2]));
+    assert_eq!(part_of(&Pool::fresh(1), reserve(0)), (true, vec![]));
+    let mut pool = pool();
+    pool.expect(reserve(66), gives(66, 0, 0, 0));
+    assert_eq!(part_of(&pool, Command::Erase { index: 66 }), (true, vec![0, 2]));
+    assert_eq!(part_of(&pool, Command::Mark { index: 66, mark: 0 }), (false, vec![]));
+    let store = Command::Store { index: 66, order: 0, word: 9 };
+    assert_eq!(part_of(&pool, store), (true, vec![0, 2]));
+}
+
 #[test]
 fn allocated_and_freed_nodes_and_both_heads() {
     let store = |index, order| Command::Store { index, order, word: 9 };

@@ -5,7 +5,7 @@ use crate::invariants::assert_invariants;
 use reference::awkward::Commands;
 use reference::batch::Command;
 use reference::calls::{check, run};
-use reference::command::{execute_each, needed, Done};
+use reference::command::{execute_each, needed, needed_to_reserve, Done};
 use reference::part::Part;
 use reference::pool::State;
 use reference::random::Random;
@@ -66,22 +66,29 @@ fn try_command(before: &State, command: Command, done: &Done) {
     try_numbers(before, command, done);
 }
 
+/// The nodes that a command of good fields needs, the lowest free ones, or answer 11.
+fn try_needed(before: &State, done: &Done, needed: usize) {
+    let free = before.free_numbers();
+    assert!(needed <= 21);
+    assert_eq!(done.reply.answer, if needed > free.len() { 11 } else { 0 });
+    let taken = free.iter().filter(|number| done.state.places[**number].is_some());
+    let taken: Vec<usize> = taken.copied().collect();
+    let expected = if needed > free.len() { &[] } else { &free[..needed] };
+    assert_eq!(taken, expected);
+}
+
 /// Needed, shortage, nodes that keep their number, and the most steps of a find.
 fn try_numbers(before: &State, command: Command, done: &Done) {
     let free = before.free_numbers();
     match command {
-        Command::Store { index, order, word } => {
-            let Some(needed) = needed(before, index, order, word) else {
-                assert!([5, 6, 14].contains(&done.reply.answer));
-                return;
-            };
-            assert!(needed <= 21);
-            assert_eq!(done.reply.answer, if needed > free.len() { 11 } else { 0 });
-            let taken = free.iter().filter(|number| done.state.places[**number].is_some());
-            let taken: Vec<usize> = taken.copied().collect();
-            let expected = if needed > free.len() { &[] } else { &free[..needed] };
-            assert_eq!(taken, expected);
-        }
+        Command::Store { index, order, word } => match needed(before, index, order, word) {
+            Some(needed) => try_needed(before, done, needed),
+            None => assert!([5, 6, 14].contains(&done.reply.answer)),
+        },
+        Command::Reserve { index } => match needed_to_reserve(before, index) {
+            Some(needed) => try_needed(before, done, needed),
+            None => assert_eq!(done.reply.answer, 15),
+        },
         Command::Find { .. } if done.reply.answer != 13 => {
             let used = before.places.len() - free.len();
             assert!(usize::from(done.reply.count) <= 64 * used + 2);

@@ -65,6 +65,7 @@ fn cut_records() {
         Command::Mark { index: 1, mark: 0 },
         Command::Unmark { index: 1, mark: 0 },
         Command::Find { first: 0, last: 9, filter: 3, budget: 1 },
+        Command::Reserve { index: 1 },
     ];
     for command in commands {
         let record = bytes_of(command);
@@ -81,7 +82,7 @@ fn cut_records() {
 #[test]
 fn unknown_tags() {
     let pool = Pool::fresh(1);
-    for tag in (0..=255).filter(|tag| !(1..=6).contains(tag)) {
+    for tag in (0..=255).filter(|tag| !(1..=7).contains(tag)) {
         let mut record = load();
         record[0] = tag;
         assert_eq!(refused(&pool.words, &record, 240), outcome(3, 0), "tag {tag}");
@@ -93,7 +94,7 @@ fn unknown_tags() {
 #[test]
 fn wrong_lengths() {
     let pool = Pool::fresh(1);
-    for (tag, right) in [(1u8, 17), (2, 8), (3, 8), (4, 9), (5, 9), (6, 19)] {
+    for (tag, right) in [(1u8, 17), (2, 8), (3, 8), (4, 9), (5, 9), (6, 19), (7, 8)] {
         for length in (0..600u16).filter(|length| *length != right) {
             let [high, low] = length.to_be_bytes();
             let mut batch = load();
@@ -140,7 +141,7 @@ fn store_fields_lowest_number_first() {
         pool.expect_store(0, order, 3, only(5));
         pool.expect_store(0, order, 2, only(5));
     }
-    for word in [0, 2, 6, 4098, LAST - 1] {
+    for word in [0, 2, 6, 1030, 4098, LAST - 1] {
         pool.expect_store(LAST, 0, word, only(6));
         pool.expect_store(0, 63, word, only(6));
     }

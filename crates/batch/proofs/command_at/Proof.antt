@@ -1,7 +1,7 @@
 -- `command_at`: the command of a tag whose fields begin at a place.
 use native.Mathlib.Omega.{arith}
 use mathlib.Core.Path.{ap, ap₂}
-use Rattle.batch.specs.Batch.{Load, Erase, Mark, Unmark}
+use Rattle.batch.specs.Batch.{Load, Erase, Mark, Unmark, Reserve}
 use Rattle.batch.proofs.BatchLaws.{last-tag, room}
 use borrow.Author.Needs.{needs}
 use Rattle.batch.proofs.command_at.Statement.{statement}
@@ -17,23 +17,17 @@ start-from-then4 c = c .before .before .before .before .before
 abbrev start-from-number83 : tie.After-number83 → tie.Start
 start-from-number83 c = c .before .before .before .before .before .before
 
-abbrev else1-from-else5 : tie.Else5 → tie.Else1
-else1-from-else5 c = c .before .before .before .before
+abbrev else1-from-else6 : tie.Else6 → tie.Else1
+else1-from-else6 c = c .before .before .before .before .before
 
-abbrev start-from-else5 : tie.Else5 → tie.Start
-start-from-else5 c = else1-from-else5 c .before .before
+abbrev start-from-else6 : tie.Else6 → tie.Start
+start-from-else6 c = else1-from-else6 c .before .before
+
+abbrev start-from-then6 : tie.Then6 → tie.Start
+start-from-then6 c = c .before .before .before .before .before .before .before
 
 abbrev start-from-then5 : tie.Then5 → tie.Start
 start-from-then5 c = c .before .before .before .before .before .before
-
-abbrev else2-from-find-at : tie.After-find-at → tie.Else2
-else2-from-find-at c = c .before .before .before .before
-
-abbrev else1-from-find-at : tie.After-find-at → tie.Else1
-else1-from-find-at c = else2-from-find-at c .before
-
-abbrev start-from-find-at : tie.After-find-at → tie.Start
-start-from-find-at c = else1-from-find-at c .before .before
 
 abbrev start-from-number84 : tie.After-number84 → tie.Start
 start-from-number84 c = c .before .before .before .before .before .before .before
@@ -93,18 +87,24 @@ returns-5 : tie.Need-returns-5
 returns-5 c = rw (c .before .before .if5 .taken) (ap₂ Unmark (c .before .number84 .ensures) (c .number12 .ensures .0))
 
 find-at-requires : tie.Need-find-at-requires
-find-at-requires c κs = room 6 _
-    (last-tag _ (start-from-else5 c .pre .0)
-    (else1-from-else5 c .if1 .left) (c .before .before .before .if2 .left)
-    (c .before .before .if3 .left) (c .before .if4 .left) (c .if5 .left))
-    (start-from-else5 c .pre .1)
+find-at-requires c κs = room 6 _ (c .if6 .taken) (start-from-then6 c .pre .1)
 
 returns-6 : tie.Need-returns-6
-returns-6 c = rw
-    (last-tag _ (start-from-find-at c .pre .0)
-    (else1-from-find-at c .if1 .left) (else2-from-find-at c .if2 .left)
-    (c .before .before .before .if3 .left) (c .before .before .if4 .left) (c .before .if5 .left))
-    (c .find-at .ensures)
+returns-6 c = rw (c .before .if6 .taken) (c .find-at .ensures)
+
+number8-requires-5 : tie.Need-number8-requires-5
+number8-requires-5 c κs = room 7 _
+    (last-tag _ (start-from-else6 c .pre .0)
+    (else1-from-else6 c .if1 .left) (c .before .before .before .before .if2 .left)
+    (c .before .before .before .if3 .left) (c .before .before .if4 .left) (c .before .if5 .left) (c .if6 .left))
+    (start-from-else6 c .pre .1)
+
+returns-7 : tie.Need-returns-7
+returns-7 c = let z = c .before in rw
+    (last-tag _ (start-from-else6 z .pre .0)
+    (else1-from-else6 z .if1 .left) (z .before .before .before .before .if2 .left)
+    (z .before .before .before .if3 .left) (z .before .before .if4 .left) (z .before .if5 .left) (z .if6 .left))
+    (ap Reserve (c .number85 .ensures))
 
 pub command-at-spec : {M : Type 1} → statement M
 command-at-spec =
@@ -125,4 +125,6 @@ command-at-spec =
     number1-requires-2
     returns-5
     find-at-requires
-    returns-6)
+    returns-6
+    number8-requires-5
+    returns-7)

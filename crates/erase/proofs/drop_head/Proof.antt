@@ -1,6 +1,7 @@
 -- `drop_head`: the head n, of tier h, gives way to what its slot 0 holds, if that is all it has: a node, or, at
 -- shift 0, an entry.
 use mathlib.Core.Path.{refl}
+use mathlib.Core.Logic.{inl, inr}
 use native.Mathlib.Omega.{arith}
 use borrow.Author.Tests.{not-true, not-false}
 use Rattle.blocks.proofs.BoolLaws.{clash}
@@ -87,6 +88,27 @@ slot-word-from-slice-known3 c = read-slot-from-slice-known3 c .before
 abbrev else1-from-slice-known3 : tie.After-slice-known3 → tie.Else1
 else1-from-slice-known3 c = slot-word-from-slice-known3 c .before .before
 
+abbrev slot-word-from-then3 : tie.Then3 → tie.After-slot-word
+slot-word-from-then3 c = c .before .before .before .before
+
+abbrev read-slot-from-free-head-arg2 : tie.After-free-head-arg2 → tie.After-read-slot
+read-slot-from-free-head-arg2 c = c .before .before .before .before
+
+abbrev else3-from-slice-known4 : tie.After-slice-known4 → tie.Else3
+else3-from-slice-known4 c = c .before .before .before .before
+
+abbrev enum-told-from-slice-known4 : tie.After-slice-known4 → tie.After-enum-told4
+enum-told-from-slice-known4 c = else3-from-slice-known4 c .before
+
+abbrev read-slot-from-slice-known4 : tie.After-slice-known4 → tie.After-read-slot
+read-slot-from-slice-known4 c = enum-told-from-slice-known4 c .before .before
+
+abbrev slot-word-from-slice-known4 : tie.After-slice-known4 → tie.After-slot-word
+slot-word-from-slice-known4 c = read-slot-from-slice-known4 c .before
+
+abbrev else1-from-slice-known4 : tie.After-slice-known4 → tie.Else1
+else1-from-slice-known4 c = slot-word-from-slice-known4 c .before .before
+
 vacant-requires : tie.Need-vacant-requires
 vacant-requires c κs = let H = c .before .before .pre .1 in
     (under-fits (H .tower .tall) (c .before .before .pre .0) (H .there) (H .number) .0, (omega arith, omega arith))
@@ -139,8 +161,8 @@ returns-2 c = (
     yes = λ e. absurd (clash e refl);
     no = λ _. stay-held w (start-from-slot-word (slot-word-from-then2 c) .pre .0)
         t q (slot-word-from-then2 c .slot-word .ensures) (c .before .before .before .read-slot .ensures)
-        (c .before .enum-told .given .1)
-        (c .if2 .taken);
+        (inl (c .before .enum-told .given .1))
+        (λ z. omega (arith, c .if2 .taken, z));
   }),
   λ low _. spares-same low _,
 )
@@ -155,11 +177,33 @@ enum-told-2 c = search needs
 enum-told-3 : tie.Need-enum-told-3
 enum-told-3 c = search needs
 
+enum-told-4 : tie.Need-enum-told-4
+enum-told-4 c = search needs
+
 same-length-3 : tie.Need-same-length-3
-same-length-3 c = c .before .before .raise .kept .0
+same-length-3 c = search needs
 
 returns-3 : tie.Need-returns-3
-returns-3 c = let d = c .before .before .raise .ensures in (
+returns-3 c = (
+  (λ k l os w t q. record {
+    yes = λ e. absurd (clash e refl);
+    no = λ _. stay-held w (start-from-slot-word (slot-word-from-then3 c) .pre .0)
+        t q (slot-word-from-then3 c .slot-word .ensures) (c .before .before .before .read-slot .ensures)
+        (inr (c .before .enum-told4 .given .1))
+        (λ z. omega (arith, c .if3 .taken, z));
+  }),
+  λ low _. spares-same low _,
+)
+
+free-head-requires-2 : tie.Need-free-head-requires-2
+free-head-requires-2 c κs = let H = start-from-read-slot (read-slot-from-free-head-arg2 c) .pre .1 in under-fits
+    (H .tower .tall) (start-from-read-slot (read-slot-from-free-head-arg2 c) .pre .0) (H .there) (H .number) .0
+
+same-length-4 : tie.Need-same-length-4
+same-length-4 c = c .before .before .raise .kept .0
+
+returns-4 : tie.Need-returns-4
+returns-4 c = let d = c .before .before .raise .ensures in (
   (λ k l os w t q. record {
     yes = λ _. drop-child w (start-from-read-slot (read-slot-from-slice-known2 c) .pre .0) t q (slot-word-from-slice-known2 c .slot-word
         .ensures) (read-slot-from-slice-known2 c .read-slot .ensures)
@@ -172,17 +216,17 @@ returns-3 c = let d = c .before .before .raise .ensures in (
   λ low le. raised-spares d low (le refl),
 )
 
-same-length-4 : tie.Need-same-length-4
-same-length-4 c = c .before .before .free-head .kept .0
+same-length-5 : tie.Need-same-length-5
+same-length-5 c = c .before .before .free-head .kept .0
 
-returns-4 : tie.Need-returns-4
-returns-4 c = let d = c .before .before .free-head .ensures in (
+returns-5 : tie.Need-returns-5
+returns-5 c = let d = c .before .before .free-head .ensures in (
   (λ k l os w t q. record {
     yes = λ _. drop-held w (start-from-read-slot (read-slot-from-slice-known3 c) .pre .0) t q (slot-word-from-slice-known3 c .slot-word
         .ensures) (read-slot-from-slice-known3 c .read-slot .ensures)
         (vacant-from-read-slot (read-slot-from-slice-known3 c) .vacant .ensures .0
         (not-false _ (else1-from-slice-known3 c .if1
-        .left))) (enum-told-from-slice-known3 c .enum-told .given .1)
+        .left))) (inl (enum-told-from-slice-known3 c .enum-told .given .1))
         (else2-from-slice-known3 c .if2 .left)
         (c .before .before .free-head .kept .0) (d .gone) (d .head) (d .rest);
     no = λ e. absurd (clash refl e);
@@ -190,11 +234,11 @@ returns-4 c = let d = c .before .before .free-head .ensures in (
   λ low le. freed-spares d low (le refl),
 )
 
-same-length-5 : tie.Need-same-length-5
-same-length-5 c = search needs
+same-length-6 : tie.Need-same-length-6
+same-length-6 c = search needs
 
-returns-5 : tie.Need-returns-5
-returns-5 c = (
+returns-6 : tie.Need-returns-6
+returns-6 c = (
   (λ k l os w t q. record {
     yes = λ e. absurd (clash e refl);
     no = λ _. absurd (not-empty w (start-from-else1 (else1-from-enum-told2 c) .pre .0)
@@ -205,11 +249,11 @@ returns-5 c = (
   λ low _. spares-same low _,
 )
 
-same-length-6 : tie.Need-same-length-6
-same-length-6 c = search needs
+same-length-7 : tie.Need-same-length-7
+same-length-7 c = search needs
 
-returns-6 : tie.Need-returns-6
-returns-6 c = (
+returns-7 : tie.Need-returns-7
+returns-7 c = (
   (λ k l os w t q. record {
     yes = λ e. absurd (clash e refl);
     no = λ _. absurd (not-sibling w (start-from-else1 (else1-from-enum-told3 c) .pre
@@ -217,6 +261,24 @@ returns-6 c = (
         (c .enum-told3 .given .1));
   }),
   λ low _. spares-same low _,
+)
+
+same-length-8 : tie.Need-same-length-8
+same-length-8 c = c .before .before .free-head2 .kept .0
+
+returns-8 : tie.Need-returns-8
+returns-8 c = let d = c .before .before .free-head2 .ensures in (
+  (λ k l os w t q. record {
+    yes = λ _. drop-held w (start-from-read-slot (read-slot-from-slice-known4 c) .pre .0) t q (slot-word-from-slice-known4 c .slot-word
+        .ensures) (read-slot-from-slice-known4 c .read-slot .ensures)
+        (vacant-from-read-slot (read-slot-from-slice-known4 c) .vacant .ensures .0
+        (not-false _ (else1-from-slice-known4 c .if1
+        .left))) (inr (enum-told-from-slice-known4 c .enum-told4 .given .1))
+        (omega (arith, else3-from-slice-known4 c .if3 .left, start-from-read-slot (read-slot-from-slice-known4 c) .pre .0))
+        (c .before .before .free-head2 .kept .0) (d .gone) (d .head) (d .rest);
+    no = λ e. absurd (clash refl e);
+  }),
+  λ low le. freed-spares d low (le refl),
 )
 
 pub drop-head-spec : {M : Type 1} → statement M
@@ -236,11 +298,17 @@ drop-head-spec =
     free-head-requires
     enum-told-2
     enum-told-3
+    enum-told-4
     same-length-3
     returns-3
+    free-head-requires-2
     same-length-4
     returns-4
     same-length-5
     returns-5
     same-length-6
-    returns-6)
+    returns-6
+    same-length-7
+    returns-7
+    same-length-8
+    returns-8)

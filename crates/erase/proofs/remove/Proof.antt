@@ -1,6 +1,6 @@
 -- `remove`: takes out the entry that covers i and stands at a spot: its marks off first, so that then no mark word
 -- changes.
-use mathlib.Core.Path.{ap, _∙_}
+use mathlib.Core.Path.{refl, ap, _∙_}
 use mathlib.Core.Bool.{false}
 use mathlib.Core.List.{List}
 use lib.Dec.{lit<}
@@ -88,7 +88,10 @@ abbrev start-from-slice-known5 : tie.After-slice-known5 → tie.Start
 start-from-slice-known5 c = climb-arg2-from-slice-known5 c .before .before .before .before .before .before
 
 climb-requires : tie.Need-climb-requires
-climb-requires c κs = search needs
+climb-requires c κs = let l = c .before .before .pre .1 in (
+  lit< tt,
+  record { formed = l .formed; holds = l .holds; markable = λ s e q r. refl },
+)
 
 climb-requires-2 : tie.Need-climb-requires-2
 climb-requires-2 c κs = let l = start-from-climb-arg2 c .pre .1 in (
@@ -96,6 +99,7 @@ climb-requires-2 c κs = let l = start-from-climb-arg2 c .pre .1 in (
   record {
     formed = first c (l .formed) (l .holds);
     holds = holds-remark (start-from-climb-arg2 c .args .i) 0 false (l .holds);
+    markable = λ s e q r. refl;
   },
 )
 
@@ -108,6 +112,7 @@ climb-requires-3 c κs = let l = start-from-climb-arg3 c .pre
         holds = holds-remark (start-from-climb-arg3 c .args
             .i) 1 false (holds-remark (start-from-climb-arg3 c
             .args .i) 0 false (l .holds));
+        markable = λ s e q r. refl;
       },
     )
 

@@ -3,6 +3,7 @@ use borrow.Author.Needs.{needs}
 use Prim.Native.Nat.{ℕ, _≤_}
 use mathlib.Core.Path.{_≡_, refl, _∙_}
 use mathlib.Core.List.{List}
+use mathlib.Core.Logic.{inl, inr}
 use native.Mathlib.Omega.{arith}
 use lib.ListN.{length}
 use borrow.Author.Tests.{not-true, not-false}
@@ -42,6 +43,12 @@ in-loop-from-enum-told3 c = c .before .before .before .before
 
 abbrev loop-from-enum-told3 : tie.After-enum-told3 Inv-loop μ-loop → tie.At-loop Inv-loop μ-loop
 loop-from-enum-told3 c = in-loop-from-enum-told3 c .before
+
+abbrev in-loop-from-enum-told4 : tie.After-enum-told4 Inv-loop μ-loop → tie.In-loop Inv-loop μ-loop
+in-loop-from-enum-told4 c = c .before .before .before .before
+
+abbrev loop-from-enum-told4 : tie.After-enum-told4 Inv-loop μ-loop → tie.At-loop Inv-loop μ-loop
+loop-from-enum-told4 c = in-loop-from-enum-told4 c .before
 
 abbrev read-slot-from-drop-head-arg : tie.After-drop-head-arg Inv-loop μ-loop → tie.After-read-slot Inv-loop μ-loop
 read-slot-from-drop-head-arg c = c .before .before .before .before
@@ -178,7 +185,7 @@ returns-2 c = let w = loop-from-enum-told c .loop .inv in (
     w .3,
     λ k l os t.
         absurd (top-held (w .4 k l os t) (in-loop-from-enum-told c .loop-test .taken) refl
-        (c .before .before .read-slot .ensures) (c .enum-told .given .1)),
+        (c .before .before .read-slot .ensures) (inl (c .enum-told .given .1))),
   ),
 )
 
@@ -217,11 +224,28 @@ returns-4 c = let w = loop-from-enum-told3 c .loop .inv in (
   ),
 )
 
+enum-told-4 : tie.Need-enum-told-4 Inv-loop μ-loop
+enum-told-4 c = search needs
+
 same-length-5 : tie.Need-same-length-5 Inv-loop μ-loop
-same-length-5 c = c .before .loop .inv .1
+same-length-5 c = loop-from-enum-told4 c .loop .inv .1
 
 returns-5 : tie.Need-returns-5 Inv-loop μ-loop
-returns-5 c = let w = c .before .loop .inv in
+returns-5 c = let w = loop-from-enum-told4 c .loop .inv in (
+  w .2,
+  (
+    w .3,
+    λ k l os t.
+        absurd (top-held (w .4 k l os t) (in-loop-from-enum-told4 c .loop-test .taken) refl
+        (c .before .before .read-slot .ensures) (inr (c .enum-told4 .given .1))),
+  ),
+)
+
+same-length-6 : tie.Need-same-length-6 Inv-loop μ-loop
+same-length-6 c = c .before .loop .inv .1
+
+returns-6 : tie.Need-returns-6 Inv-loop μ-loop
+returns-6 c = let w = c .before .loop .inv in
     (w .2, (w .3, λ k l os t. tall-flat (w .4 k l os t) (omega (arith, c .loop-test .left))))
 
 pub shrink-spec : {M : Type 1} → statement M
@@ -250,5 +274,8 @@ shrink-spec =
     enum-told-3
     same-length-4
     returns-4
+    enum-told-4
     same-length-5
-    returns-5)
+    returns-5
+    same-length-6
+    returns-6)

@@ -66,6 +66,12 @@ enum-known-c-6 c = search needs
 run-find-requires : tie.Need-run-find-requires
 run-find-requires c κs = search needs
 
+enum-known-c-7 : tie.Need-enum-known-c-7
+enum-known-c-7 c = search needs
+
+run-reserve-requires : tie.Need-run-reserve-requires
+run-reserve-requires c κs = search needs
+
 same-length : tie.Need-same-length
 same-length c = search needs
 
@@ -128,6 +134,16 @@ returns-6 c = (
   start-from-run-find c .pre .1,
 )
 
+same-length-7 : tie.Need-same-length-7
+same-length-7 c = search needs
+
+returns-7 : tie.Need-returns-7
+returns-7 c = (
+  (λ s. by-command s (c .before .before .before .before .before .c7 .given .1)
+      (c .before .before .run-reserve .ensures .0 s)),
+  c .before .before .run-reserve .ensures .1,
+)
+
 pub execute-spec : {M : Type 1} → statement M
 execute-spec =
     tie.close
@@ -144,6 +160,8 @@ execute-spec =
     run-remark-requires-2
     enum-known-c-6
     run-find-requires
+    enum-known-c-7
+    run-reserve-requires
     same-length
     returns
     same-length-2
@@ -155,4 +173,6 @@ execute-spec =
     same-length-5
     returns-5
     same-length-6
-    returns-6)
+    returns-6
+    same-length-7
+    returns-7)

@@ -10,6 +10,7 @@ use Rattle.layout.specs.Places.{render}
 use Rattle.marks.proofs.RemarkLaws.{remark-clear}
 use Rattle.execute.specs.Contracts.{coveredReply}
 use Rattle.execute.proofs.ReplyLaws.{unmarked-words, unmarked-reply}
+use Rattle.execute.proofs.TableLaws.{present-cleared}
 use borrow.Author.Needs.{needs}
 use Rattle.execute.proofs.unmatch.Statement.{statement}
 use Rattle.execute.proofs.unmatch.Tie as tie
@@ -25,8 +26,11 @@ same-length c = search needs
 
 returns : tie.Need-returns
 returns c =
-    let made = c .before .before .before .run-remark .ensures .0 in (
-      (λ s q. c .as-stored .ensures ∙ unmarked-reply s _ matchedMark (omega arith) (made s)),
+    let y = c .before .before .before in let made = y .run-remark .ensures .0 in
+    let x = y .before .before in let a = x .before .before .before .args in let i = a .index in
+    let z : bit matchedMark (a .e .marks) ≡ 1 = omega (arith, x .if1 .taken) in (
+      (λ s q. c .as-stored .ensures ∙ unmarked-reply s _ matchedMark (omega arith)
+          (present-cleared (s .list) (s .valid) i matchedMark q z) (made s)),
       λ s q. unmarked-words s _ matchedMark (omega arith) (made s),
     )
 

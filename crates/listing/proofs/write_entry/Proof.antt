@@ -23,6 +23,12 @@ put2-from-slice-known7 c = put8-from-slice-known7 c .before .before .before .bef
 abbrev put1-from-slice-known7 : tie.After-slice-known7 → tie.After-put1
 put1-from-slice-known7 c = put2-from-slice-known7 c .before .before .before .before
 
+abbrev shown-from-put1 : tie.After-put1 → tie.After-shown-word
+shown-from-put1 c = c .before .before
+
+shown-word-requires : tie.Need-shown-word-requires
+shown-word-requires c κs = search needs
+
 add-put1 : tie.Need-add-put1
 add-put1 c = search needs
 
@@ -63,14 +69,17 @@ same-length : tie.Need-same-length
 same-length c = search needs
 
 returns : tie.Need-returns
-returns c = entry-written _ _ (put1-from-slice-known7 c .before .before .before .args .e) (put1-from-slice-known7 c .put1 .ensures)
+returns c = let w = shown-from-put1 (put1-from-slice-known7 c) in
+    entry-written _ _ (w .before .before .args .e) (w .shown-word .ensures) (put1-from-slice-known7 c .put1 .ensures)
     (put2-from-slice-known7 c .put2 .ensures) (put8-from-slice-known7 c .put8 .ensures) (put12-from-slice-known7 c .put12 .ensures)
-    (put82-from-slice-known7 c .put82 .ensures) (put13-from-slice-known7 c .put13 .ensures)
+    (put82-from-slice-known7 c .put82 .ensures)
+    (put13-from-slice-known7 c .put13 .ensures)
 
 pub write-entry-spec : {M : Type 1} → statement M
 write-entry-spec =
     tie.close
     (tie.spec
+    shown-word-requires
     add-put1
     put1-requires
     add-put2

@@ -68,8 +68,9 @@ put-mark-word-from-slice-known3 c = owner-of-arg-from-slice-known3 c .before .be
 loop-holds : tie.Need-loop-holds Inv-loop μ-loop
 loop-holds c = let h = c .before .pre .1 in
     let m< = c .before .pre .0 in (
-      climb-bounds (h .formed) m< (climb-start (h .formed) m< {on = c .before .args .on} (h .holds)),
-      λ s k. climb-start s m< k,
+      climb-bounds (h .formed) m< (climb-start (h .formed) m< {on = c .before .args .on} (h .holds)
+          (h .markable (h .formed) _ (h .holds .covering-is))),
+      λ s k. climb-start s m< k (h .markable s _ (k .covering-is)),
     )
 
 mark-word-requires : tie.Need-mark-word-requires Inv-loop μ-loop

@@ -8,7 +8,7 @@ with-bit-requires : tie.Need-with-bit-requires
 with-bit-requires c κs = search needs
 
 returns : tie.Need-returns
-returns c = λ i t. rw (t, c .with-bit .ensures) refl
+returns c = λ i t. rw (t, c .before .pre .1, c .with-bit .ensures) refl
 
 pub remarked-spec : {M : Type 1} → statement M
 remarked-spec = tie.close (tie.spec with-bit-requires returns)

@@ -1,12 +1,28 @@
 -- `set_mark`: sets or clears mark m of the entry that covers i.
 use native.Mathlib.Omega.{arith}
-use mathlib.Core.Path.{_∙_}
+use mathlib.Core.Path.{_≡_, refl, sym, subst, _∙_}
+use mathlib.Core.Bool.{Bool, true, false}
+use mathlib.Core.Option.{none, some}
+use mathlib.Core.List.{List}
+use Prim.Native.Nat.{ℕ}
+use Rattle.blocks.proofs.BoolLaws.{clash}
+use Rattle.model.specs.declared.Entry.{Entry}
+use Rattle.model.specs.Model.{reserved, covering, present}
 use Rattle.lookup.proofs.HeadLaws.{at-apart, at-vacant, at-head, at-spot}
-use Rattle.marks.proofs.RemarkLaws.{words-none, head-mark, answer-none, answer-some}
+use Rattle.marks.proofs.RemarkLaws.{words-absent, head-mark, answer-none, answer-some}
 use borrow.Author.Needs.{needs}
 use Rattle.marks.proofs.set_mark.Statement.{statement}
 use Rattle.marks.proofs.set_mark.Tie as tie
 use Rattle.layout.proofs.RenderWordLaws.{pool-length}
+
+-- what covers an index is one entry
+same-entry : (l : List Entry) (i : ℕ) {e x : Entry} → covering l i ≡ some e → covering l i ≡ some x →
+    reserved e ≡ false → reserved x ≡ false
+same-entry l i {e} {x} q r f = let d : e ≡ x = cc in subst (λ (y : Entry). reserved y ≡ false) d f
+
+absent-at : (l : List Entry) (i : ℕ) {e : Entry} → covering l i ≡ some e → reserved e ≡ true →
+    present (covering l i) ≡ none
+absent-at l i q t = rw (q, t) refl
 
 -- THE PLACES IN THE CODE, each from one after it
 abbrev start-from-enum-told : tie.After-enum-told → tie.Start
@@ -15,32 +31,23 @@ start-from-enum-told c = c .before .before .before .before .before
 abbrev start-from-enum-told2 : tie.After-enum-told2 → tie.Start
 start-from-enum-told2 c = c .before .before .before .before .before
 
-abbrev locate-from-climb-arg : tie.After-climb-arg → tie.After-locate
-locate-from-climb-arg c = c .before .before .before .before
+abbrev start-from-then1 : tie.Then1 → tie.Start
+start-from-then1 c = c .before .before .before .before .before .before .before .before
 
-abbrev start-from-climb-arg : tie.After-climb-arg → tie.Start
-start-from-climb-arg c = locate-from-climb-arg c .before .before .before
+abbrev start-from-then2 : tie.Then2 → tie.Start
+start-from-then2 c = c .before .before .before .before .before .before .before .before
 
-abbrev start-from-mark-anchor-arg : tie.After-mark-anchor-arg → tie.Start
-start-from-mark-anchor-arg c = c .before .before .before .before .before .before .before
+abbrev else1-from-remarked : tie.After-remarked → tie.Else1
+else1-from-remarked c = c .before .before .before .before .before
 
-abbrev k-from-remarked : tie.After-remarked → tie.After-k
-k-from-remarked c = c .before .before .before .before .before .before
+abbrev else2-from-remarked2 : tie.After-remarked2 → tie.Else2
+else2-from-remarked2 c = c .before .before .before .before .before
 
-abbrev locate-from-remarked : tie.After-remarked → tie.After-locate
-locate-from-remarked c = k-from-remarked c .before .before
+abbrev start-from-else1 : tie.Else1 → tie.Start
+start-from-else1 c = c .before .before .before .before .before .before .before .before
 
-abbrev start-from-remarked : tie.After-remarked → tie.Start
-start-from-remarked c = locate-from-remarked c .before .before .before
-
-abbrev k2-from-remarked2 : tie.After-remarked2 → tie.After-k2
-k2-from-remarked2 c = c .before .before .before .before .before .before
-
-abbrev locate-from-remarked2 : tie.After-remarked2 → tie.After-locate
-locate-from-remarked2 c = k2-from-remarked2 c .before .before
-
-abbrev start-from-remarked2 : tie.After-remarked2 → tie.Start
-start-from-remarked2 c = locate-from-remarked2 c .before .before .before
+abbrev start-from-else2 : tie.Else2 → tie.Start
+start-from-else2 c = c .before .before .before .before .before .before .before .before
 
 locate-requires : tie.Need-locate-requires
 locate-requires c κs = search needs
@@ -54,88 +61,101 @@ enum-told-2 c = search needs
 enum-known-k : tie.Need-enum-known-k
 enum-known-k c = search needs
 
-mark-anchor-requires : tie.Need-mark-anchor-requires
-mark-anchor-requires c κs = (
-  omega (
-    arith,
-    pool-length
-        (start-from-mark-anchor-arg c .pre .0),
-  ),
-  start-from-mark-anchor-arg c .pre .1,
-)
-
-remarked-requires : tie.Need-remarked-requires
-remarked-requires c κs = search needs
-
-enum-known-k-2 : tie.Need-enum-known-k-2
-enum-known-k-2 c = search needs
-
-climb-requires : tie.Need-climb-requires
-climb-requires c κs = let s = start-from-climb-arg c .pre .0 in (
-  start-from-climb-arg c .pre .1,
-  record {
-    formed = s;
-    holds = at-spot _ _ _ (locate-from-climb-arg c .locate .ensures s)
-        (c .before .before .k2 .given .1) .1;
-  },
-)
-
-remarked-requires-2 : tie.Need-remarked-requires-2
-remarked-requires-2 c κs = search needs
+is-reserved-requires : tie.Need-is-reserved-requires
+is-reserved-requires c κs = search needs
 
 same-length : tie.Need-same-length
 same-length c = search needs
 
 returns : tie.Need-returns
-returns c = let a = start-from-enum-told c .args in (
-  (λ s. let (q, d) = at-apart (c .before .before .locate .ensures s) (c .enum-told .given .1) in
-      answer-none (s .list) (a .i) (a .m) (a .on) q),
-  λ s. let (q, d) = at-apart (c .before .before .locate .ensures s) (c .enum-told .given .1) in
-      words-none s (a .i) (a .m) (a .on) q,
+returns c = let a = start-from-then1 c .args in let r = sym (c .before .is-reserved .ensures) ∙ c .if1 .taken in (
+  (λ s. let (z, q) = at-head _ (c .before .before .before .before .before .locate .ensures s) (c .before .before .before .k .given .1) in
+      answer-none (s .list) (a .i) (a .m) (a .on) (s .valid) (absent-at (s .list) (a .i) q r)),
+  λ s. let (z, q) = at-head _ (c .before .before .before .before .before .locate .ensures s) (c .before .before .before .k .given .1) in
+      words-absent s (a .i) (a .m) (a .on) (absent-at (s .list) (a .i) q r),
 )
+
+mark-anchor-requires : tie.Need-mark-anchor-requires
+mark-anchor-requires c κs = let z = start-from-else1 (c .before) in (omega (arith, pool-length (z .pre .0)), z .pre .1)
+
+remarked-requires : tie.Need-remarked-requires
+remarked-requires c κs = (start-from-else1 (c .before .before .before .before) .pre .1, sym (c .before .before .before .before .before .is-reserved .ensures) ∙ c .before .before .before .before .if1 .left)
+
+enum-known-k-2 : tie.Need-enum-known-k-2
+enum-known-k-2 c = search needs
+
+is-reserved-requires-2 : tie.Need-is-reserved-requires-2
+is-reserved-requires-2 c κs = search needs
 
 same-length-2 : tie.Need-same-length-2
 same-length-2 c = search needs
 
 returns-2 : tie.Need-returns-2
-returns-2 c = let a = start-from-enum-told2 c .args in (
-  (λ s. let (t, q, b, le, d) = at-vacant _ _ _ (c .before .before .locate .ensures s) (c .enum-told2 .given .1) in
-      answer-none (s .list) (a .i) (a .m) (a .on) q),
-  λ s. let (t, q, b, le, d) = at-vacant _ _ _ (c .before .before .locate .ensures s) (c .enum-told2 .given .1) in
-      words-none s (a .i) (a .m) (a .on) q,
+returns-2 c = let a = start-from-then2 c .args in let r = sym (c .before .is-reserved2 .ensures) ∙ c .if2 .taken in (
+  (λ s. let (q, h, t, le, d) = at-spot _ _ _ (c .before .before .before .before .before .locate .ensures s) (c .before .before .before .k2 .given .1) in
+      answer-none (s .list) (a .i) (a .m) (a .on) (s .valid) (absent-at (s .list) (a .i) q r)),
+  λ s. let (q, h, t, le, d) = at-spot _ _ _ (c .before .before .before .before .before .locate .ensures s) (c .before .before .before .k2 .given .1) in
+      words-absent s (a .i) (a .m) (a .on) (absent-at (s .list) (a .i) q r),
 )
+
+climb-requires : tie.Need-climb-requires
+climb-requires c κs = let z = start-from-else2 (c .before) in let s = z .pre .0 in (
+  z .pre .1,
+  record {
+    formed = s;
+    holds = at-spot _ _ _ (c .before .before .before .before .before .before .locate .ensures s) (c .before .before .before .before .k2 .given .1) .1;
+    markable = λ t x r y. absurd (clash y (same-entry (t .list) (z .args .i)
+        (at-spot _ _ _ (c .before .before .before .before .before .before .locate .ensures t) (c .before .before .before .before .k2 .given .1) .0) r (sym (c .before .before .is-reserved2 .ensures) ∙ c .before .if2 .left)));
+  },
+)
+
+remarked-requires-2 : tie.Need-remarked-requires-2
+remarked-requires-2 c κs = (start-from-else2 (c .before .before .before .before) .pre .1, sym (c .before .before .before .before .before .is-reserved2 .ensures) ∙ c .before .before .before .before .if2 .left)
 
 same-length-3 : tie.Need-same-length-3
 same-length-3 c = search needs
 
 returns-3 : tie.Need-returns-3
-returns-3 c = let a = start-from-remarked c .args
-    in (
-      (λ s. let (z, q) = at-head _ (locate-from-remarked c .locate .ensures
-          s)
-          (k-from-remarked c .k .given .1) in
-          answer-some (s .list) (a .i) (a .m) (a .on) q (c .remarked .ensures (a .i))),
-      λ s. let (z, q) = at-head _ (locate-from-remarked c .locate .ensures
-          s)
-          (k-from-remarked c .k .given .1) in
-          c .before .before .before .mark-anchor .ensures ∙ head-mark s (a .i) (a .m) (a .on)
-          (start-from-remarked c .pre .1) _ q z,
-    )
+returns-3 c = let a = start-from-enum-told c .args in (
+  (λ s. let (q, d) = at-apart (c .before .before .locate .ensures s) (c .enum-told .given .1) in
+      answer-none (s .list) (a .i) (a .m) (a .on) (s .valid) (rw q refl)),
+  λ s. let (q, d) = at-apart (c .before .before .locate .ensures s) (c .enum-told .given .1) in
+      words-absent s (a .i) (a .m) (a .on) (rw q refl),
+)
 
 same-length-4 : tie.Need-same-length-4
 same-length-4 c = search needs
 
 returns-4 : tie.Need-returns-4
-returns-4 c = let a = start-from-remarked2 c .args
-    in (
-      (λ s. let (q, h, t, le, d) = at-spot _ _ _ (locate-from-remarked2 c
-          .locate .ensures s) (k2-from-remarked2 c .k2 .given .1) in
-          answer-some (s .list) (a .i) (a .m) (a .on) q (c .remarked2 .ensures (a .i))),
-      λ s. let (q, h, t, le, d) = at-spot _ _ _ (locate-from-remarked2 c
-          .locate
-          .ensures s) (k2-from-remarked2 c .k2 .given .1) in
-          c .before .before .before .climb .ensures s h,
-    )
+returns-4 c = let a = start-from-enum-told2 c .args in (
+  (λ s. let (t, q, b, le, d) = at-vacant _ _ _ (c .before .before .locate .ensures s) (c .enum-told2 .given .1) in
+      answer-none (s .list) (a .i) (a .m) (a .on) (s .valid) (rw q refl)),
+  λ s. let (t, q, b, le, d) = at-vacant _ _ _ (c .before .before .locate .ensures s) (c .enum-told2 .given .1) in
+      words-absent s (a .i) (a .m) (a .on) (rw q refl),
+)
+
+same-length-5 : tie.Need-same-length-5
+same-length-5 c = search needs
+
+returns-5 : tie.Need-returns-5
+returns-5 c = let y = else1-from-remarked c in let z = start-from-else1 y in let a = z .args in (
+  (λ s. let (f, q) = at-head _ (y .before .before .before .before .before .locate .ensures s) (y .before .before .before .k .given .1) in
+      answer-some (s .list) (a .i) (a .m) (a .on) q (sym (y .before .is-reserved .ensures) ∙ y .if1 .left) (c .remarked .ensures (a .i))),
+  λ s. let (f, q) = at-head _ (y .before .before .before .before .before .locate .ensures s) (y .before .before .before .k .given .1) in
+      c .before .before .before .mark-anchor .ensures ∙ head-mark s (a .i) (a .m) (a .on) (z .pre .1) _ q
+      (λ r. absurd (clash r (sym (y .before .is-reserved .ensures) ∙ y .if1 .left))) f,
+)
+
+same-length-6 : tie.Need-same-length-6
+same-length-6 c = search needs
+
+returns-6 : tie.Need-returns-6
+returns-6 c = let y = else2-from-remarked2 c in let z = start-from-else2 y in let a = z .args in (
+  (λ s. let (q, h, t, le, d) = at-spot _ _ _ (y .before .before .before .before .before .locate .ensures s) (y .before .before .before .k2 .given .1) in
+      answer-some (s .list) (a .i) (a .m) (a .on) q (sym (y .before .is-reserved2 .ensures) ∙ y .if2 .left) (c .remarked2 .ensures (a .i))),
+  λ s. let (q, h, t, le, d) = at-spot _ _ _ (y .before .before .before .before .before .locate .ensures s) (y .before .before .before .k2 .given .1) in
+      c .before .before .before .climb .ensures s h,
+)
 
 pub set-mark-spec : {M : Type 1} → statement M
 set-mark-spec =
@@ -145,16 +165,22 @@ set-mark-spec =
     enum-told
     enum-told-2
     enum-known-k
+    is-reserved-requires
+    same-length
+    returns
     mark-anchor-requires
     remarked-requires
     enum-known-k-2
-    climb-requires
-    remarked-requires-2
-    same-length
-    returns
+    is-reserved-requires-2
     same-length-2
     returns-2
+    climb-requires
+    remarked-requires-2
     same-length-3
     returns-3
     same-length-4
-    returns-4)
+    returns-4
+    same-length-5
+    returns-5
+    same-length-6
+    returns-6)

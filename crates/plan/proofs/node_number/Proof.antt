@@ -17,6 +17,9 @@ enum-told-2 c = search needs
 enum-told-3 : tie.Need-enum-told-3
 enum-told-3 c = search needs
 
+enum-told-4 : tie.Need-enum-told-4
+enum-told-4 c = search needs
+
 enum-known-s : tie.Need-enum-known-s
 enum-known-s c = search needs
 
@@ -30,7 +33,10 @@ returns-3 : tie.Need-returns-3
 returns-3 c = sym (ap childOf (sym (c .before .before .read-slot .ensures) ∙ c .enum-told3 .given .1))
 
 returns-4 : tie.Need-returns-4
-returns-4 c = sym (ap childOf (sym (c .before .before .before .read-slot .ensures) ∙ c .before .s .given .1))
+returns-4 c = sym (ap childOf (sym (c .before .before .read-slot .ensures) ∙ c .enum-told4 .given .1))
+
+returns-5 : tie.Need-returns-5
+returns-5 c = sym (ap childOf (sym (c .before .before .before .read-slot .ensures) ∙ c .before .s .given .1))
 
 pub node-number-spec : {M : Type 1} → statement M
 node-number-spec =
@@ -40,8 +46,10 @@ node-number-spec =
     enum-told
     enum-told-2
     enum-told-3
+    enum-told-4
     enum-known-s
     returns
     returns-2
     returns-3
-    returns-4)
+    returns-4
+    returns-5)

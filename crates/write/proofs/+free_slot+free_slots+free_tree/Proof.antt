@@ -170,6 +170,14 @@ free-slot-enum-told-3 : (t : ℕ) → free-slot-lts.Need-enum-told-3 (
 ) (free-slot-at t) free-slot.Post
 free-slot-enum-told-3 t c = search needs
 
+free-slot-enum-told-4 : (t : ℕ) → free-slot-lts.Need-enum-told-4 (
+  read-slot-reads.Asked,
+  read-slot-reads.Learnt,
+  free-tree-below t,
+  free-tree.Post,
+) (free-slot-at t) free-slot.Post
+free-slot-enum-told-4 t c = search needs
+
 free-slot-returns-2 : (t : ℕ) → free-slot-lts.Need-returns-2 (
   read-slot-reads.Asked,
   read-slot-reads.Learnt,
@@ -212,6 +220,17 @@ free-slot-returns-5 : (t : ℕ) → free-slot-lts.Need-returns-5 (
 ) (free-slot-at t) free-slot.Post
 free-slot-returns-5 t c = (
   still _ _ _ _ (c .before .before .read-slot .ensures) (c .enum-told3 .given .1) refl,
+  spared-all _ _,
+)
+
+free-slot-returns-6 : (t : ℕ) → free-slot-lts.Need-returns-6 (
+  read-slot-reads.Asked,
+  read-slot-reads.Learnt,
+  free-tree-below t,
+  free-tree.Post,
+) (free-slot-at t) free-slot.Post
+free-slot-returns-6 t c = (
+  still _ _ _ _ (c .before .before .read-slot .ensures) (c .enum-told4 .given .1) refl,
   spared-all _ _,
 )
 
@@ -397,10 +416,12 @@ pub +free-slot+free-slots+free-tree-spec : {M : Type 1} → statement M
     (free-slot-enum-told t)
     (free-slot-enum-told-2 t)
     (free-slot-enum-told-3 t)
+    (free-slot-enum-told-4 t)
     (free-slot-returns-2 t)
     (free-slot-returns-3 t)
     (free-slot-returns-4 t)
-    (free-slot-returns-5 t))
+    (free-slot-returns-5 t)
+    (free-slot-returns-6 t))
     (λ t. free-slots-lts.spec (
       slot-word-reads.Asked,
       slot-word-reads.Learnt,

@@ -1,0 +1,134 @@
+-- `reserve`: by where the way down to the index ends.
+use mathlib.Core.Path.{_≡_, refl}
+use mathlib.Core.Bool.{true}
+use native.Mathlib.Omega.{arith}
+use lib.Dec.{eqb, lit<}
+use borrow.Author.Tests.{eq-eqb}
+use Prim.Native.Nat.{ℕ, _%_, _^_}
+use Rattle.model.specs.Model.{reservedWord, aligned}
+use Rattle.tree.proofs.ReadLaws.{over-none}
+use Rattle.lookup.proofs.HeadLaws.{at-apart, at-vacant, at-head, at-spot}
+use Rattle.plan.specs.Plan.{Storable}
+use Rattle.store.specs.Stored.{taken, tried}
+use Rattle.store.proofs.Outcomes.{as-new, as-reserved}
+use borrow.Author.Needs.{needs}
+use Rattle.store.proofs.reserve.Statement.{statement}
+use Rattle.store.proofs.reserve.Tie as tie
+
+-- every index is a multiple of 1
+whole : (i : ℕ) → aligned 0 i ≡ true
+whole i = eq-eqb (i % 2 ^ 0) 0 (omega arith)
+
+-- what is stored can be
+fit : (z : tie.Start) → Storable (record { index = z .args .index; order = 0; word = reservedWord })
+fit z = record {
+  index-fits = z .fits .index .fits;
+  order-le = omega arith;
+  is-aligned = whole (z .args .index);
+  word-fits = lit< tt;
+  is-entry = tt;
+}
+
+-- THE PLACES IN THE CODE, each from one after it
+abbrev start : tie.After-locate → tie.Start
+start c = c .before .before .before
+
+abbrev located-new : tie.After-store-new-arg → tie.After-locate
+located-new c = c .before .before .before
+
+abbrev located-gap : tie.After-store-new-arg2 → tie.After-locate
+located-gap c = c .before .before .before
+
+locate-requires : tie.Need-locate-requires
+locate-requires c κs = search needs
+
+enum-told : tie.Need-enum-told
+enum-told c = search needs
+
+store-new-requires : tie.Need-store-new-requires
+store-new-requires c κs = let x = located-new c in let z = start x in (
+  z .pre .0,
+  (
+    (fit z, z .pre .1),
+    λ s. over-none (s .list) _ _ (at-apart (x .locate .ensures s) (c .before .enum-told .given .1) .0),
+  ),
+)
+
+enum-told-2 : tie.Need-enum-told-2
+enum-told-2 c = search needs
+
+store-new-requires-2 : tie.Need-store-new-requires-2
+store-new-requires-2 c κs = let x = located-gap c in let z = start x in (
+  z .pre .0,
+  (
+    (fit z, z .pre .1),
+    λ s. over-none (s .list) _ _ (at-vacant _ _ _ (x .locate .ensures s) (c .before .enum-told2 .given .1) .1),
+  ),
+)
+
+enum-told-3 : tie.Need-enum-told-3
+enum-told-3 c = search needs
+
+enum-told-4 : tie.Need-enum-told-4
+enum-told-4 c = search needs
+
+same-length : tie.Need-same-length
+same-length c = search needs
+
+returns : tie.Need-returns
+returns c = let y = c .before .before in let x = located-new (y .before) in let i = start x .args .index in (
+  λ s. let q = at-apart (x .locate .ensures s) (y .before .before .enum-told .given .1) .0 in
+      tried _ q (as-reserved s i (whole i) (over-none (s .list) i 0 q)
+      (as-new s i 0 reservedWord (over-none (s .list) i 0 q) (y .store-new .ensures .0 s))),
+  y .store-new .ensures .1,
+)
+
+same-length-2 : tie.Need-same-length-2
+same-length-2 c = search needs
+
+returns-2 : tie.Need-returns-2
+returns-2 c = let y = c .before .before in let x = located-gap (y .before) in let i = start x .args .index in (
+  λ s. let q = at-vacant _ _ _ (x .locate .ensures s) (y .before .before .enum-told2 .given .1) .1 in
+      tried _ q (as-reserved s i (whole i) (over-none (s .list) i 0 q)
+      (as-new s i 0 reservedWord (over-none (s .list) i 0 q) (y .store-new2 .ensures .0 s))),
+  y .store-new2 .ensures .1,
+)
+
+same-length-3 : tie.Need-same-length-3
+same-length-3 c = search needs
+
+returns-3 : tie.Need-returns-3
+returns-3 c = (
+  λ s. let (f, q) = at-head _ (c .before .before .locate .ensures s) (c .enum-told3 .given .1) in taken _ q refl,
+  c .before .before .before .before .before .pre .1,
+)
+
+same-length-4 : tie.Need-same-length-4
+same-length-4 c = search needs
+
+returns-4 : tie.Need-returns-4
+returns-4 c = (
+  λ s. let (q, h, t, le, d) = at-spot _ _ _ (c .before .before .locate .ensures s) (c .enum-told4 .given .1) in
+      taken _ q refl,
+  c .before .before .before .before .before .pre .1,
+)
+
+pub reserve-spec : {M : Type 1} → statement M
+reserve-spec =
+    tie.close
+    (tie.spec
+    locate-requires
+    enum-told
+    store-new-requires
+    enum-told-2
+    store-new-requires-2
+    enum-told-3
+    enum-told-4
+    same-length
+    returns
+    same-length-2
+    returns-2
+    same-length-3
+    returns-3
+    same-length-4
+    returns-4)
