@@ -11,7 +11,7 @@ use Rattle.scan.proofs.reserved_ok.Statement.{statement}
 use Rattle.scan.proofs.reserved_ok.Tie as tie
 
 returns : tie.Need-returns
-returns c = no! (λ i. c .if1 .taken (i .bottom))
+returns c = no! (λ i. omega (arith, c .if1 .taken, i .bottom))
 
 shr-if2 : tie.Need-shr-if2
 shr-if2 c = omega arith
