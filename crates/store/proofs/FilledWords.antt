@@ -123,11 +123,11 @@ module _ (n : ℕ) (l : List Entry) (os : Places) (pl : Placed n l os) (valid : 
 
   pub entry-more : v < height l′ → All (λ x. block k (x .base) ≡ block k i → ⊥) l →
       filledAt l ν′ v (path (v + 1)) + span k ≡ Y (filledPlace (ν′ (v + 1) (path (v + 1))))
-  entry-more a none = omega (
+  entry-more a z = omega (
     arith,
     entry-is a,
     entry-count l valid i k w i< k≤ new ν′ some-word,
-    run-none l valid i k w i< k≤ new ν′ none,
+    run-none l valid i k w i< k≤ new ν′ z,
   )
 
   pub entry-all : v < height l′ → height l < height l′ → block k i ≡ 0 → span k ≡ Y (filledPlace (ν′ (v + 1) (path (v + 1))))

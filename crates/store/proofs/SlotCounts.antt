@@ -65,7 +65,7 @@ unfolding filledAt
 filled-le l ν u b = count-le (λ o. not (eqb (slot l ν u (slots * b + o)) 0)) slots
 
 -- a slot is filled under every numbering alike
-full-any : (l : List Entry) (ν ν′ : Numbering) (u c : ℕ) → not (eqb (slot l ν u c) 0) ≡ not (eqb (slot l ν′ u c) 0)
+pub full-any : (l : List Entry) (ν ν′ : Numbering) (u c : ℕ) → not (eqb (slot l ν u c) 0) ≡ not (eqb (slot l ν′ u c) 0)
 unfolding slot
 full-any l ν ν′ u c =
     byT (any (within (tierOrder u) c) l)
