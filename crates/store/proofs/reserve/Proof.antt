@@ -10,6 +10,7 @@ use Rattle.tree.proofs.ReadLaws.{over-none}
 use Rattle.lookup.proofs.HeadLaws.{at-apart, at-vacant, at-head, at-spot}
 use Rattle.plan.specs.Plan.{Storable}
 use Rattle.store.specs.Stored.{taken, tried}
+use Rattle.store.proofs.ReachLaws.{reached-apart}
 use Rattle.store.proofs.Outcomes.{as-new, as-reserved}
 use borrow.Author.Needs.{needs}
 use Rattle.store.proofs.reserve.Statement.{statement}
@@ -50,7 +51,10 @@ store-new-requires c κs = let x = located-new c in let z = start x in (
   z .pre .0,
   (
     (fit z, z .pre .1),
-    λ s. over-none (s .list) _ _ (at-apart (x .locate .ensures s) (c .before .enum-told .given .1) .0),
+    λ s. let (q, d) = at-apart (x .locate .ensures s) (c .before .enum-told .given .1) in (
+      over-none (s .list) _ _ q,
+      reached-apart _ _ _ (s .valid) (fit z .index-fits) (fit z .order-le) (over-none (s .list) _ _ q) d,
+    ),
   ),
 )
 
