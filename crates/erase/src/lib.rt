@@ -80,7 +80,7 @@ fn uncount(pool: &mut [u64], n: u64, c: u64)
     put_filled(pool, n, left);
 }
 
-// Frees node n, and empties slot o of node m, which leads to it.
+// Frees node n, and empties slot o of node m, which leads to it; m has one filled slot less.
 fn unlink(pool: &mut [u64], n: u64, m: u64, o: u64)
     requires { do ⌜ lastPlace n < (← ⟦pool.len()⟧) ⌝ }
     requires { do ⌜ lastPlace m < (← ⟦pool.len()⟧) ⌝ }
@@ -184,7 +184,7 @@ fn empty_slots(pool: &mut [u64], n: u64, o: u64, c: u64)
     fill_slots(pool, n, o, 0, c);
 }
 
-// Empties the slots of the entry that covers i.
+// Empties the slots of the entry that covers i, and takes them from the node's filled count.
 fn cut_run(pool: &mut [u64], i: u64, at: Spot)
     requires { ⌜ Leaves i (at .node) (at .tier) (at .slot) (at .top) (now pool) ⌝ }
     ensures { λ _. ⌜ ((s : WellFormed (now (pool .entry))) →

@@ -4,6 +4,7 @@ use mathlib.Core.Path.{_≡_, _∙_}
 use native.Mathlib.Omega.{arith}
 use native.Mathlib.Nat.{le-refl}
 use Rattle.blocks.specs.Blocks.{block}
+use Rattle.blocks.proofs.BlockLaws.{pow-pos}
 use Rattle.tree.specs.Tree.{tierOrder}
 use Rattle.layout.specs.WellFormed.{WellFormed, num}
 use Rattle.lookup.specs.Views.{Holds}
@@ -58,7 +59,7 @@ uncount-requires c κs = let l = start-from-uncount-arg c .pre in
     let f = run-fits (l .formed) (l .holds) (l .unmarked) in
     let w = run-counted (l .formed) (l .holds) (l .unmarked) _
     (order (c .before .before) (l .formed) (l .holds) (l .unmarked)) in
-    (omega (arith, f .0), omega (arith, c .before .pow2 .ensures))
+    (omega (arith, f .0), omega (arith, c .before .pow2 .ensures, pow-pos (c .before .before .order-of .result)))
 
 empty-slots-requires : tie.Need-empty-slots-requires
 empty-slots-requires c κs = let l = pow2-from-empty-slots-arg c .before .before .before .before .pre in

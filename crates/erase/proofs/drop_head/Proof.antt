@@ -223,7 +223,7 @@ returns-5 c = let d = c .before .before .free-head .ensures in (
         .ensures) (read-slot-from-slice-known3 c .read-slot .ensures)
         (sym (filled-of-from-read-slot (read-slot-from-slice-known3 c) .filled-of .ensures) ∙
         else1-from-slice-known3 c .if1 .left) (inl (enum-told-from-slice-known3 c .enum-told .given .1))
-        (else2-from-slice-known3 c .if2 .left)
+        (omega (arith, else2-from-slice-known3 c .if2 .left))
         (c .before .before .free-head .kept .0) (d .gone) (d .head) (d .rest);
     no = λ e. absurd (clash refl e);
   }),
