@@ -37,8 +37,8 @@ start c = c .before .before .before
 abbrev located-new : tie.After-store-new-arg → tie.After-locate
 located-new c = c .before .before .before
 
-abbrev located-gap : tie.After-store-new-arg2 → tie.After-locate
-located-gap c = c .before .before .before
+abbrev located-gap : tie.After-store-at-gap-arg → tie.After-locate
+located-gap c = c .before .before .before .before
 
 locate-requires : tie.Need-locate-requires
 locate-requires c κs = search needs
@@ -58,23 +58,27 @@ store-new-requires c κs = let x = located-new c in let z = start x in (
   ),
 )
 
-enum-told-2 : tie.Need-enum-told-2
-enum-told-2 c = search needs
+enum-known-found : tie.Need-enum-known-found
+enum-known-found c = search needs
 
-store-new-requires-2 : tie.Need-store-new-requires-2
-store-new-requires-2 c κs = let x = located-gap c in let z = start x in (
+store-at-gap-requires : tie.Need-store-at-gap-requires
+store-at-gap-requires c κs = let x = located-gap c in let z = start x in let v = c .before .before .found .given .1 in (
   z .pre .0,
   (
     (fit z, z .pre .1),
-    λ s. over-none (s .list) _ _ (at-vacant _ _ _ (x .locate .ensures s) (c .before .enum-told2 .given .1) .1),
+    (
+      at-vacant _ _ _ (x .locate .ensures (z .pre .0)) v .3,
+      λ s. let (t, q, a, le, d) = at-vacant _ _ _ (x .locate .ensures s) v in
+          record { new = over-none (s .list) _ _ q; at-node = a; nothing = t },
+    ),
   ),
 )
 
+enum-told-2 : tie.Need-enum-told-2
+enum-told-2 c = search needs
+
 enum-told-3 : tie.Need-enum-told-3
 enum-told-3 c = search needs
-
-enum-told-4 : tie.Need-enum-told-4
-enum-told-4 c = search needs
 
 same-length : tie.Need-same-length
 same-length c = search needs
@@ -92,10 +96,10 @@ same-length-2 c = search needs
 
 returns-2 : tie.Need-returns-2
 returns-2 c = let y = c .before .before in let x = located-gap (y .before) in let i = start x .args .index in (
-  λ s. let q = at-vacant _ _ _ (x .locate .ensures s) (y .before .before .enum-told2 .given .1) .1 in
+  λ s. let (t, q, b, le, d) = at-vacant _ _ _ (x .locate .ensures s) (y .before .before .before .found .given .1) in
       tried _ q (as-reserved s i (whole i) (over-none (s .list) i 0 q)
-      (as-new s i 0 reservedWord (over-none (s .list) i 0 q) (y .store-new2 .ensures .0 s))),
-  y .store-new2 .ensures .1,
+      (as-new s i 0 reservedWord (over-none (s .list) i 0 q) (y .store-at-gap .ensures .0 s))),
+  y .store-at-gap .ensures .1,
 )
 
 same-length-3 : tie.Need-same-length-3
@@ -103,7 +107,7 @@ same-length-3 c = search needs
 
 returns-3 : tie.Need-returns-3
 returns-3 c = (
-  λ s. let (f, q) = at-head _ (c .before .before .locate .ensures s) (c .enum-told3 .given .1) in taken _ q refl,
+  λ s. let (f, q) = at-head _ (c .before .before .locate .ensures s) (c .enum-told2 .given .1) in taken _ q refl,
   c .before .before .before .before .before .pre .1,
 )
 
@@ -112,7 +116,7 @@ same-length-4 c = search needs
 
 returns-4 : tie.Need-returns-4
 returns-4 c = (
-  λ s. let (q, h, t, le, d) = at-spot _ _ _ (c .before .before .locate .ensures s) (c .enum-told4 .given .1) in
+  λ s. let (q, h, t, le, d) = at-spot _ _ _ (c .before .before .locate .ensures s) (c .enum-told3 .given .1) in
       taken _ q refl,
   c .before .before .before .before .before .pre .1,
 )
@@ -124,10 +128,10 @@ reserve-spec =
     locate-requires
     enum-told
     store-new-requires
+    enum-known-found
+    store-at-gap-requires
     enum-told-2
-    store-new-requires-2
     enum-told-3
-    enum-told-4
     same-length
     returns
     same-length-2
