@@ -181,11 +181,11 @@ module _ (ws : List ℕ) (n : ℕ) where
     inner = λ l p. g .inner i (λ k x q. p k x (omega arith));
   }
 
-  pub last-inner : (a b c r : ℕ) → a ≤ b → PlainFilled ws n b c r → slots < r → PlainFilled ws n a c r
-  last-inner a b c r h g i = record {
+  pub last-inner : (a b c d r : ℕ) → a ≤ b → c ≤ d → PlainFilled ws n b c r → slots < r → PlainFilled ws n a d r
+  last-inner a b c d r h e g i = record {
     plain = λ l. absurd (omega arith);
     count = λ l. absurd (omega arith);
-    inner = λ l p. g .inner i (λ k x q. p k (omega arith) q);
+    inner = λ l p. g .inner i (λ k x q. p k (omega arith) (omega arith));
   }
 
   pub both-plain : (b e r s : ℕ) → b ≤ e → e ≤ slots → PlainFilled ws n 0 b r → PlainFilled ws n b e s → r ≤ slots → s ≤ slots →

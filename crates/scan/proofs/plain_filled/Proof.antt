@@ -20,7 +20,7 @@ plain-part-requires-2 : tie.Need-plain-part-requires-2
 plain-part-requires-2 c κs = omega arith
 
 returns-3 : tie.Need-returns-3
-returns-3 c = last-inner _ _ _ _ _ _ (omega arith) (c .before .plain-part2 .ensures) (omega arith)
+returns-3 c = last-inner _ _ _ _ _ _ _ (omega arith) (omega arith) (c .before .plain-part2 .ensures) (omega arith)
 
 add-result : tie.Need-add-result
 add-result c = omega arith
