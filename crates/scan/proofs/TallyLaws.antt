@@ -1,5 +1,5 @@
 -- The filled slots of a node counted: in the pass over a node without internal words, and from step to step over another.
-use Prim.Native.Nat.{ℕ, suc, _+_, _-_, _/_, _%_, _^_, _≤_, _<_, min, max}
+use Prim.Native.Nat.{ℕ, zero, suc, _+_, _-_, _/_, _%_, _^_, _≤_, _<_, min, max}
 use mathlib.Core.Path.{_≡_, refl, sym, ap, _∙_, subst}
 use mathlib.Core.Bool.{Bool, true, false, not}
 use mathlib.Core.Logic.{_≢_}
@@ -11,7 +11,7 @@ use lib.Bits.{bitAnd, bitOr, or-lt, or-add-and, and-le-l, and-le-r, and-shr}
 use borrow.Author.Tests.{eqb-true, eqb-false, eq-eqb, ne-eqb, ltb-true, ltb-false}
 use Rattle.blocks.specs.Choice.{pick}
 use Rattle.blocks.specs.Blocks.{bit, countTo, NextBit}
-use Rattle.blocks.proofs.BoolLaws.{byT}
+use Rattle.blocks.proofs.BoolLaws.{byT, clash}
 use Rattle.blocks.proofs.CountLaws.{count-le, count-none, count-all, count-split, count-zero}
 use Rattle.blocks.proofs.TwoWordLaws.{or-bit, and-odd}
 use Rattle.tree.specs.Tree.{slots}
@@ -20,10 +20,31 @@ use Rattle.layout.specs.Pool.{Pool, poolOf}
 use Rattle.layout.specs.Reading.{Decides, Internal, Plain}
 use Rattle.layout.proofs.PassLaws.{decide-eqb}
 use Rattle.scan.specs.Local.{SlotsOk, UsedFrom}
-use Rattle.scan.specs.Passes.{AllMarks, fillBit, Filled, filledTo, Lowest, PlainFilled, Stepped, SlotsFilled}
+use Rattle.scan.specs.Passes.{AllMarks, fillBit, Filled, filledTo, Lowest, OddTo, PlainFilled, NoLoose, Stepped, SlotsFilled}
 use Rattle.scan.proofs.PassLaws.{used-of, unused-of}
 use Rattle.scan.proofs.FilledLaws.{bit-empty}
 use Rattle.scan.proofs.StepLaws.{Gone, gone-start, gone-on, gone-past}
+
+-- all have it
+count-full : (f : ℕ → Bool) (m : ℕ) → countTo f m ≡ m → (j : ℕ) → j < m → f j ≡ true
+count-full f zero e j h = absurd (omega arith)
+count-full f (suc m) e j h =
+    byT (f m)
+    (λ t. let y : countTo f m + 1 ≡ suc m = rw t at e in
+    byT (eqb j m) (λ q. rw (eqb-true j m q) t)
+    (λ q. let d : j ≢ m = eqb-false j m q in count-full f m (omega arith) j (omega arith)))
+    (λ t. let y : countTo f m + 0 ≡ suc m = rw t at e in absurd (omega (arith, count-le f m)))
+
+-- ODD WORDS
+pub odd-next : (P : Pool) (n o x w : ℕ) → (x % 2 ≡ 1 → OddTo P n o) → w ≡ P .slot n o → bitAnd x w % 2 ≡ 1 → OddTo P n (o + 1)
+odd-next P n o x w h e z k lt =
+    byT (eqb k o)
+    (λ t. let b : w % 2 ≡ 1 = omega (arith, and-odd x w) in
+    ap (λ (i : ℕ). P .slot n i % 2) (eqb-true k o t) ∙ (ap (λ (i : ℕ). i % 2) (sym e) ∙ b))
+    (λ t. let d : k ≢ o = eqb-false k o t in h (omega (arith, and-odd x w)) k (omega arith))
+
+pub odd-all : (P : Pool) (n o : ℕ) → slots ≤ o → OddTo P n o → OddTo P n slots
+odd-all P n o h f k lt = f k (omega arith)
 
 -- THE LOWEST BIT OF A WORD
 pub lowest-zero : (w : ℕ) → w ≡ 0 → Lowest w 0
@@ -160,11 +181,11 @@ module _ (ws : List ℕ) (n : ℕ) where
     inner = λ l p. g .inner i (λ k x q. p k x (omega arith));
   }
 
-  pub last-inner : (a b c r : ℕ) → a ≤ b → PlainFilled ws n b c r → slots < r → PlainFilled ws n a c r
-  last-inner a b c r h g i = record {
+  pub last-inner : (a b c d r : ℕ) → a ≤ b → c ≤ d → PlainFilled ws n b c r → slots < r → PlainFilled ws n a d r
+  last-inner a b c d r h e g i = record {
     plain = λ l. absurd (omega arith);
     count = λ l. absurd (omega arith);
-    inner = λ l p. g .inner i (λ k x q. p k (omega arith) q);
+    inner = λ l p. g .inner i (λ k x q. p k (omega arith) (omega arith));
   }
 
   pub both-plain : (b e r s : ℕ) → b ≤ e → e ≤ slots → PlainFilled ws n 0 b r → PlainFilled ws n b e s → r ≤ slots → s ≤ slots →
@@ -180,11 +201,29 @@ module _ (ws : List ℕ) (n : ℕ) where
       }
 
   -- all slots
+  pub odd-filled : OddTo P n slots → PlainFilled ws n 0 slots 64
+  odd-filled h = record {
+    plain = λ l k a lt i. two-one (P .slot n k) i (h k lt);
+    count = λ l. count-all (λ o. not (eqb (P .slot n o) 0)) slots (λ o lt. ap not (ne-eqb (P .slot n o) 0 (none-one (P .slot n o) (h o lt))));
+    inner = λ l. absurd (omega arith);
+  }
+    where
+      two-one : (w : ℕ) → w % 4 ≡ 2 → w % 2 ≡ 1 → ⊥
+      two-one w a b = omega arith
+
+      none-one : (w : ℕ) → w % 2 ≡ 1 → w ≡ 0 → ⊥
+      none-one w a b = omega arith
+
   pub plain-count : (c : ℕ) → PlainFilled ws n 0 slots c → c ≤ slots → c ≡ filledOf (P .slot n)
   plain-count c g l = from-zero (filledTo P n slots) c (g .count l)
     where
       from-zero : (x y : ℕ) → x ≡ 0 + y → y ≡ x
       from-zero x y e = omega arith
+
+  pub full-tight : (m c : ℕ) → PlainFilled ws n 0 slots c → c ≤ slots → c ≡ slots → NoLoose P n m
+  full-tight m c g l e j lt z =
+      absurd (clash (count-full (λ o. not (eqb (P .slot n o) 0)) slots (sym (plain-count c g l) ∙ e) j lt)
+      (ap not (eq-eqb (P .slot n j) 0 z)))
 
   pub plain-slots : (v c k : ℕ) (r : Bool) → PlainFilled ws n 0 slots c → c ≤ slots → c ≡ k → Decides r (SlotsOk P n v) →
       Decides r (SlotsFilled P n v k)
