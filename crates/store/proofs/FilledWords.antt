@@ -9,8 +9,6 @@ use native.Mathlib.Omega.{arith}
 use native.Mathlib.Numerals.{add-one}
 use lib.Dec.{T, eqb}
 use lib.ListN.{getD}
-use borrow.Author.Tests.{eqb-true}
-use Rattle.blocks.specs.Choice.{both, either}
 use Rattle.blocks.specs.Lists.{any, All, nonempty}
 use Rattle.blocks.specs.Blocks.{block, countTo}
 use Rattle.blocks.proofs.BoolLaws.{byT, clash, is-false}
@@ -22,8 +20,8 @@ use Rattle.model.proofs.RangeLaws.{Apart}
 use Rattle.tree.specs.Tree.{has, height, Node, needed, tierOrder, slots, slotBits}
 use Rattle.tree.specs.Slots.{slot, Numbering}
 use Rattle.tree.proofs.NeededLaws.{path-up}
-use Rattle.tree.proofs.NodeListLaws.{has-le, has-within}
-use Rattle.layout.specs.Words.{filledField, filledPlace, place, fieldAt, filledOf, slotWord}
+use Rattle.tree.proofs.NodeListLaws.{has-within}
+use Rattle.layout.specs.Words.{filledField, filledPlace, fieldAt, filledOf, slotWord}
 use Rattle.layout.specs.Places.{Places, numberIn, freeCount, newPlaces, Placed, render}
 use Rattle.layout.specs.WellFormed.{WellFormed, num}
 use Rattle.layout.proofs.FieldLaws.{field-filled}

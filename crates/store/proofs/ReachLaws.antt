@@ -13,7 +13,6 @@ use Rattle.blocks.proofs.BlockLaws.{block-up}
 use Rattle.blocks.proofs.ListLaws.{each, in-any, first-yes}
 use Rattle.model.specs.declared.Entry.{Entry}
 use Rattle.model.specs.Model.{over, covers, covering, within, Valid}
-use Rattle.model.specs.ByBlock.{storeNew}
 use Rattle.tree.specs.Tree.{height, has, tierOrder, slotBits}
 use Rattle.tree.specs.Slots.{Numbering}
 use Rattle.tree.proofs.HeightLaws.{Low}

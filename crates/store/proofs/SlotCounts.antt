@@ -7,8 +7,8 @@ use mathlib.Core.List.{List}
 use native.Mathlib.Omega.{arith}
 use native.Mathlib.Nat.{le-refl}
 use lib.Dec.{ltb, eqb}
-use borrow.Author.Tests.{eqb-true, eqb-false, ltb-true, ltb-false, lt-ltb, eq-eqb, ne-eqb}
-use Rattle.blocks.specs.Choice.{pick, both}
+use borrow.Author.Tests.{eqb-true, eqb-false, ltb-true, ltb-false, eq-eqb, ne-eqb}
+use Rattle.blocks.specs.Choice.{pick}
 use Rattle.blocks.specs.Lists.{any, In, All, nonempty}
 use Rattle.blocks.specs.Blocks.{block, countTo}
 use Rattle.blocks.proofs.BoolLaws.{clash, byT}
@@ -33,7 +33,7 @@ use Rattle.layout.proofs.RenderWordLaws.{slot-node}
 use Rattle.plan.proofs.AfterStore.{Lies, lies, on-path, in-run, off, rooms, lows, whole-top, apart-zero}
 use Rattle.plan.proofs.Reading.{head-zero}
 use Rattle.write.specs.Writes.{span, offset}
-use Rattle.write.proofs.RunLaws.{run-fits, span-some, slot-in-run, run-slot, entry-word, sibling-word}
+use Rattle.write.proofs.RunLaws.{run-fits, slot-in-run, run-slot, entry-word, sibling-word}
 
 -- exactly those of a run, or exactly one
 only-run : (g : ℕ → Bool) (a c n : ℕ) → a + c ≤ n → ((j : ℕ) → j < n → (a ≤ j → j < a + c → ⊥) → g j ≡ false) →

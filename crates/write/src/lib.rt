@@ -1,9 +1,11 @@
-// What a store writes, once all that decides it is read: the edges between nodes, the marks, the entry with its siblings,
-// and the nodes that it frees. Each function leaves what a definition of specs/Writes says, whatever the words are.
+// What a store writes, once all that decides it is read: the filled counts, the edges between nodes, the marks, the entry
+// with its siblings, and the nodes that it frees. Each function leaves what a definition of specs/Writes says, whatever
+// the words are.
 //
 // pool: the borrowed words; n: how many nodes it has, or the number of one; low: below it every node is in use; u: a
 // tier; v: the tier of the slots that hold the entry; h, top: the tier of the head before and after; path, chain: the
-// numbers of the nodes over the index and over index 0, by tier; a: a node; o, c: the first of its slots, and how many.
+// numbers of the nodes over the index and over index 0, by tier; a: a node; o, c: the first of its slots, and how many; f:
+// a filled count.
 use layout::HEAD_WORD;
 use layout::SLOT_BITS;
 use layout::SLOTS;
@@ -294,7 +296,7 @@ fn enter(pool: &mut [u64], seat: Seat, word: u64)
     put_slot(pool, a, o, word);
 }
 
-// An entry in slots that are empty: they count as filled then.
+// An entry in slots that are empty, which then count as filled.
 pub fn settle(pool: &mut [u64], seat: Seat, word: u64)
     requires { do ⌜ lastPlace (seat .node) < (← ⟦pool.len()⟧) ⌝ }
     requires { ⌜ (seat .slot + seat .count ≤ slots) × (1 ≤ seat .count) ⌝ }
@@ -353,7 +355,7 @@ pub fn seat_of(target: Target, node: u64) -> Seat
     }
 }
 
-// The counts of the nodes of the tiers from from on, below to, each with one filled slot.
+// The counts of nodes with one filled slot each, of the tiers from from to to - 1.
 fn count_ones(pool: &mut [u64], nums: &[u64], from: u64, to: u64)
     requires { ⌜ to ≤ topTier ⌝ }
     requires { do ⌜ to < (← ⟦nums.len()⟧) ⌝ }
@@ -423,7 +425,7 @@ fn filled_in(pool: &[u64], n: u64, o: u64, c: u64) -> u64
     r
 }
 
-// The count of the entry's node once all its slots are filled.
+// The count of the entry's node once all its slots are filled: those that were filled before count already.
 fn filled_then(pool: &[u64], seat: Seat) -> u64
     requires { do ⌜ lastPlace (seat .node) < (← ⟦pool.len()⟧) ⌝ }
     requires { ⌜ seat .slot + seat .count ≤ slots ⌝ }
@@ -500,7 +502,7 @@ pub fn lay(nums: &[u64], path: &mut [u64], first: u64, v: u64, u: u64)
     path[(u + 1) as usize] = first;
 }
 
-// The counts and edges below the node of tier u + 1, of whose slots one is taken, and the entry in the lowest node.
+// The counts from the node of tier u + 1 down, the edges below it, and the entry in the lowest node.
 pub fn build(pool: &mut [u64], path: &[u64], target: Target, u: u64)
     requires { ⌜ Storable target × (target .order / slotBits < u) × (u < topTier) × (topTier < length (now path)) ⌝ }
     requires { ⌜ ((t : ℕ) → target .order / slotBits + 1 ≤ t → t ≤ u + 1 →

@@ -1,4 +1,4 @@
--- `count_ones`: the counts of the nodes of the tiers from from on, below to, each with one filled slot.
+-- `count_ones`: the counts of nodes with one filled slot each, of the tiers from from to to - 1.
 use Prim.Native.Nat.{ℕ, suc, _+_, _-_, _<_, _≤_}
 use mathlib.Core.Path.{_≡_, refl, sym, _∙_}
 use native.Mathlib.Omega.{arith}

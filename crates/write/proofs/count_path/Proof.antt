@@ -1,6 +1,6 @@
 -- `count_path`: the node of tier top, and, where that is not the entry's, those below it.
 use Prim.Native.Nat.{ℕ, _+_, _-_, _/_, _≤_, _<_}
-use mathlib.Core.Path.{_≡_, ap, _∙_}
+use mathlib.Core.Path.{_≡_, _∙_}
 use mathlib.Core.List.{List}
 use native.Mathlib.Omega.{arith}
 use lib.ListN.{length, getD, set}
@@ -27,6 +27,34 @@ module _ (ws ps : List ℕ) (k top f : ℕ) {c : ℕ} (c-is : c ≡ span k) wher
       let two : k / slotBits + 1 + 1 ≡ k / slotBits + 2 = omega arith in
       e₃ ∙ rw (ne-eqb _ _ t, two, e₂, e₁, c-is)
 
+-- THE PLACES IN THE CODE, each from one after it
+abbrev start : tie.After-span-of → tie.Start
+start c = c .before .before .before
+
+abbrev put-one : tie.After-slice-known2 → tie.After-put-filled
+put-one c = c .before .before
+
+abbrev alone : tie.After-put-filled-arg → tie.Then1
+alone c = c .before
+
+abbrev spanned : tie.Then1 → tie.After-span-of
+spanned c = c .before .before
+
+abbrev counted : tie.After-slice-known5 → tie.After-count-ones
+counted c = c .before .before
+
+abbrev put-low : tie.After-count-ones-arg → tie.After-put-filled3
+put-low c = c .before .before .before
+
+abbrev put-top : tie.After-put-filled-arg3 → tie.After-put-filled2
+put-top c = c .before .before .before .before
+
+abbrev further : tie.After-put-filled-arg2 → tie.Else1
+further c = c .before
+
+abbrev spanned-2 : tie.Else1 → tie.After-span-of
+spanned-2 c = c .before .before
+
 -- the node of a tier of the path is one of the pool's
 node-fits : (z : tie.Start) (u : ℕ) → z .args .order / slotBits + 1 ≤ u → u ≤ z .args .top →
     lastPlace (getD (z .args .path .now) u 0) < length (z .args .pool .now)
@@ -48,20 +76,22 @@ add-put-filled : tie.Need-add-put-filled
 add-put-filled c = search needs
 
 put-filled-requires : tie.Need-put-filled-requires
-put-filled-requires c κs = let z = c .before .before .before .before .before .before in omega (arith, node-fits z (z .args .top) (omega arith) (omega arith))
+put-filled-requires c κs = let z = start (spanned (alone c)) in omega (arith, node-fits z (z .args .top) (omega arith) (omega arith))
 
 same-length : tie.Need-same-length
 same-length c = search needs
 
 returns : tie.Need-returns
-returns c = let a = c .before .before .before .before .before .before .before .before .before .args in one-node (a .pool .now) (a .path .now) (a .order) (a .top) (a .f)
-    (c .before .before .before .before .before .before .span-of .ensures .0) (c .before .before .before .before .if1 .taken) (c .before .before .put-filled .ensures)
+returns c = let y = put-one c in let t = alone (y .before) in let x = spanned t in let a = start x .args in
+    one-node (a .pool .now) (a .path .now) (a .order) (a .top) (a .f) (x .span-of .ensures .0) (t .if1 .taken)
+    (y .put-filled .ensures)
 
 add-put-filled-2 : tie.Need-add-put-filled-2
 add-put-filled-2 c = search needs
 
 put-filled-requires-2 : tie.Need-put-filled-requires-2
-put-filled-requires-2 c κs = let z = c .before .before .before .before .before .before in omega (arith, node-fits z (z .args .top) (omega arith) (omega arith))
+put-filled-requires-2 c κs = let z = start (spanned-2 (further c)) in
+    omega (arith, node-fits z (z .args .top) (omega arith) (omega arith))
 
 mul-b : tie.Need-mul-b
 mul-b c = search needs
@@ -70,23 +100,25 @@ shared-slice-read-b : tie.Need-shared-slice-read-b
 shared-slice-read-b c = search needs
 
 put-filled-requires-3 : tie.Need-put-filled-requires-3
-put-filled-requires-3 c κs = let z = c .before .before .before .before .before .before .before .before .before .before .before in
-    omega (arith, c .before .before .before .before .put-filled2 .kept .0, node-fits z (z .args .order / slotBits + 1) (omega arith) (omega arith))
+put-filled-requires-3 c κs = let p = put-top c in let z = start (spanned-2 (further (p .before))) in
+    omega (arith, p .put-filled2 .kept .0, node-fits z (z .args .order / slotBits + 1) (omega arith) (omega arith))
 
 add-count-ones : tie.Need-add-count-ones
 add-count-ones c = search needs
 
 count-ones-requires : tie.Need-count-ones-requires
-count-ones-requires c κs = let z = c .before .before .before .before .before .before .before .before .before .before .before .before .before .before .before in let p = c .before .before .before .before .before .before .before .before .put-filled2 .kept .0 in let q = c .before .before .before .put-filled3 .kept .0 in
-    (omega arith, (omega arith, λ u a b. omega (arith, p, q, node-fits z u (omega arith) (omega arith))))
+count-ones-requires c κs = let q = put-low c in let p = put-top (q .before) in
+    let z = start (spanned-2 (further (p .before))) in let e = p .put-filled2 .kept .0 in let d = q .put-filled3 .kept .0 in
+    (omega arith, (omega arith, λ u a b. omega (arith, e, d, node-fits z u (omega arith) (omega arith))))
 
 same-length-2 : tie.Need-same-length-2
 same-length-2 c = search needs
 
 returns-2 : tie.Need-returns-2
-returns-2 c = let a = c .before .before .before .before .before .before .before .before .before .before .before .before .before .before .before .before .before .before .args in more-nodes (a .pool .now) (a .path .now) (a .order) (a .top) (a .f)
-    (c .before .before .before .before .before .before .before .before .before .before .before .before .before .before .before .span-of .ensures .0) (c .before .before .before .before .before .before .before .before .before .before .before .before .before .if1 .left) (c .before .before .before .before .before .before .before .before .before .before .before .put-filled2 .ensures) (c .before .before .before .before .before .before .put-filled3 .ensures)
-    (c .before .before .count-ones .ensures)
+returns-2 c = let n = counted c in let q = put-low (n .before) in let p = put-top (q .before) in
+    let t = further (p .before) in let x = spanned-2 t in let a = start x .args in
+    more-nodes (a .pool .now) (a .path .now) (a .order) (a .top) (a .f) (x .span-of .ensures .0) (t .if1 .left)
+    (p .put-filled2 .ensures) (q .put-filled3 .ensures) (n .count-ones .ensures)
 
 pub count-path-spec : {M : Type 1} → statement M
 count-path-spec =
