@@ -281,7 +281,7 @@ fn stored_reply(pool: &mut [u64], index: u64, x: Stored) -> Reply
     match x {
         Stored::Done(e) => unmatch(pool, index, e),
         Stored::Short => answered(STORED, TOO_FEW_NODES, 0, 0),
-        Stored::Taken => answered(STORED, TOO_FEW_NODES, 0, 0),
+        Stored::Taken => answered(STORED, TAKEN, 0, 0),
     }
 }
 
@@ -299,7 +299,14 @@ fn put_reply(pool: &mut [u64], index: u64, x: Stored, reserve: bool) -> Reply
 
 // A store; or a reservation, which is a store of order 0 with its word where nothing covers the index. Both have the one
 // call of crate store, so that it is inlined.
-fn run_store(pool: &mut [u64], index: u64, order: u64, word: u64, reserve: bool, low: u64) -> Execution
+fn run_store(
+    pool: &mut [u64],
+    index: u64,
+    order: u64,
+    word: u64,
+    reserve: bool,
+    low: u64,
+) -> Execution
     requires { ⌜ WellFormed (now pool) ⌝ }
     requires { ⌜ InUse low (now pool) ⌝ }
     requires { ⌜ (reserve ≡ true → (order ≡ 0) × (word ≡ reservedWord)) ⌝ }
@@ -381,12 +388,12 @@ fn as_put(c: Command) -> Put
     }
 }
 
-// The answer of a command that does not come.
+// For the commands that `run_other` is not called with.
 fn nothing(low: u64) -> Execution
     ensures { λ r. ⌜ r .low ≡ low ⌝ }
 {
     Execution {
-        reply: answered(STORED, NOT_STORABLE, 0, 0),
+        reply: answered(0, 0, 0, 0),
         low: low,
     }
 }

@@ -4,19 +4,29 @@ use borrow.Author.Needs.{needs}
 use Rattle.execute.proofs.execute.Statement.{statement}
 use Rattle.execute.proofs.execute.Tie as tie
 
+-- THE PLACES IN THE CODE, each from one after it
+abbrev asked : tie.After-run-store-arg → tie.After-as-put
+asked c = c .before .before
+
+abbrev start : tie.After-as-put → tie.Start
+start c = c .before .before
+
+abbrev stored : tie.After-slice-known2 → tie.After-run-store
+stored c = c .before .before
+
 as-put-requires : tie.Need-as-put-requires
 as-put-requires c κs = search needs
 
 run-store-requires : tie.Need-run-store-requires
-run-store-requires c κs = (c .before .before .before .before .pre .0, (c .before .before .before .before .pre .1, put-bare (c .before .before .before .before .args .c) (c .before .before .as-put .ensures)))
+run-store-requires c κs = let x = asked c in let z = start x in (z .pre .0, (z .pre .1, put-bare (z .args .c) (x .as-put .ensures)))
 
 same-length : tie.Need-same-length
 same-length c = search needs
 
 returns : tie.Need-returns
-returns c = (
-  (λ s. by-command s (put-is (c .before .before .before .before .before .before .before .args .c) (c .before .before .before .before .before .as-put .ensures) (c .before .before .before .before .if1 .taken)) (c .before .before .run-store .ensures .0 s)),
-  c .before .before .run-store .ensures .1,
+returns c = let y = stored c in let x = asked (y .before) in (
+  (λ s. by-command s (put-is (start x .args .c) (x .as-put .ensures) (y .before .before .if1 .taken)) (y .run-store .ensures .0 s)),
+  y .run-store .ensures .1,
 )
 
 run-other-requires : tie.Need-run-other-requires
