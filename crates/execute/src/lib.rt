@@ -273,7 +273,7 @@ fn unmatch(pool: &mut [u64], index: u64, e: Entry) -> Reply
     answered_by(STORED, e, 0)
 }
 
-// The reply to a store by what it came to; it does not come to a refusal of a reservation.
+// The reply to a store by what it came to; only a reservation comes to the last.
 fn stored_reply(pool: &mut [u64], index: u64, x: Stored) -> Reply
     requires { ⌜ WellFormed (now pool) ⌝ }
     ensures { λ r. ⌜ ((s : WellFormed (now (pool .entry))) → Settles s index x r (now (pool .exit))) ⌝ }
@@ -281,7 +281,7 @@ fn stored_reply(pool: &mut [u64], index: u64, x: Stored) -> Reply
     match x {
         Stored::Done(e) => unmatch(pool, index, e),
         Stored::Short => answered(STORED, TOO_FEW_NODES, 0, 0),
-        Stored::Taken => answered(STORED, TAKEN, 0, 0),
+        Stored::Taken => answered(STORED, TOO_FEW_NODES, 0, 0),
     }
 }
 
@@ -388,12 +388,12 @@ fn as_put(c: Command) -> Put
     }
 }
 
-// For the commands that `run_other` is not called with.
+// For the commands that run_other is not called with.
 fn nothing(low: u64) -> Execution
     ensures { λ r. ⌜ r .low ≡ low ⌝ }
 {
     Execution {
-        reply: answered(0, 0, 0, 0),
+        reply: answered(STORED, ORDER_ABOVE, 0, 0),
         low: low,
     }
 }
