@@ -50,7 +50,7 @@ extern "C" {
 /* ---- Limits ---- */
 
 #define XAPOOL_ANCHOR_WORDS 4  /* word 0: N; 1: the head; 2: the marks; 3: zero */
-#define XAPOOL_NODE_WORDS 69   /* shift + 1; owner; three mark words; 64 slots */
+#define XAPOOL_NODE_WORDS 70   /* the words of a node, below */
 #define XAPOOL_MIN_NODES 1
 #define XAPOOL_MAX_NODES 1000
 #define XAPOOL_BATCH_BYTES 8192 /* a batch has at most so many bytes */
@@ -61,9 +61,18 @@ extern "C" {
 #define XAPOOL_MAX_ORDER 63
 #define XAPOOL_MARKS 3
 
-/* The words of a pool of n nodes, n from 1 to 1,000. One node is enough for entries at indices 0
+/* The words of a pool of n nodes, n from 1 to XAPOOL_MAX_NODES. One node is enough for entries at indices 0
  * to 63; a store needs at most 21 new nodes (proved: needed-most, crates/tree/proofs/MostLaws.antt). */
 #define XAPOOL_WORDS(n) (XAPOOL_ANCHOR_WORDS + XAPOOL_NODE_WORDS * (n))
+
+/* The words of a node, for who inspects a raw pool. Node n, 0 to N - 1, begins at word
+ * XAPOOL_WORDS(n); a node that is free is all 0. */
+#define XAPOOL_SHIFT_FIELD 0 /* shift + 1 */
+#define XAPOOL_OWNER_FIELD 1 /* 0 in the head, else 1 + 64 * parent + slot */
+#define XAPOOL_COUNT_FIELD 2 /* how many of its slots are not 0 */
+#define XAPOOL_MARK_FIELD 3  /* a word for each mark, bit j for slot j */
+#define XAPOOL_SLOT_FIELD 6  /* its slots */
+#define XAPOOL_SLOTS 64
 
 /* The bytes of the replies to c commands. */
 #define XAPOOL_REPLIES(c) (XAPOOL_REPLY_BYTES * (c))
@@ -87,7 +96,7 @@ extern "C" {
  * 15 before 11, and a list is refused with 8 before it is with 4. */
 enum xapool_answer {
     XAPOOL_DONE = 0,             /* call: done, number: commands run, or entries listed. reply: done */
-    XAPOOL_POOL_LENGTH = 1,      /* pool_words is not 4 + 69 N with N from 1 to 1,000; number 0 */
+    XAPOOL_POOL_LENGTH = 1,      /* pool_words is not XAPOOL_WORDS(N) with N from 1 to XAPOOL_MAX_NODES; number 0 */
     XAPOOL_NOT_WELL_FORMED = 2,  /* the words are not those of a pool (never initialised, or damaged); number 0 */
     XAPOOL_BAD_BATCH = 3,        /* a record is cut off, or its tag or length is none; number: the place of
                                     its first byte. Over 8,192 bytes: number 8,192 */
@@ -476,12 +485,18 @@ static inline int xapool_next_first(const xapool_reply *reply, uint64_t last, ui
     return 1;
 }
 
+/* A macro's number as text. */
+#define XAPOOL_QUOTED_(number) #number
+#define XAPOOL_QUOTED(number) XAPOOL_QUOTED_(number)
+
 /* An answer as text. */
 static inline const char *xapool_answer_text(uint64_t answer)
 {
     switch (answer) {
     case XAPOOL_DONE: return "done";
-    case XAPOOL_POOL_LENGTH: return "pool length is not 4 + 69 N words, N from 1 to 1,000";
+    case XAPOOL_POOL_LENGTH:
+        return "pool length is not " XAPOOL_QUOTED(XAPOOL_ANCHOR_WORDS) " + " XAPOOL_QUOTED(XAPOOL_NODE_WORDS)
+               " N words, N from 1 to " XAPOOL_QUOTED(XAPOOL_MAX_NODES);
     case XAPOOL_NOT_WELL_FORMED: return "pool is not well-formed";
     case XAPOOL_BAD_BATCH: return "batch too long, or a record is cut, of unknown tag or wrong length";
     case XAPOOL_REPLY_SPACE: return "space under 24 bytes a command, or 21 an entry of a list";

@@ -13,6 +13,8 @@ usage: bench against BEFORE AFTER [--only find|store|check|list] [--rounds N] [-
               builds have them); all if not named
   --rounds    of all loads by each build, in turns; of each batch the shortest time counts; 20 if not named
   --indices   of the dense loads; 60,000 if not named
+A build from before P7, whose nodes have a word less, is compared by its replies alone, and only
+with --only find or --only store.
 Exit status: 0 fine, 1 the builds differ in a word or a reply, or a call was refused, 2 bad usage.";
 
 struct Options {

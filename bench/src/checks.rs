@@ -6,8 +6,10 @@ use crate::loads::*;
 use crate::measure::{empty_pool, nanoseconds};
 use std::hint::black_box;
 use std::time::Instant;
-use xapool_host::layout::{node_word, ANCHOR_WORDS, NODE_WORDS};
-use xapool_host::{Command, REPLY_BYTES};
+use xapool_host::layout::{
+    count_place, filled_slots, mark_place, node_place, node_word, owner_place,
+};
+use xapool_host::{node_count, Command, REPLY_BYTES};
 
 const NODES: [usize; 2] = [40, 1000];
 /// Room for more entries side by side than any pool has.
@@ -38,13 +40,17 @@ pub struct Trial {
     pub nodes: usize,
     good: Checked,
     /// With one wrong word, by the names in `WRONG`; none where no node is in use.
-    bad: [Option<Checked>; 3],
+    bad: [Option<Checked>; WRONG.len()],
     /// The shortest time of an OR over the same words.
     pub or: f64,
 }
 
-pub const WRONG: [&str; 3] =
-    ["last word", "owner of the last node in use", "third mark word of the last node in use"];
+pub const WRONG: [&str; 4] = [
+    "last word",
+    "owner of the last node in use",
+    "third mark word of the last node in use",
+    "filled count of the last node in use",
+];
 
 /// All kinds at both sizes.
 pub fn trials(libraries: &[&dyn Library]) -> Result<Vec<Trial>, String> {
@@ -66,11 +72,17 @@ impl Trial {
             checked(words, 2)
         };
         let used = last_node(&words);
-        // The word of a node that there is not; another parent; marks unlike those of the slot above.
-        let last_word = with(words.len() - 1, node_word(nodes));
-        let owner = used.map(|node| with(node + 1, words[node + 1] ^ 64));
-        let marks = used.map(|node| with(node + 4, u64::from(words[node + 4] == 0)));
-        let bad = [Some(last_word), owner, marks];
+        let change = |place: fn(usize) -> usize, change: fn(u64) -> u64| {
+            used.map(|node| with(place(node), change(words[place(node)])))
+        };
+        // The word of a node that there is not, and the count that goes with it; another parent; marks
+        // unlike those of the slot above; one slot more.
+        let mut last_word = with(words.len() - 1, node_word(nodes));
+        last_word.words[count_place(nodes - 1)] = filled_slots(&last_word.words, nodes - 1);
+        let owner = change(owner_place, |owner| owner ^ 64);
+        let marks = change(|node| mark_place(node, 2), |marks| u64::from(marks == 0));
+        let count = change(count_place, |count| count + 1);
+        let bad = [Some(last_word), owner, marks, count];
         Ok(Trial { name: kind.name, nodes, good: checked(words, 0), bad, or: f64::MAX })
     }
 
@@ -96,7 +108,7 @@ impl Trial {
         &self.good.best
     }
 
-    pub fn bad(&self) -> [Option<&[f64]>; 3] {
+    pub fn bad(&self) -> [Option<&[f64]>; WRONG.len()] {
         self.bad.each_ref().map(|bad| bad.as_ref().map(|checked| &checked.best[..]))
     }
 }
@@ -148,9 +160,9 @@ fn pool(library: &dyn Library, kind: &Kind, nodes: usize) -> Result<Vec<u64>, St
     Ok(pool)
 }
 
-/// The place of the first word of the last node in use.
+/// The last node in use.
 fn last_node(words: &[u64]) -> Option<usize> {
-    (ANCHOR_WORDS..words.len()).step_by(NODE_WORDS).rev().find(|place| words[*place] != 0)
+    (0..node_count(words.len())?).rev().find(|node| words[node_place(*node)] != 0)
 }
 
 impl Checked {

@@ -54,7 +54,7 @@ impl Time {
 /// A load by one or more libraries, and the shortest time of each batch so far.
 pub struct Trial<'a> {
     pub load: &'a Load,
-    /// One pool for all, so that none has the better place in memory.
+    /// One pool for all, so that none has the better place in memory; each takes as much as it needs.
     pool: Vec<u64>,
     ready: Vec<Ready>,
     best: Vec<Vec<Time>>,
@@ -73,14 +73,15 @@ impl<'a> Trial<'a> {
             ready.collect::<Result<_, _>>().map_err(|error| format!("{}: {error}", load.name))?;
         let batches: usize = ready.iter().map(|ready| ready.batches.len()).sum();
         let best = vec![vec![Time::LONGEST; batches]; libraries.len()];
-        Ok(Trial { load, pool: empty_pool(libraries[0], nodes)?, ready, best })
+        let words = ready.iter().flat_map(|ready| &ready.sizes).max();
+        Ok(Trial { load, pool: vec![0; words.copied().unwrap_or(0)], ready, best })
     }
 
     /// The load once by each library, in turns that begin with another in each round.
     pub fn round(&mut self, libraries: &[&dyn Library], round: u32) -> Result<(), String> {
         for turn in 0..libraries.len() {
             let at = (round as usize + turn) % libraries.len();
-            let times = times(libraries[at], &self.ready, &mut self.pool)
+            let times = times(libraries[at], at, &self.ready, &mut self.pool)
                 .map_err(|error| format!("{}: {error}", self.load.name))?;
             self.best[at].iter_mut().zip(times).for_each(|(best, time)| *best = best.least(time));
         }
@@ -103,13 +104,14 @@ fn total(commands: u64, times: &[Time]) -> Cost {
     }
 }
 
-/// Work made ready to be timed: the words after its setup (none: an empty pool), its batches, the
-/// replies to each, and a digest of the words at the end.
+/// Work made ready to be timed: its batches and the replies to each; and of each library the size of
+/// its pool, the words after its setup (none: an empty pool), and a digest of the words at the end.
 struct Ready {
-    words: Option<Vec<u64>>,
     batches: Vec<BatchBuilder>,
     replies: Vec<Vec<u8>>,
-    end: u64,
+    sizes: Vec<usize>,
+    words: Option<Vec<Vec<u64>>>,
+    ends: Vec<u64>,
 }
 
 fn ready(
@@ -125,7 +127,7 @@ fn ready(
     for batch in batches(&work.setup) {
         all_gave(&run_by_each(libraries, &mut pools, &batch)?, 0)?;
     }
-    let words = (!work.setup.is_empty()).then(|| pools[0].clone());
+    let words = (!work.setup.is_empty()).then(|| pools.clone());
     let batches = batches(&work.timed);
     let mut replies = Vec::new();
     for batch in &batches {
@@ -133,15 +135,23 @@ fn ready(
         all_gave(&reply, load.answer)?;
         replies.push(reply);
     }
-    Ok(Ready { words, batches, replies, end: digest(&pools[0]) })
+    let sizes = pools.iter().map(Vec::len).collect();
+    let ends = pools.iter().map(|pool| digest(pool)).collect();
+    Ok(Ready { batches, replies, sizes, words, ends })
 }
 
 pub fn empty_pool(library: &dyn Library, nodes: usize) -> Result<Vec<u64>, String> {
     let words = pool_words(nodes).ok_or("no pool has so many nodes")?;
     let mut pool = vec![0; words];
+    if library.init(&mut pool).answer == POOL_LENGTH {
+        pool.truncate(words - nodes);
+    }
     done(library.init(&mut pool))?;
     Ok(pool)
 }
+
+/// The answer of a build from before P7, whose nodes are a word shorter.
+const POOL_LENGTH: u64 = 1;
 
 fn done(result: RawResult) -> Result<(), String> {
     match result {
@@ -150,7 +160,8 @@ fn done(result: RawResult) -> Result<(), String> {
     }
 }
 
-/// The batch by each library on a pool of its own: replies and words must be the same.
+/// The batch by each library on a pool of its own: replies must be the same, and words where nodes have
+/// the same size.
 fn run_by_each(
     libraries: &[&dyn Library],
     pools: &mut [Vec<u64>],
@@ -165,7 +176,7 @@ fn run_by_each(
             return Err("the builds reply differently to a batch".into());
         }
     }
-    if pools.iter().any(|pool| *pool != pools[0]) {
+    if pools.iter().any(|pool| pool.len() == pools[0].len() && *pool != pools[0]) {
         return Err("the builds leave different words after a batch".into());
     }
     Ok(first.unwrap_or_default())
@@ -183,12 +194,19 @@ fn digest(words: &[u64]) -> u64 {
     words.iter().fold(0, |sum: u64, word| (sum ^ word).wrapping_mul(0x9E37_79B9_7F4A_7C15))
 }
 
-/// One round by one library: the time of each batch of all pools, one after the other.
-fn times(library: &dyn Library, all: &[Ready], pool: &mut [u64]) -> Result<Vec<Time>, String> {
+/// One round by one library, the one `at` that place: the time of each batch of all pools, one after the
+/// other.
+fn times(
+    library: &dyn Library,
+    at: usize,
+    all: &[Ready],
+    pool: &mut [u64],
+) -> Result<Vec<Time>, String> {
     let mut times = Vec::new();
     for ready in all {
+        let pool = &mut pool[..ready.sizes[at]];
         match &ready.words {
-            Some(words) => pool.copy_from_slice(words),
+            Some(words) => pool.copy_from_slice(&words[at]),
             None => done(library.init(pool))?,
         }
         for (batch, expected) in ready.batches.iter().zip(&ready.replies) {
@@ -198,7 +216,7 @@ fn times(library: &dyn Library, all: &[Ready], pool: &mut [u64]) -> Result<Vec<T
                 return Err("a build replies differently from round to round".into());
             }
         }
-        if digest(pool) != ready.end {
+        if digest(pool) != ready.ends[at] {
             return Err("a build leaves different words from round to round".into());
         }
     }

@@ -1,11 +1,12 @@
 //! Cases 13 to 15 (R118 to R120), the empty batch, and batches of 8,192 and 8,193 bytes, with the
 //! rules' own figures; unaligned stores (P4), stores over mark 2 (P5), the listings of
-//! listing_cases.rs and the reservations of reserve_cases.rs; and cases 2 to 13 command by command
-//! against reference, all words and replies (their figures are computed by the proved table and
-//! tested in host/). A case that fails says which commands it ran and the first word or byte that
-//! differs.
+//! listing_cases.rs, the reservations of reserve_cases.rs and the filled counts of count_cases.rs; and
+//! cases 2 to 13 command by command against reference, all words and replies (their figures are
+//! computed by the proved table and tested in host/). A case that fails says which commands it ran
+//! and the first word or byte that differs.
 
 use crate::batches::{hex, show};
+use crate::count_cases::count_cases;
 use crate::lend::{Call, Given, Lender};
 use crate::list::CallList;
 use crate::listing_cases::listing_cases;
@@ -57,15 +58,18 @@ pub fn answers(words: usize, call: Call, answer: u64, number: u64) -> Option<Str
     })
 }
 
+/// The words of a pool of 3 nodes.
+const THREE_NODES: usize = 214;
+
 /// By figures: what a batch is to answer on a pool of 3 nodes.
 fn runs(batch: Vec<u8>, reply: usize, answer: u64, number: u64) -> Option<String> {
-    answers(211, Call::Run { batch, reply }, answer, number)
+    answers(THREE_NODES, Call::Run { batch, reply }, answer, number)
 }
 
 /// By figures: the last reply to these commands on a pool of 3 nodes.
 pub fn replies(commands: &[Command], wanted: &[u8]) -> Option<String> {
     let (batch, reply) = (records(commands), 24 * commands.len());
-    let given = after_init(211, &Call::Run { batch: batch.clone(), reply });
+    let given = after_init(THREE_NODES, &Call::Run { batch: batch.clone(), reply });
     differs(&batch, &given.bytes[reply - 24..], wanted)
 }
 
@@ -151,18 +155,18 @@ fn case_15() -> Vec<Case> {
     let long = [full(), vec![2]].concat();
     assert_eq!(full().len(), 8192);
     vec![
-        ("case 15: 73 words", init(73, 0)),
-        ("case 15: 69,004 words", init(69_004, 0)),
-        ("case 15: 72 words", init(72, 1)),
-        ("case 15: 69,073 words", init(69_073, 1)),
-        ("case 15: check of 72 words", answers(72, Call::Check, 1, 0)),
+        ("case 15: 74 words", init(74, 0)),
+        ("case 15: 70,004 words", init(70_004, 0)),
+        ("case 15: 73 words", init(73, 1)),
+        ("case 15: 70,074 words", init(70_074, 1)),
+        ("case 15: check of 73 words", answers(73, Call::Check, 1, 0)),
         ("case 15: 8,192 bytes", runs(full(), 17_856, 0, 744)),
         ("case 15: 8,193 bytes", runs(long, 17_856, 3, 8192)),
     ]
 }
 
 fn empty_batch() -> Vec<Case> {
-    let reply = |batch| after_init(211, &Call::Run { batch, reply: 48 }).bytes;
+    let reply = |batch| after_init(THREE_NODES, &Call::Run { batch, reply: 48 }).bytes;
     // A refused batch leaves the reply space as it was.
     let untouched = reply(vec![9]);
     vec![
@@ -246,6 +250,7 @@ pub fn run_all(with_program: bool) -> (usize, Vec<(&'static str, String)>) {
         empty_batch(),
         listing_cases(),
         reserve_cases(),
+        count_cases(),
     ]
     .concat();
     let all = [starred(), figures, programs(with_program)].concat();

@@ -2,14 +2,14 @@
 
 use crate::lend::Call;
 use crate::list::CallList;
-use crate::pools::well_formed;
+use crate::pools::{recount, well_formed};
 use reference::awkward::Commands as Source;
 use reference::batch::Command;
 use reference::command::execute;
 use reference::model::RESERVED;
 use reference::pool::{node_word, sibling_word, State};
 use reference::random::Random;
-use xapool_host::layout::{slot_place, NODE_WORDS};
+use xapool_host::layout::{slot_place, ANCHOR_WORDS, NODE_WORDS, SLOT_FIELD};
 
 const LAST: u64 = u64::MAX;
 
@@ -65,7 +65,8 @@ fn changes(word: u64, place: usize, nodes: usize) -> Vec<u64> {
     all
 }
 
-/// Every change, as a check of the changed pool.
+/// Every change, as a check of the changed pool. Where it fills or empties a slot, the pool has the
+/// filled count that goes with it; for one word that fills it and for 0 also the old count.
 pub fn lists() -> impl Iterator<Item = CallList> {
     let check = |words| CallList { words, calls: vec![Call::Check] };
     pools().into_iter().flat_map(changed).map(check)
@@ -79,9 +80,20 @@ fn changed(pool: Vec<u64>) -> impl Iterator<Item = Vec<u64>> {
             changes(pool[place], place, nodes).into_iter().map(move |word| (place, word))
         })
         .collect();
-    all.into_iter().map(move |(place, word)| {
+    all.into_iter().flat_map(move |(place, word)| {
         let mut words = pool.clone();
         words[place] = word;
-        words
+        let same_count = (pool[place] == 0) == (word == 0) || !is_slot(place);
+        if same_count {
+            return vec![words];
+        }
+        let mut counted = words.clone();
+        recount(&mut counted);
+        let plain = [0, 1].contains(&word).then_some(words);
+        std::iter::once(counted).chain(plain).collect()
     })
+}
+
+fn is_slot(place: usize) -> bool {
+    place.checked_sub(ANCHOR_WORDS).is_some_and(|after| after % NODE_WORDS >= SLOT_FIELD)
 }

@@ -3,10 +3,13 @@
 
 use crate::batches::hex;
 use crate::os::Guarded;
-use reference::batch::REPLY_BYTES;
+use reference::batch::{MOST_BATCH_BYTES, REPLY_BYTES};
 use reference::calls;
 use reference::listing::LISTED_BYTES;
-use xapool_host::layout::{ANCHOR_WORDS, NODE_WORDS, SLOT_FIELD};
+use reference::pool::{pool_length, MOST_NODES};
+use xapool_host::layout::{
+    ANCHOR_WORDS, COUNT_FIELD, MARK_FIELD, NODE_WORDS, OWNER_FIELD, SHIFT_FIELD, SLOTS, SLOT_FIELD,
+};
 use xapool_host::raw;
 
 #[derive(Clone, Debug, PartialEq, Eq)]
@@ -44,10 +47,10 @@ impl Call {
     }
 }
 
-const MOST_POOL_WORDS: usize = 69_100;
-const MOST_BATCH_BYTES: usize = 12_000;
+/// Room for what is too long as well.
+const MOST_LENT_BYTES: usize = MOST_BATCH_BYTES + 4000;
 /// Enough for every entry of a pool in which all slots are entries.
-const MOST_SPACE_BYTES: usize = LISTED_BYTES * 64 * 1000 + 1000;
+const MOST_SPACE_BYTES: usize = LISTED_BYTES * SLOTS * MOST_NODES + 1000;
 
 /// How many bytes before a lent buffer are watched.
 const EDGE: usize = 512;
@@ -85,8 +88,8 @@ pub struct Given {
 impl Lender {
     pub fn new() -> Lender {
         Lender {
-            pool: Guarded::new(8 * MOST_POOL_WORDS),
-            batch: Guarded::new(MOST_BATCH_BYTES),
+            pool: Guarded::new(8 * pool_length(MOST_NODES + 1)),
+            batch: Guarded::new(MOST_LENT_BYTES),
             space: Guarded::new(MOST_SPACE_BYTES),
         }
     }
@@ -96,6 +99,11 @@ impl Lender {
         let (edge, pool) = split(self.pool.words(), words.len());
         edge.fill(EDGE_WORD);
         pool.copy_from_slice(words);
+    }
+
+    /// The lent pool of so many words.
+    pub fn pool(&mut self, words: usize) -> &[u64] {
+        split(self.pool.words(), words).1
     }
 
     /// The call by the library, on the lent pool of so many words.
@@ -238,9 +246,12 @@ fn place_name(place: usize) -> String {
         (None, 2) => "marks".into(),
         (None, _) => "fourth word".into(),
         (Some(after), _) => match (after / NODE_WORDS, after % NODE_WORDS) {
-            (node, 0) => format!("node {node}, shift + 1"),
-            (node, 1) => format!("node {node}, owner"),
-            (node, field @ 2..SLOT_FIELD) => format!("node {node}, mark word {}", field - 2),
+            (node, SHIFT_FIELD) => format!("node {node}, shift + 1"),
+            (node, OWNER_FIELD) => format!("node {node}, owner"),
+            (node, COUNT_FIELD) => format!("node {node}, filled count"),
+            (node, field @ MARK_FIELD..SLOT_FIELD) => {
+                format!("node {node}, mark word {}", field - MARK_FIELD)
+            }
             (node, field) => format!("node {node}, slot {}", field - SLOT_FIELD),
         },
     }

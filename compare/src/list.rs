@@ -4,7 +4,7 @@ use crate::batches::{parts, random_batch, show};
 use crate::figures::{Figures, Of};
 use crate::lend::{by_reference, Call, Given, Lender};
 use crate::listings::random_listing;
-use crate::pools::random_words;
+use crate::pools::{random_words, recount};
 use reference::awkward::Commands as Source;
 use reference::batch::read;
 use reference::pool::{node_count, pool_length, State};
@@ -203,15 +203,18 @@ impl CallList {
         all.into_iter().map(with).collect()
     }
 
-    /// One word 0 that was not, but for small pools only.
+    /// One word 0 that was not, also with the filled counts set right after it, but for small pools
+    /// only.
     fn fewer_words(&self) -> Vec<CallList> {
         let filled = (1..self.words.len()).filter(|place| self.words[*place] != 0);
         let without = |place: usize| {
             let mut words = self.words.clone();
             words[place] = 0;
-            self.with_words(words)
+            let mut counted = words.clone();
+            recount(&mut counted);
+            [words, counted].map(|words| self.with_words(words))
         };
-        filled.take(150).map(without).collect()
+        filled.take(150).flat_map(without).filter(|list| list.words != self.words).collect()
     }
 
     pub fn show(&self) -> String {

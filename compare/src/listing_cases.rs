@@ -115,7 +115,7 @@ fn heads() -> Vec<Case> {
 fn refused_pools() -> Vec<Case> {
     let above = Call::List { first: 1, last: 0, buffer: 0 };
     vec![
-        ("listing: bad pool length", answers(72, above, 1, 0)),
+        ("listing: bad pool length", answers(73, above, 1, 0)),
         ("listing: damaged pool", damaged_listing()),
     ]
 }

@@ -5,6 +5,7 @@
 
 mod batches;
 mod cases;
+mod count_cases;
 mod exhaustive;
 mod figures;
 mod finds;

@@ -3,15 +3,18 @@
 use reference::awkward::Commands as Source;
 use reference::command::execute;
 use reference::model::{Entry, RESERVED};
-use reference::pool::{node_word, pool_length, sibling_word, State};
+use reference::pool::{node_word, pool_length, sibling_word, State, MOST_NODES};
 use reference::random::Random;
-use xapool_host::layout::{node_place, NODE_WORDS, SLOT_FIELD};
+use xapool_host::layout::{
+    count_place, filled_slots, mark_place, node_place, slot_place, ANCHOR_WORDS, NODE_WORDS, SLOTS,
+    SLOT_FIELD,
+};
 
-/// Mostly a few nodes, so that stores fall on both sides of answer 11; up to 1,000.
+/// Mostly a few nodes, so that stores fall on both sides of answer 11; up to the most there may be.
 fn random_nodes(random: &mut Random) -> usize {
     let most = match random.below(64) {
-        0 => return 1000,
-        1 => 1000,
+        0 => return MOST_NODES,
+        1 => MOST_NODES as u64,
         2..=4 => 200,
         5..=20 => 45,
         _ => 14,
@@ -41,8 +44,8 @@ fn odd_length(random: &mut Random, nodes: usize) -> usize {
     match random.below(6) {
         0 => 0,
         1 => 4,
-        2 => 72,
-        3 => 69_073,
+        2 => pool_length(1) - 1,
+        3 => pool_length(MOST_NODES + 1),
         4 => pool_length(nodes) + 1,
         _ => random.below(300) as usize,
     }
@@ -83,11 +86,60 @@ pub fn shuffle<T>(random: &mut Random, all: &mut [T]) {
     }
 }
 
-/// Changes one word, at times two; mostly ones that are not 0.
+/// The nodes that these words have room for.
+fn nodes_of(words: &[u64]) -> usize {
+    words.len() / NODE_WORDS
+}
+
+/// A wrong word or two, or a wrong filled count. Wrong words mostly have the filled counts that go
+/// with them: else it would be the count that gives most of them away.
 fn damage(random: &mut Random, words: &mut [u64]) {
-    if random.one_in(4) {
-        return misplace(random, words);
+    match random.below(16) {
+        0..=2 => return miscount(random, words),
+        3..=6 => misplace(random, words),
+        _ => change(random, words),
     }
+    if !random.one_in(4) {
+        recount(words);
+    }
+}
+
+/// Sets every filled count right.
+pub fn recount(words: &mut [u64]) {
+    for node in 0..nodes_of(words) {
+        words[count_place(node)] = filled_slots(words, node);
+    }
+}
+
+/// One filled count that is wrong: by one, by a slot filled or emptied without it, or by any number;
+/// also of a free node.
+fn miscount(random: &mut Random, words: &mut [u64]) {
+    let node = some_node(random, words);
+    let place = count_place(node);
+    let (right, slot) = (words[place], slot_place(node, random.below(SLOTS as u64) as usize));
+    match random.below(8) {
+        0 | 1 => words[place] = right.wrapping_add(1),
+        2 | 3 => words[place] = right.wrapping_sub(1),
+        4 => words[slot] = if words[slot] == 0 { 2 * random.below(100) + 1 } else { 0 },
+        5 => words[place] = random.below(SLOTS as u64 + 2),
+        6 => words[place] = words[count_place(random.below(nodes_of(words) as u64) as usize)],
+        _ => words[place] = right ^ 1 << random.below(64),
+    }
+}
+
+/// The number of a node, mostly one in use.
+fn some_node(random: &mut Random, words: &[u64]) -> usize {
+    let nodes = nodes_of(words);
+    let used: Vec<usize> = (0..nodes).filter(|node| words[node_place(*node)] > 0).collect();
+    match used.len() as u64 {
+        0 => random.below(nodes as u64) as usize,
+        _ if random.one_in(8) => random.below(nodes as u64) as usize,
+        count => used[random.below(count) as usize],
+    }
+}
+
+/// Changes one word, at times two; mostly ones that are not 0.
+fn change(random: &mut Random, words: &mut [u64]) {
     for _ in 0..=random.below(4) / 3 {
         let mut place = random.below(words.len() as u64) as usize;
         for _ in 0..200 {
@@ -101,7 +153,7 @@ fn damage(random: &mut Random, words: &mut [u64]) {
 }
 
 fn other_word(random: &mut Random, words: &[u64], place: usize) -> u64 {
-    let nodes = (words.len() / NODE_WORDS) as u64;
+    let nodes = nodes_of(words) as u64;
     match random.below(10) {
         0 => 0,
         8 => RESERVED,
@@ -123,16 +175,9 @@ fn misplace(random: &mut Random, words: &mut [u64]) {
     if !reserved.is_empty() && random.one_in(3) {
         return mark_reserved(random, words, &reserved);
     }
-    let nodes = (words.len() / NODE_WORDS) as u64;
-    let used: Vec<usize> =
-        (0..nodes as usize).filter(|node| words[node_place(*node)] > 0).collect();
-    let node = match used.len() as u64 {
-        0 => random.below(nodes) as usize,
-        _ if random.one_in(8) => random.below(nodes) as usize,
-        count => used[random.below(count) as usize],
-    };
+    let node = some_node(random, words);
     let from = node_place(node);
-    let slots = from + SLOT_FIELD..from + NODE_WORDS;
+    let slots = slot_place(node, 0)..slot_place(node, SLOTS);
     let filled: Vec<usize> = slots.clone().filter(|at| words[*at] != 0).collect();
     let is_sibling = |at: &usize| words[*at] % 4 == 2 && words[*at] <= sibling_word(63);
     let siblings: Vec<usize> = (node_place(0)..words.len()).filter(is_sibling).collect();
@@ -145,7 +190,7 @@ fn misplace(random: &mut Random, words: &mut [u64]) {
         2 => from + random.below(SLOT_FIELD as u64) as usize,
         3 | 4 => filled,
         5 | 6 => sibling,
-        _ => slots.start + random.below(64) as usize,
+        _ => slots.start + random.below(SLOTS as u64) as usize,
     }] = RESERVED;
 }
 
@@ -154,8 +199,8 @@ fn mark_reserved(random: &mut Random, words: &mut [u64], reserved: &[usize]) {
     let place = reserved[random.below(reserved.len() as u64) as usize];
     let mark = random.below(3) as usize;
     words[2] |= 1 << mark;
-    if place > 1 {
-        let (node, field) = ((place - 4) / NODE_WORDS, (place - 4) % NODE_WORDS);
-        words[node_place(node) + 2 + mark] |= 1 << (field.saturating_sub(SLOT_FIELD));
+    if let Some(after) = place.checked_sub(ANCHOR_WORDS) {
+        let (node, field) = (after / NODE_WORDS, after % NODE_WORDS);
+        words[mark_place(node, mark)] |= 1 << (field.saturating_sub(SLOT_FIELD));
     }
 }

@@ -2,6 +2,7 @@
 
 use crate::cases::{agree, replies, store, store_order, Case};
 use crate::lend::{Call, Lender};
+use crate::pools::recount;
 use reference::pool::pool_length;
 use xapool_host::Command;
 
@@ -75,32 +76,40 @@ fn against_reference() -> Vec<Case> {
     ]
 }
 
-/// Node 0 has its shift in word 4, mark 0 in word 6, slot j in word 9 + j.
+/// Node 0 has its shift in word 4, mark 0 in word 7, slot j in word 10 + j.
 fn checks() -> Vec<Case> {
-    let node = |shift: u64, slots: &[(usize, u64)]| [&[(1, 4098), (4, shift + 1)], slots].concat();
-    let run = [(17, 7), (18, 34), (19, 1030), (20, 34)];
-    let marked = [(2, 1), (6, 32), (14, 1030)];
+    let run = [(18, 7), (19, 34), (20, 1030), (21, 34)];
+    let marked = [(2, 1), (7, 32), (15, 1030)];
     vec![
-        ("check: a reserved slot", checked(&node(0, &[(14, 1030)]), 0)),
+        ("check: a reserved slot", checked(&node(0, &[(15, 1030)]), 0)),
         ("check: a reserved head", checked(&[(1, 1030)], 0)),
-        ("check: at shift 6", checked(&node(6, &[(9, 3), (14, 1030)]), 2)),
-        ("check: at shift 60", checked(&node(60, &[(9, 3), (14, 1030)]), 2)),
+        ("check: at shift 6", checked(&node(6, &[(10, 3), (15, 1030)]), 2)),
+        ("check: at shift 60", checked(&node(60, &[(10, 3), (15, 1030)]), 2)),
         ("check: with a mark", checked(&node(0, &marked), 2)),
         ("check: with the anchor's mark", checked(&[(1, 1030), (2, 1)], 2)),
-        ("check: a head with a node", checked(&[(1, 1030), (4, 1), (14, 3)], 2)),
-        ("check: index 0 alone in a node", checked(&node(0, &[(9, 1030)]), 2)),
+        ("check: a head with a node", checked(&[(1, 1030), (4, 1), (15, 3)], 2)),
+        ("check: index 0 alone in a node", checked(&node(0, &[(10, 1030)]), 2)),
         ("check: in a sibling's place", checked(&node(0, &run), 2)),
-        ("check: a sibling of it", checked(&node(0, &[(17, 1030), (18, 34)]), 2)),
-        ("check: the word 1026", checked(&node(0, &[(14, 1026)]), 2)),
-        ("check: the word 1034", checked(&node(0, &[(14, 1034)]), 2)),
+        ("check: a sibling of it", checked(&node(0, &[(18, 1030), (19, 34)]), 2)),
+        ("check: the word 1026", checked(&node(0, &[(15, 1026)]), 2)),
+        ("check: the word 1034", checked(&node(0, &[(15, 1034)]), 2)),
     ]
 }
 
-/// By figures: what a check of a pool of 2 nodes answers that has these words and else 0.
-fn checked(named: &[(usize, u64)], answer: u64) -> Option<String> {
+/// The words of a pool whose head is node 0, of this shift with these slots.
+pub fn node(shift: u64, slots: &[(usize, u64)]) -> Vec<(usize, u64)> {
+    [&[(1, 4098), (4, shift + 1)], slots].concat()
+}
+
+/// By figures: what a check of a pool of 2 nodes answers that has these words, the filled counts that
+/// go with them unless others are named, and else 0.
+pub fn checked(named: &[(usize, u64)], answer: u64) -> Option<String> {
     let mut words = vec![0; pool_length(2)];
     words[0] = 2;
-    named.iter().for_each(|(place, word)| words[*place] = *word);
+    let put = |words: &mut [u64]| named.iter().for_each(|(place, word)| words[*place] = *word);
+    put(&mut words);
+    recount(&mut words);
+    put(&mut words);
     let mut lender = Lender::new();
     lender.set_pool(&words);
     let found = lender.call(&Call::Check, words.len()).answer;

@@ -4,6 +4,7 @@ use crate::finds::random_list;
 use crate::lend::{by_reference, Call};
 use crate::list::CallList;
 use crate::listings::{kinds, Kind, KINDS};
+use crate::pools::recount;
 use crate::program::Input;
 use crate::reserves;
 use crate::stretch::{counts, FindCounts};
@@ -18,7 +19,9 @@ use reference::recover::recover;
 use reference::tree::Node;
 use std::collections::BTreeMap;
 use std::sync::OnceLock;
-use xapool_host::layout::{ANCHOR_WORDS, NODE_WORDS, SLOT_FIELD};
+use xapool_host::layout::{
+    count_place, ANCHOR_WORDS, COUNT_FIELD, MARK_FIELD, NODE_WORDS, SLOT_FIELD,
+};
 
 type Counts<T> = BTreeMap<T, usize>;
 
@@ -39,6 +42,8 @@ struct Met {
     reserve_spare: Counts<i64>,
     /// Where the word of a reservation stands in damaged pools.
     misplaced: Counts<&'static str>,
+    /// What the filled counts of damaged pools are.
+    counts: Counts<&'static str>,
 }
 
 fn follow(met: &mut Met, list: &CallList) {
@@ -74,6 +79,8 @@ fn met() -> &'static Met {
         for list in (0..3000).map(CallList::random) {
             let places = misplaced(&list.words);
             places.into_iter().for_each(|place| *met.misplaced.entry(place).or_default() += 1);
+            let counts = count_kinds(&list.words);
+            counts.into_iter().for_each(|kind| *met.counts.entry(kind).or_default() += 1);
             follow(&mut met, &list);
         }
         met
@@ -222,7 +229,7 @@ fn place_kind(words: &[u64], place: usize) -> &'static str {
     };
     let (node, field) = (place - after % NODE_WORDS, after % NODE_WORDS);
     let Some(slot) = field.checked_sub(SLOT_FIELD) else { return "first words" };
-    let marked = (2..5).any(|mark| words[node + mark] >> slot & 1 == 1);
+    let marked = (MARK_FIELD..SLOT_FIELD).any(|mark| words[node + mark] >> slot & 1 == 1);
     let sibling = |at: usize| at < node + NODE_WORDS && words[at] % 4 == 2 && words[at] < 256;
     match words[node] {
         0 => "free node",
@@ -240,6 +247,47 @@ fn damaged_pools_have_reservations_everywhere() {
     let places = ["head", "anchor", "first words", "free node", "with a mark", "among siblings"];
     let all = places.iter().chain(&["higher shift"]);
     assert!(all.into_iter().all(|place| count(place) >= 4), "{:?}", met.misplaced);
+}
+
+/// What the filled counts of a pool that is not well-formed have to do with it.
+fn count_kinds(words: &[u64]) -> Vec<&'static str> {
+    let Some(nodes) = node_count(words.len()).filter(|_| recover(words).is_none()) else {
+        return Vec::new();
+    };
+    let mut right = words.to_vec();
+    recount(&mut right);
+    let wrong: Vec<usize> =
+        (0..nodes).map(count_place).filter(|at| words[*at] != right[*at]).collect();
+    let alone = wrong.len() == 1 && recover(&right).is_some();
+    let by = |more: u64| alone && words[wrong[0]] == right[wrong[0]].wrapping_add(more);
+    let free = |at: &usize| words[at - COUNT_FIELD] == 0;
+    let all = [
+        ("right", wrong.is_empty()),
+        ("wrong with more", !alone && !wrong.is_empty()),
+        ("alone", alone),
+        ("one more", by(1)),
+        ("one less", by(u64::MAX)),
+        ("of a free node", alone && wrong.iter().all(free)),
+        ("of a node with siblings", alone && siblings_below(&right, wrong[0])),
+    ];
+    all.into_iter().filter(|(_, so)| *so).map(|(kind, _)| kind).collect()
+}
+
+/// Whether the node with its filled count at this place has sibling words.
+fn siblings_below(words: &[u64], count: usize) -> bool {
+    let slots = &words[count - COUNT_FIELD + SLOT_FIELD..count - COUNT_FIELD + NODE_WORDS];
+    slots.iter().any(|word| word % 4 == 2 && *word < 256)
+}
+
+/// Mostly something else is wrong, with right counts.
+#[test]
+fn damaged_pools_have_right_counts_and_wrong_ones() {
+    let met = met();
+    let count = |kind: &str| *met.counts.get(kind).unwrap_or(&0);
+    let (right, alone) = (count("right"), count("alone"));
+    assert!(right >= 200 && alone >= 100 && count("wrong with more") >= 20, "{:?}", met.counts);
+    let kinds = ["one more", "one less", "of a free node", "of a node with siblings"];
+    assert!(kinds.iter().all(|kind| count(kind) >= 10), "{:?}", met.counts);
 }
 
 #[test]

@@ -186,7 +186,7 @@ static void a_reserved_index_is_held_and_absent(void)
     xapool_put_find(&b, 0, UINT64_MAX, XAPOOL_FIND_ANY, 100);
     xapool_put_reserve(&b, 6);
     answers(pool, &b, held);
-    CHECK(pool[XAPOOL_ANCHOR_WORDS + 5 + 5] == XAPOOL_RESERVED_WORD);
+    CHECK(pool[XAPOOL_WORDS(0) + XAPOOL_SLOT_FIELD + 5] == XAPOOL_RESERVED_WORD);
     xapool_result r = xapool_list(pool, XAPOOL_WORDS(2), 0, 5, list, sizeof list);
     CHECK(r.answer == XAPOOL_DONE && r.number == 1 && memcmp(list, listed, sizeof list) == 0);
     xapool_put_reserve(&b, 6);
@@ -224,11 +224,35 @@ static void finds_go_on_after_the_run(void)
     next(XAPOOL_BAD_MARK, 0, 0, UINT64_MAX, 0, 0);
 }
 
+/* The words of case 3, and a count that is one too large. */
+static void nodes_count_their_slots(void)
+{
+    uint64_t pool[XAPOOL_WORDS(4)];
+    uint8_t bytes[64], replies[XAPOOL_REPLIES(2)];
+    static const uint64_t counts[] = { 2, 1, 1, 0 };
+    xapool_batch b = xapool_batch_over(bytes, sizeof bytes);
+    xapool_put_store(&b, 0, 0, 3);
+    xapool_put_store(&b, 64, 0, 5);
+    xapool_init(pool, XAPOOL_WORDS(4));
+    CHECK(xapool_run(pool, XAPOOL_WORDS(4), bytes, b.used, replies, sizeof replies).number == 2);
+    CHECK(XAPOOL_WORDS(4) == 284 && XAPOOL_NODE_WORDS == XAPOOL_SLOT_FIELD + XAPOOL_SLOTS);
+    CHECK(pool[XAPOOL_WORDS(0) + XAPOOL_SLOT_FIELD + 1] == 4106 && pool[XAPOOL_WORDS(2) + XAPOOL_SLOT_FIELD] == 5);
+    CHECK(pool[XAPOOL_WORDS(0) + XAPOOL_SHIFT_FIELD] == 7 && pool[XAPOOL_WORDS(2) + XAPOOL_OWNER_FIELD] == 2);
+    for (unsigned n = 0; n < 4; n++) {
+        uint64_t *count = &pool[XAPOOL_WORDS(n) + XAPOOL_COUNT_FIELD];
+        CHECK(*count == counts[n] && xapool_check(pool, XAPOOL_WORDS(4)).answer == XAPOOL_DONE);
+        ++*count;
+        CHECK(xapool_check(pool, XAPOOL_WORDS(4)).answer == XAPOOL_NOT_WELL_FORMED);
+        --*count;
+    }
+}
+
 static void answers_have_texts(void)
 {
     for (unsigned a = XAPOOL_DONE; a <= XAPOOL_COVERED; a++)
         CHECK(strcmp(xapool_answer_text(a), xapool_answer_text(16)) != 0);
     CHECK(strcmp(xapool_answer_text(XAPOOL_TOO_FEW_NODES), "too few free nodes") == 0);
+    CHECK(strcmp(xapool_answer_text(XAPOOL_POOL_LENGTH), "pool length is not 4 + 70 N words, N from 1 to 1000") == 0);
     CHECK(strcmp(xapool_answer_text(UINT64_MAX), xapool_answer_text(16)) == 0);
     char version[32];
     sprintf(version, "%d.%d.%d", XAPOOL_VERSION_MAJOR, XAPOOL_VERSION_MINOR, XAPOOL_VERSION_PATCH);
@@ -298,6 +322,7 @@ int main(void)
     a_list_is_whole_or_not_at_all();
     a_reserved_index_is_held_and_absent();
     finds_go_on_after_the_run();
+    nodes_count_their_slots();
     answers_have_texts();
     verdicts_have_texts();
     null_with_length_0_is_fine();

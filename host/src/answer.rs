@@ -1,5 +1,7 @@
 //! Every answer by name, and the refusals of a call.
 
+use crate::layout::{ANCHOR_WORDS, NODE_WORDS};
+use crate::pool::MOST_NODES;
 use crate::raw::RawResult;
 use std::fmt;
 
@@ -11,7 +13,7 @@ use std::fmt;
 pub enum Answer {
     /// It is done.
     Done = 0,
-    /// Call: the pool's length is not 4 + 69 N words with N from 1 to 1,000.
+    /// Call: no pool of 1 to [`MOST_NODES`] nodes has so many words ([`pool_words`](crate::pool_words)).
     PoolLength = 1,
     /// Call: the words are not those of a pool.
     NotWellFormed = 2,
@@ -75,10 +77,11 @@ impl Answer {
         self as u8
     }
 
-    fn text(self) -> &'static str {
-        match self {
+    /// None: the text has numbers in it.
+    fn text(self) -> Option<&'static str> {
+        Some(match self {
+            Answer::PoolLength => return None,
             Answer::Done => "done",
-            Answer::PoolLength => "pool length is not 4 + 69 N words, N from 1 to 1,000",
             Answer::NotWellFormed => "pool is not well-formed",
             Answer::BadBatch => {
                 "batch too long, or a record is cut, of unknown tag or wrong length"
@@ -95,13 +98,19 @@ impl Answer {
             Answer::Paused => "paused",
             Answer::NotAligned => "index is not a multiple of 2^order",
             Answer::Covered => "index is covered by an entry or reserved",
-        }
+        })
     }
 }
 
 impl fmt::Display for Answer {
     fn fmt(&self, f: &mut fmt::Formatter) -> fmt::Result {
-        f.write_str(self.text())
+        match self.text() {
+            Some(text) => f.write_str(text),
+            None => {
+                let words = format_args!("{ANCHOR_WORDS} + {NODE_WORDS} N words");
+                write!(f, "pool length is not {words}, N from 1 to {MOST_NODES}")
+            }
+        }
     }
 }
 
@@ -110,7 +119,7 @@ impl std::error::Error for Answer {}
 /// A call that was refused: nothing ran, the pool and what was lent for the answer are as they were.
 #[derive(Clone, Copy, Debug, PartialEq, Eq)]
 pub enum Refusal {
-    /// The pool's length is not 4 + 69 N words with N from 1 to 1,000.
+    /// No pool of 1 to [`MOST_NODES`] nodes has so many words.
     PoolLength,
     /// The words are not those of a pool: never initialised, or damaged.
     NotWellFormed,

@@ -3,10 +3,20 @@
 
 /// The words of the anchor.
 pub const ANCHOR_WORDS: usize = 4;
+/// The slots of a node.
+pub const SLOTS: usize = 64;
+/// A node's words, from its first on: the shift + 1, 0 in a free node.
+pub const SHIFT_FIELD: usize = 0;
+/// Its owner: 0 in the head, else 1 + 64 * parent + the slot there.
+pub const OWNER_FIELD: usize = 1;
+/// How many of its slots are not 0.
+pub const COUNT_FIELD: usize = 2;
+/// The first of its three mark words.
+pub const MARK_FIELD: usize = 3;
+/// The first of its slots; they are its last words.
+pub const SLOT_FIELD: usize = 6;
 /// The words of a node.
-pub const NODE_WORDS: usize = 69;
-/// The words of a node before its slots.
-pub const SLOT_FIELD: usize = 5;
+pub const NODE_WORDS: usize = SLOT_FIELD + SLOTS;
 /// What is added to a node's number in its word.
 pub const NODE_OFFSET: u64 = 1024;
 
@@ -19,10 +29,35 @@ pub fn node_place(number: usize) -> usize {
     ANCHOR_WORDS + NODE_WORDS * number
 }
 
+/// The place of a node's owner word.
+#[must_use]
+pub fn owner_place(number: usize) -> usize {
+    node_place(number) + OWNER_FIELD
+}
+
+/// The place of a node's filled count.
+#[must_use]
+pub fn count_place(number: usize) -> usize {
+    node_place(number) + COUNT_FIELD
+}
+
+/// The place of the word of a node's mark, 0 to 2.
+#[must_use]
+pub fn mark_place(number: usize, mark: usize) -> usize {
+    node_place(number) + MARK_FIELD + mark
+}
+
 /// The place of a slot of a node.
 #[must_use]
 pub fn slot_place(number: usize, slot: usize) -> usize {
     node_place(number) + SLOT_FIELD + slot
+}
+
+/// What a node's filled count is to be, by its slots; of a node that the words do not have, 0.
+#[must_use]
+pub fn filled_slots(words: &[u64], number: usize) -> u64 {
+    let slots = words.get(slot_place(number, 0)..slot_place(number, SLOTS)).unwrap_or_default();
+    slots.iter().map(|word| u64::from(*word != 0)).sum()
 }
 
 /// The word of a slot that follows the entry in this slot.

@@ -13,7 +13,7 @@ use std::ops::RangeBounds;
 /// A pool has at most so many nodes.
 pub const MOST_NODES: usize = 1000;
 
-/// The words of a pool of this many nodes; none unless they are 1 to 1,000.
+/// The words of a pool of this many nodes; none unless they are 1 to [`MOST_NODES`].
 #[must_use]
 pub fn pool_words(nodes: usize) -> Option<usize> {
     (1..=MOST_NODES).contains(&nodes).then(|| node_place(nodes))
@@ -60,7 +60,7 @@ impl Clone for Pool<'_> {
 }
 
 impl Pool<'static> {
-    /// An empty pool of 1 to 1,000 nodes that owns its words.
+    /// An empty pool of 1 to [`MOST_NODES`] nodes that owns its words.
     pub fn new(nodes: usize) -> Result<Pool<'static>, Refusal> {
         let size = pool_words(nodes).ok_or(Refusal::PoolLength)?;
         let mut pool = Pool { words: Words::Owned(vec![0; size]) };
@@ -224,7 +224,7 @@ impl<'a> Pool<'a> {
         bytes_of_words(self.words())
     }
 
-    /// Its words: the anchor's 4, then 69 for each node.
+    /// Its words: the anchor's, then those of each node ([`layout`](crate::layout)).
     #[must_use]
     pub fn words(&self) -> &[u64] {
         match &self.words {

@@ -57,9 +57,8 @@ fn slot(pool: &Pool, node: usize, slot: usize) -> u64 {
     pool.words()[layout::slot_place(node, slot)]
 }
 
-/// The word of a mark, after a node's shift and owner.
 fn mark_word(pool: &Pool, node: usize, mark: usize) -> u64 {
-    pool.words()[layout::node_place(node) + 2 + mark]
+    pool.words()[layout::mark_place(node, mark)]
 }
 
 fn free_nodes(pool: &Pool) -> usize {
@@ -211,10 +210,10 @@ fn case_14_whole_records() {
 
 #[test]
 fn case_15_limits() {
-    for (words, is) in [(73, Ok(())), (69_004, Ok(())), (72, Err(Refusal::PoolLength))] {
+    for (words, is) in [(74, Ok(())), (70_004, Ok(())), (73, Err(Refusal::PoolLength))] {
         assert_eq!(Pool::from_words(vec![0; words]).init(), is, "{words} words");
     }
-    let long = Pool::from_words(vec![0; 69_073]).init();
+    let long = Pool::from_words(vec![0; 70_074]).init();
     assert_eq!((long, Pool::from_words(Vec::new()).init()), (Err(Refusal::PoolLength), long));
     let records = [batch(&[load(0)]).bytes().repeat(736), batch(&[mark(0, 0)]).bytes().repeat(8)];
     let (full, mut reply) = (records.concat(), vec![0; 744 * REPLY_BYTES]);
@@ -256,15 +255,17 @@ fn a_builder_refuses_what_is_too_long() {
 
 #[test]
 fn borrowed_words_are_the_callers() {
-    let mut words = [7u64; 73];
+    let mut words = [7u64; 74];
     let mut pool = Pool::over(&mut words);
     assert_eq!(pool.check(), Err(Refusal::NotWellFormed));
-    pool.init().expect("73 words");
+    pool.init().expect("74 words");
     assert_eq!(pool.run(&batch(&[CASE_2])).expect("a good batch").len(), 1);
     drop(pool);
     assert_eq!((words[0], words[1]), (1, 3));
-    assert_eq!(node_count(73), Some(1));
-    assert!([0, 3, 4, 72, 69_073, usize::MAX].iter().all(|words| node_count(*words).is_none()));
+    assert_eq!((node_count(74), node_count(70_004)), (Some(1), Some(1000)));
+    assert!([0, 3, 4, 73, 69_004, 70_074, usize::MAX]
+        .iter()
+        .all(|words| node_count(*words).is_none()));
 }
 
 /// A small generator (splitmix64).
@@ -290,7 +291,7 @@ fn any_bytes_are_read_without_panic() {
         assert!(Commands::of(&bytes).count() <= bytes.len());
         assert!(Records::of(&bytes).count() <= bytes.len());
         let mut reply = [0; 240];
-        let _ = Pool::from_words(vec![seed; 73]).run_bytes(&bytes, &mut reply);
+        let _ = Pool::from_words(vec![seed; 74]).run_bytes(&bytes, &mut reply);
     }
 }
 
@@ -518,7 +519,8 @@ fn the_output_of_the_program_is_whole_or_not() {
 #[test]
 fn the_c_header_agrees() {
     let header = include_str!("../../include/xapool.h");
-    for answer in Answer::ALL {
+    // The header puts the text of a pool's length together from the numbers below.
+    for answer in Answer::ALL.into_iter().filter(|answer| *answer != Answer::PoolLength) {
         assert!(header.contains(&format!("\"{answer}\"")), "{answer}");
     }
     for verdict in [Verdict::NothingToCompare, Verdict::Matched, Verdict::Different] {
@@ -532,4 +534,74 @@ fn the_c_header_agrees() {
     for (name, number) in [("MAJOR", major), ("MINOR", minor), ("PATCH", patch)] {
         assert!(header.contains(&format!("#define XAPOOL_VERSION_{name} {number}")), "{name}");
     }
+}
+
+/// So are its sizes.
+#[test]
+fn the_c_header_has_the_sizes() {
+    let header = include_str!("../../include/xapool.h");
+    let sizes = [
+        ("ANCHOR_WORDS", layout::ANCHOR_WORDS),
+        ("NODE_WORDS", layout::NODE_WORDS),
+        ("SHIFT_FIELD", layout::SHIFT_FIELD),
+        ("OWNER_FIELD", layout::OWNER_FIELD),
+        ("COUNT_FIELD", layout::COUNT_FIELD),
+        ("MARK_FIELD", layout::MARK_FIELD),
+        ("SLOT_FIELD", layout::SLOT_FIELD),
+        ("SLOTS", layout::SLOTS),
+        ("MAX_NODES", MOST_NODES),
+        ("BATCH_BYTES", MOST_BATCH_BYTES),
+        ("MAX_COMMANDS", MOST_BATCH_BYTES / Tag::Load.record_bytes()),
+        ("REPLY_BYTES", REPLY_BYTES),
+        ("LISTED_BYTES", LISTED_BYTES),
+    ];
+    for (name, size) in sizes {
+        let line = format!("#define XAPOOL_{name} {size}");
+        assert!(
+            header.lines().any(|has| has.split(" /*").next().map(str::trim) == Some(&line)),
+            "{line}"
+        );
+    }
+}
+
+/// The filled counts of a pool's first nodes (R220).
+fn counts(pool: &Pool, nodes: usize) -> Vec<u64> {
+    (0..nodes).map(|node| pool.words()[layout::count_place(node)]).collect()
+}
+
+#[test]
+fn a_node_counts_its_filled_slots() {
+    let reserve = Command::Reserve { index: 1 };
+    let commands = [CASE_2, CASE_3, store(8, 3, 7), reserve, store(4095, 0, 9)];
+    let (_, mut pool) = run(4, &commands);
+    // The head leads to three nodes; siblings and what is reserved fill slots as well.
+    assert_eq!(counts(&pool, 4), [3, 10, 1, 1]);
+    assert_eq!(pool.words()[4..11], [7, 0, 3, 0, 0, 0, 4102]);
+    let by_slots: Vec<u64> = (0..4).map(|node| layout::filled_slots(pool.words(), node)).collect();
+    assert_eq!(by_slots, counts(&pool, 4));
+    assert_eq!(layout::filled_slots(pool.words(), 4), 0);
+    let erases = batch(&[Command::Erase { index: 15 }, Command::Erase { index: 4095 }]);
+    assert_eq!(pool.run(&erases).expect("a good batch").len(), 2);
+    assert_eq!(counts(&pool, 4), [2, 2, 1, 0]);
+}
+
+#[test]
+fn a_wrong_count_is_not_well_formed() {
+    let (_, pool) = run(4, &[CASE_2, CASE_3]);
+    // Node 3 is free: its count is 0.
+    for (node, right) in [(0, 2), (1, 1), (2, 1), (3, 0u64)] {
+        for count in [right + 1, right.wrapping_sub(1), 64] {
+            let mut damaged = pool.clone();
+            damaged.words_mut()[layout::count_place(node)] = count;
+            assert_eq!(damaged.check(), Err(Refusal::NotWellFormed), "node {node}: {count}");
+            assert_eq!(damaged.run(&batch(&[load(0)])), Err(Refusal::NotWellFormed));
+        }
+    }
+}
+
+#[test]
+fn the_length_of_a_pool_is_told() {
+    let text = "pool length is not 4 + 70 N words, N from 1 to 1000";
+    assert_eq!(Refusal::PoolLength.to_string(), text);
+    assert_eq!(Answer::PoolLength.to_string(), text);
 }

@@ -6,17 +6,18 @@ use std::cmp::Reverse;
 use std::collections::{BTreeMap, BTreeSet};
 
 pub const ANCHOR_WORDS: usize = 4;
-pub const NODE_WORDS: usize = 69;
 pub const MOST_NODES: usize = 1000;
 pub const NODE_OFFSET: u64 = 1024;
 
-/// Fields of a node, counted from its first word.
+/// Fields of a node, counted from its first word; the count of filled slots is of request P7.
 pub const SHIFT_FIELD: usize = 0;
 pub const OWNER_FIELD: usize = 1;
-pub const MARK_FIELDS: usize = 2;
-pub const SLOT_FIELDS: usize = 5;
+pub const COUNT_FIELD: usize = 2;
+pub const MARK_FIELDS: usize = 3;
+pub const SLOT_FIELDS: usize = 6;
+pub const NODE_WORDS: usize = SLOT_FIELDS + SLOTS;
 
-/// N, if the length is 4 + 69N with N from 1 to 1,000.
+/// N, if a pool of N nodes has this length and N is allowed.
 pub fn node_count(length: usize) -> Option<usize> {
     (1..=MOST_NODES).find(|count| pool_length(*count) == length)
 }
@@ -129,6 +130,12 @@ fn write_node(tree: &Tree, numbers: &BTreeMap<Node, usize>, node: Node, fields: 
             Slot::Node(child) => node_word(numbers[&child]),
         };
     }
+    fields[COUNT_FIELD] = filled(&fields[SLOT_FIELDS..]);
+}
+
+/// How many of a node's slots are not 0.
+fn filled(slots: &[u64]) -> u64 {
+    slots.iter().filter(|word| **word != 0).count() as u64
 }
 
 /// The owner word: 0 in the head, elsewhere 1 + 64 * parent + slot.

@@ -80,7 +80,8 @@ fn header(report: &Report) -> String {
 
 fn title(node: &Node) -> String {
     let end = (node.start + (64u128 << node.shift)).min(1 << 64) - 1;
-    format!("node {}, shift {}, indices {}", node.number, node.shift, range(node.start, end))
+    let Node { number, shift, start, filled, .. } = node;
+    format!("node {number}, shift {shift}, indices {}, filled {filled}", range(*start, end))
 }
 
 fn range(first: u128, last: u128) -> String {

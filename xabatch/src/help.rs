@@ -67,7 +67,8 @@ const SHOW: &str = "\
 usage: xabatch show [--summary | --findings] [--range FIRST..LAST] [--all] POOLFILE
 
 Draws a pool file as a tree and lists what is wrong with it: first what is wrong by itself, then how
-much follows from that. A slot that is held without an entry is drawn as 'reserved'.
+much follows from that. A slot that is held without an entry is drawn as 'reserved'; 'filled' is a
+node's own count of slots that hold something, as it stands in the pool.
 
   --summary             counts in place of the tree: entries by order, reserved indices, marks, nodes
                         by shift

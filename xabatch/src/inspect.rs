@@ -7,11 +7,11 @@
 use std::collections::HashSet;
 use std::fmt;
 use xapool_host::layout::{
-    node_place, node_word, sibling_word, slot_place, NODE_OFFSET, NODE_WORDS, RESERVED_WORD,
+    count_place, filled_slots, mark_place, node_place, node_word, owner_place, sibling_word,
+    slot_place, ANCHOR_WORDS, COUNT_FIELD, NODE_OFFSET, NODE_WORDS, RESERVED_WORD, SLOTS,
 };
-use xapool_host::{node_count, Marks, Word};
+use xapool_host::{node_count, Marks, Word, MOST_NODES};
 
-const SLOTS: usize = 64;
 const WIDEST_SHIFT: u64 = 60;
 
 /// Something wrong, with the place of the word.
@@ -37,6 +37,8 @@ pub struct Node {
     /// The first index of its block.
     pub start: u128,
     pub slots: Vec<Slot>,
+    /// Its filled count as it stands.
+    pub filled: u64,
     /// Mark m is worth 2^m if its mark word is not 0.
     pub marks: Marks,
 }
@@ -97,8 +99,8 @@ pub fn inspect(words: &[u64]) -> Report {
             walk.unreached();
         }
         None => {
-            let message = format!("{} words, not 4 + 69 N with N from 1 to 1,000", words.len());
-            walk.find(0, message);
+            let pool = format!("{ANCHOR_WORDS} + {NODE_WORDS} N with N from 1 to {MOST_NODES}");
+            walk.find(0, format!("{} words, not {pool}", words.len()));
         }
     }
     let findings = walk.findings();
@@ -308,7 +310,7 @@ impl Walk<'_> {
         if link != Link::Head {
             self.expect(place, "shift + 1", shift + 1, Follows::Nothing);
         }
-        self.expect(place + 1, "the owner", owner_of(link), Follows::Link(link));
+        self.expect(owner_place(number), "the owner", owner_of(link), Follows::Link(link));
         let mut slots = Vec::new();
         let mut slot = 0;
         while slot < SLOTS {
@@ -319,8 +321,18 @@ impl Walk<'_> {
         if slots.is_empty() {
             self.note(place, Follows::Node(number), format!("node {number} is empty"));
         }
+        let filled = self.filled_count(number);
         let marks = self.mark_words(number, &slots);
-        Node { number, shift, start, slots, marks }
+        Node { number, shift, start, slots, filled, marks }
+    }
+
+    /// Compares the filled count with the slots; gives it. Where a slot's word is wrong, a count that
+    /// differs follows from that.
+    fn filled_count(&mut self, number: usize) -> u64 {
+        let place = count_place(number);
+        let expected = filled_slots(self.words, number);
+        self.expect(place, "the filled count", expected, Follows::Node(number));
+        self.word(place)
     }
 
     /// How many slots the entry at this slot takes: itself and the siblings that follow.
@@ -405,15 +417,15 @@ impl Walk<'_> {
     }
 
     fn slot_marks(&self, number: usize, slot: usize) -> Marks {
-        let place = node_place(number) + 2;
-        Marks((0..3).map(|mark| ((self.word(place + mark) >> slot & 1) as u8) << mark).sum())
+        let bit = |mark| (self.word(mark_place(number, mark)) >> slot & 1) as u8;
+        Marks((0..3).map(|mark| bit(mark) << mark).sum())
     }
 
     /// Compares the three mark words with what the slots call for; gives the marks of the node.
     fn mark_words(&mut self, number: usize, slots: &[Slot]) -> Marks {
         let mut marks = 0;
         for mark in 0..3 {
-            let place = node_place(number) + 2 + mark;
+            let place = mark_place(number, mark);
             let found = self.word(place);
             marks |= u8::from(found != 0) << mark;
             let expected = slots.iter().fold(0, |bits, slot| bits | expected_bit(slot, mark as u8));
@@ -435,6 +447,10 @@ impl Walk<'_> {
             let wrong = words.iter().filter(|word| **word != 0).count();
             let first = words.iter().position(|word| *word != 0);
             if let (false, Some(first)) = (self.seen[number], first) {
+                if (first, wrong) == (COUNT_FIELD, 1) {
+                    self.expect(place + first, "the filled count", 0, Follows::Nothing);
+                    continue;
+                }
                 let message =
                     format!("node {number} is in no slot, but {wrong} of its words are not 0");
                 let follows = if self.is_lost(number) { Follows::Surely } else { Follows::Nothing };
@@ -477,15 +493,14 @@ impl Walk<'_> {
     /// Whether the head leads to a node that is the head by its own owner word.
     fn head_is_itself(&self) -> bool {
         let head = self.node_number(self.word(1));
-        head.is_some_and(|number| self.word(node_place(number) + 1) == 0)
+        head.is_some_and(|number| self.word(owner_place(number)) == 0)
     }
 
     /// Where a node belongs by its own words, if they are those of a node in use.
     fn link_of(&self, number: usize) -> Option<Link> {
-        let place = node_place(number);
-        let shift = shift_of(self.word(place))?;
+        let shift = shift_of(self.word(node_place(number)))?;
         (0..SLOTS).find(|slot| self.word(slot_place(number, *slot)) != 0)?;
-        let Some(owner) = self.word(place + 1).checked_sub(1) else {
+        let Some(owner) = self.word(owner_place(number)).checked_sub(1) else {
             return Some(Link::Head);
         };
         let (node, slot) = (usize::try_from(owner).ok()? / SLOTS, owner as usize % SLOTS);

@@ -7,7 +7,10 @@ use reference::batch::Command as ReferenceCommand;
 use reference::random::Random;
 use tool::tool;
 use xabatch::{decode, draw, inspect, text};
-use xapool_host::{bytes_of_words, BatchBuilder, Command, Pool, Word};
+use xapool_host::layout::{
+    count_place, filled_slots, mark_place, node_place, owner_place, slot_place, NODE_OFFSET,
+};
+use xapool_host::{bytes_of_words, node_count, BatchBuilder, Command, Pool, Word};
 
 fn same_command(command: ReferenceCommand) -> Command {
     match command {
@@ -121,9 +124,11 @@ fn show_agrees_with_the_check_on_good_and_damaged_pools() {
                 damage(&mut words, &mut random);
             }
             agree(&words, &format!("seed {seed}"));
+            recount(&mut words);
+            agree(&words, &format!("seed {seed}, counts set right"));
         }
     }
-    for length in [0, 1, 4, 72, 74, 69_073] {
+    for length in [0, 1, 4, 73, 75, 70_074] {
         agree(&vec![0; length], "length");
     }
 }
@@ -145,12 +150,58 @@ fn show_agrees_with_the_check_wherever_an_index_may_be_reserved() {
             let mut words = pool.words().to_vec();
             words[place] = 1030;
             agree(&words, &format!("{text}: word {place}"));
+            recount(&mut words);
+            agree(&words, &format!("{text}: word {place}, counts set right"));
         }
     }
 }
 
-/// Changes one word, mostly one that is not 0, to one of the kinds of word there are.
+/// Sets each node's filled count right, so that the pool is refused for something else or not at all.
+fn recount(words: &mut [u64]) {
+    for node in 0..node_count(words.len()).expect("a pool's length") {
+        words[count_place(node)] = filled_slots(words, node);
+    }
+}
+
+#[test]
+fn a_wrong_count_is_named() {
+    let mut pool = Pool::new(4).expect("four nodes");
+    let text = "store 0 order 0 value 1\nstore 64 order 3 value 2\nreserve 63\n";
+    let replies = pool.run(&text::batch_of(text).expect("good text")).expect("a good batch");
+    assert!(replies.iter().all(|reply| reply.done().is_ok()));
+    // The head with two nodes below, an entry and a reservation, eight slots of one entry; and one free.
+    for (node, right) in [(0, 2), (1, 2), (2, 8), (3, 0u64)] {
+        let place = count_place(node);
+        for count in [right + 1, right.wrapping_sub(1), 64] {
+            let mut words = pool.words().to_vec();
+            words[place] = count;
+            let finding = format!("word {place}: the filled count is {count}, expected {right}");
+            let lines = format!("not well-formed: 1 finding\n  {finding}\n");
+            assert_eq!(shown(&words, &["--findings"]), (1, lines));
+        }
+    }
+    let (_, drawn) = shown(pool.words(), &[]);
+    assert!(drawn.contains("head: node 0, shift 6, indices 0..4095, filled 2, marks -"), "{drawn}");
+    assert!(
+        drawn.contains("slot 1: node 2, shift 0, indices 64..127, filled 8, marks -"),
+        "{drawn}"
+    );
+    // What is drawn is the word as it stands.
+    let mut words = pool.into_words();
+    words[count_place(2)] = 7;
+    assert!(shown(&words, &[]).1.contains("indices 64..127, filled 7, marks -"));
+}
+
+/// Changes one word, mostly one that is not 0, to one of the kinds of word there are; at times a
+/// filled count, by one.
 fn damage(words: &mut [u64], random: &mut Random) {
+    if random.one_in(8) {
+        let nodes = node_count(words.len()).expect("a pool's length");
+        let count = &mut words[count_place(random.below(nodes as u64) as usize)];
+        let less = random.one_in(2);
+        *count = if less { count.wrapping_sub(1) } else { count.wrapping_add(1) };
+        return;
+    }
     let mut place = random.below(words.len() as u64) as usize;
     while words[place] == 0 && !random.one_in(20) {
         place = (place + 1) % words.len();
@@ -176,8 +227,11 @@ fn findings_name_their_words() {
     }
     let mut pool = Pool::new(4).expect("four nodes");
     let _ = pool.run(&batch).expect("a good batch");
-    let places = [(0, 3), (1, 2), (2, 1), (3, 9), (4, 8), (6, 2), (9, 6), (74, 9), (250, 1)];
-    for (place, word) in places {
+    let anchor = [(0, 3), (1, 2), (2, 1), (3, 9)];
+    let head =
+        [(node_place(0), 8), (count_place(0), 3), (mark_place(0, 0), 2), (slot_place(0, 0), 6)];
+    let others = [(owner_place(1), 9), (slot_place(3, 34), 1)];
+    for (place, word) in anchor.into_iter().chain(head).chain(others) {
         let mut words = pool.words().to_vec();
         words[place] = word;
         let findings = inspect::inspect(&words).findings;
@@ -234,32 +288,32 @@ fn the_tool_runs_a_batch_on_a_pool_file() {
     let shown = tool(&["show", name], &[]);
     std::fs::remove_file(&file).expect("removed");
     let drawn = "\
-pool of 3 nodes, 211 words: 3 in use, 0 free
-head: node 0, shift 6, indices 0..4095, marks -
-├─ slot 0: node 1, shift 0, indices 0..63, marks -
+pool of 3 nodes, 214 words: 3 in use, 0 free
+head: node 0, shift 6, indices 0..4095, filled 2, marks -
+├─ slot 0: node 1, shift 0, indices 0..63, filled 1, marks -
 │  └─ slot 0: index 0, order 0 value 1, marks -
-└─ slot 1: node 2, shift 0, indices 64..127, marks -
+└─ slot 1: node 2, shift 0, indices 64..127, filled 1, marks -
    └─ slot 0: index 64, order 0 value 2, marks -
 well-formed
 ";
     assert_eq!((shown.0, String::from_utf8_lossy(&shown.1).as_ref()), (0, drawn));
 }
 
-/// A pool of nearly a thousand nodes in use, and the place of its head node.
+/// A pool of nearly a thousand nodes in use, and the number of its head node.
 fn large_pool() -> (Vec<u64>, usize) {
     let mut pool = Pool::new(1000).expect("a good size");
     let entries = (0..960).map(|at| Command::Store { index: 64 * at, order: 0, word: Word(3) });
     let marks = [Command::Mark { index: 640, mark: 1 }];
     let _ = pool.run_all(entries.chain(marks)).expect("a good pool");
     let words = pool.into_words();
-    let head = 4 + 69 * (words[1] / 4 - 1024) as usize;
+    let head = (words[1] / 4 - NODE_OFFSET) as usize;
     (words, head)
 }
 
 #[test]
 fn one_cause_is_one_finding() {
     let (pool, head) = large_pool();
-    let slot = head + 5 + 3;
+    let slot = slot_place(head, 3);
     let (entry, sibling, other) = (7, 4 * 5 + 2, 4 * (1024 + 5) + 2);
     // The word that is changed, to what, and how many findings follow at least.
     let cases = [
@@ -272,14 +326,17 @@ fn one_cause_is_one_finding() {
         (slot, 1030, 64),
         (slot, entry, 64),
         (slot, sibling, 64),
-        (head, 19, 0),
-        (head, 20, 0),
-        (head + 1, 5, 0),
-        (4 + 69 * 7 + 1, 9, 0),
+        (node_place(head), 19, 0),
+        (node_place(head), 20, 0),
+        (owner_place(head), 5, 0),
+        (count_place(head), 14, 0),
+        (owner_place(7), 9, 0),
+        (count_place(7), 0, 0),
         (3, 1, 0),
         // Nodes that are free: 999 and 998.
-        (4 + 69 * 999, 1, 0),
-        (4 + 69 * 998 + 7, 5, 0),
+        (node_place(999), 1, 0),
+        (slot_place(998, 2), 5, 0),
+        (count_place(999), 1, 0),
     ];
     for (place, word, least) in cases {
         let mut words = pool.clone();
@@ -303,7 +360,7 @@ fn shown(words: &[u64], options: &[&str]) -> (i32, String) {
 fn show_a_summary_a_range_findings() {
     let (mut words, _) = large_pool();
     let summary = "\
-pool of 1000 nodes, 69004 words: 976 in use, 24 free
+pool of 1000 nodes, 70004 words: 976 in use, 24 free
 entries: 960, in 0..61376: 960 of order 0
 marks: 0 with mark 0, 1 with mark 1, 0 with mark 2
 nodes: 960 of shift 0, 15 of shift 6, 1 of shift 12
@@ -386,7 +443,7 @@ fn new_overwrites_nothing() {
     assert_eq!(tool(&["new", "3", &name], &[]).0, 0);
     let (status, _, errors) = tool(&["new", "4", &name], &[]);
     assert_eq!((status, errors.contains("p.pool: File exists")), (1, true), "{errors}");
-    assert_eq!(std::fs::read(folder.path("p.pool")).expect("a pool").len(), 8 * 211);
+    assert_eq!(std::fs::read(folder.path("p.pool")).expect("a pool").len(), 8 * 214);
 }
 
 #[test]

@@ -7,7 +7,9 @@ use std::fs;
 use std::os::unix::fs::symlink;
 use std::path::{Path, PathBuf};
 use std::process::Command;
-use tool::{output_of, Folder, TOOL};
+use tool::{output_of, tool, Folder, TOOL};
+use xapool_host::layout::{ANCHOR_WORDS, NODE_WORDS};
+use xapool_host::{MOST_BATCH_BYTES, MOST_NODES};
 
 fn root() -> PathBuf {
     Path::new(env!("CARGO_MANIFEST_DIR")).join("..")
@@ -90,4 +92,34 @@ fn the_batch_of_the_first_page() {
     let run = "xabatch encode pages.txt | target/bin/tamburish | xabatch decode";
     assert_eq!(said(&folder, run), replies);
     assert!(readme.contains("bash scripts/try"));
+}
+
+/// A number as the pages write it: 1,000.
+fn grouped(number: usize) -> String {
+    let digits = number.to_string();
+    let from_end = |at: usize| digits.len() - at;
+    let comma = |at: usize| if at > 0 && from_end(at).is_multiple_of(3) { "," } else { "" };
+    (0..).zip(digits.chars()).map(|(at, digit)| format!("{}{digit}", comma(at))).collect()
+}
+
+/// Pages cannot take a number from the code, so they are held to it here.
+#[test]
+fn the_pages_name_the_limits() {
+    let (nodes, bytes) = (grouped(MOST_NODES), grouped(MOST_BATCH_BYTES));
+    let words = format!("{ANCHOR_WORDS} + {NODE_WORDS} N words");
+    let (man, host) = (page("xabatch/xabatch.1"), page("docs/HOST.md"));
+    let help = |command| String::from_utf8(tool(&["help", command], &[]).1).expect("text");
+    let named = [
+        (man.clone(), format!("an empty pool of 1 to {nodes} nodes")),
+        (man.clone(), format!("at most {bytes} bytes")),
+        (man, words.clone()),
+        (help("new"), format!("an empty pool of 1 to {nodes} nodes")),
+        (help("encode"), format!("at most {bytes} bytes")),
+        (help("run"), format!("longer than a batch ({bytes} bytes)")),
+        (host.clone(), format!("lend {words}, N from 1 to {nodes}")),
+        (host, format!("{bytes}: the batch is too long")),
+    ];
+    for (page, text) in named {
+        assert!(page.contains(&text), "{text}");
+    }
 }

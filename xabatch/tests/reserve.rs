@@ -49,11 +49,11 @@ const COMMANDS: &str = "reserve 0\nreserve 64\nstore 65 order 0 value 2\nmark 65
 #[test]
 fn a_reserved_slot_is_drawn() {
     let drawn = "\
-pool of 3 nodes, 211 words: 3 in use, 0 free
-head: node 0, shift 6, indices 0..4095, marks 1
-├─ slot 0: node 1, shift 0, indices 0..63, marks -
+pool of 3 nodes, 214 words: 3 in use, 0 free
+head: node 0, shift 6, indices 0..4095, filled 2, marks 1
+├─ slot 0: node 1, shift 0, indices 0..63, filled 1, marks -
 │  └─ slot 0: index 0, reserved
-└─ slot 1: node 2, shift 0, indices 64..127, marks 1
+└─ slot 1: node 2, shift 0, indices 64..127, filled 2, marks 1
    ├─ slot 0: index 64, reserved
    └─ slot 1: index 65, order 0 value 2, marks 1
 well-formed
@@ -61,7 +61,7 @@ well-formed
     assert_eq!(shown(3, COMMANDS, &[]), drawn);
     assert!(shown(3, COMMANDS, &["--range", "65..max"]).contains("(1 more slot outside the range)"));
     let summary = "\
-pool of 3 nodes, 211 words: 3 in use, 0 free
+pool of 3 nodes, 214 words: 3 in use, 0 free
 entries: 1, in 65: 1 of order 0
 reserved indices: 2
 marks: 0 with mark 0, 1 with mark 1, 0 with mark 2
@@ -73,7 +73,7 @@ well-formed
 
 #[test]
 fn a_reserved_head_is_drawn() {
-    let header = "pool of 1 nodes, 73 words: 0 in use, 1 free\n";
+    let header = "pool of 1 nodes, 74 words: 0 in use, 1 free\n";
     let drawn = format!("{header}head: index 0, reserved\nwell-formed\n");
     assert_eq!(shown(1, "reserve 0\n", &[]), drawn);
     let counts = "entries: 0\nreserved indices: 1\n";
@@ -101,43 +101,45 @@ fn reserved_indices_are_listed() {
     }
 }
 
-/// Words of a pool of one node, the head, of this shift with these words.
+/// Words of a pool of one node, the head, of this shift with these words and the filled count that
+/// goes with them.
 fn pool(shift: u64, named: &[(usize, u64)]) -> Vec<u64> {
-    let mut words = vec![0; 73];
+    let mut words = vec![0; 74];
     (words[0], words[1], words[4]) = (1, 4098, shift + 1);
     named.iter().for_each(|(place, word)| words[*place] = *word);
+    words[6] = words[10..].iter().filter(|word| **word != 0).count() as u64;
     words
 }
 
-/// Slot j of the node is word 9 + j, mark 0 its word 6; 1,030 is 406 in hex.
+/// Slot j of the node is word 10 + j, mark 0 its word 7; 1,030 is 406 in hex.
 #[test]
 fn a_misplaced_word_is_named() {
     let cases = [
         (
-            pool(6, &[(9, 3), (14, 1030)]),
-            "word 14: slot 5: reserved (0x406) in a node of shift 6, not 0",
+            pool(6, &[(10, 3), (15, 1030)]),
+            "word 15: slot 5: reserved (0x406) in a node of shift 6, not 0",
         ),
-        (pool(60, &[(9, 3), (26, 1030)]), "word 26: slot 17 lies past 2^64 and is not 0"),
+        (pool(60, &[(10, 3), (27, 1030)]), "word 27: slot 17 lies past 2^64 and is not 0"),
         (
-            pool(0, &[(14, 1030), (6, 32), (2, 1)]),
-            "word 6: mark 0 of slot 5 is set, expected clear",
+            pool(0, &[(15, 1030), (7, 32), (2, 1)]),
+            "word 7: mark 0 of slot 5 is set, expected clear",
         ),
         (
-            pool(0, &[(9, 1030)]),
+            pool(0, &[(10, 1030)]),
             "word 4: the head is too wide: index 0 alone, reserved, needs no node",
         ),
         (pool(0, &[(1, 1030), (2, 1), (4, 0)]), "word 2: the marks byte is 1, expected 0"),
         (
-            pool(0, &[(1, 1030), (14, 3)]),
+            pool(0, &[(1, 1030), (15, 3)]),
             "word 1: the head is 0x406, but by its owner word node 0 is there (0x1002)",
         ),
         (
-            pool(0, &[(17, 7), (18, 34), (19, 1030), (20, 34)]),
-            "word 20: slot 11: a sibling of slot 8 that follows no such entry",
+            pool(0, &[(18, 7), (19, 34), (20, 1030), (21, 34)]),
+            "word 21: slot 11: a sibling of slot 8 that follows no such entry",
         ),
         (
-            pool(0, &[(17, 1030), (18, 34)]),
-            "word 18: slot 9: a sibling of slot 8 that follows no such entry",
+            pool(0, &[(18, 1030), (19, 34)]),
+            "word 19: slot 9: a sibling of slot 8 that follows no such entry",
         ),
     ];
     for (words, finding) in cases {
@@ -146,6 +148,6 @@ fn a_misplaced_word_is_named() {
         assert_eq!(status, 1, "{finding}");
         assert!(out.lines().any(|line| line.trim_start() == finding), "{finding}, not {out}");
     }
-    let good = pool(0, &[(9, 1030), (14, 1030)]);
+    let good = pool(0, &[(10, 1030), (15, 1030)]);
     assert_eq!(tool(&["show", "-"], &bytes_of_words(&good)).0, 0);
 }

@@ -2,6 +2,7 @@ pub mod BoolLaws
 pub mod ListLaws
 pub mod BlockLaws
 pub mod BitLaws
+pub mod CountLaws
 pub mod NextBitLaws
 pub mod UpToLaws
 pub mod PlacingLaws

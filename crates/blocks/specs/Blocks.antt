@@ -21,6 +21,11 @@ abbrev pub bitsTo : (ℕ → Bool) → ℕ → ℕ
 bitsTo f zero = 0
 bitsTo f (suc j) = bitsTo f j + pick (f j) (2 ^ j) 0
 
+-- how many of the numbers below the given one have f
+abbrev pub countTo : (ℕ → Bool) → ℕ → ℕ
+countTo f zero = 0
+countTo f (suc j) = countTo f j + pick (f j) 1 0
+
 -- r is the least bit from o on that is set in a word w of so many bits, or the width exactly if there is none
 pub record NextBit (width w o r : ℕ) : Type 0 where
   pub past : o ≤ r

@@ -188,6 +188,7 @@ module _ (ws : List ℕ) (l : List Entry) (ν : Numbering) (R : Prescribes (pool
       let inside : any (within (tierOrder (suc v)) b) l ≡ true = has-within l (suc v) b t in
       all-words ws m l (raise ν) (height l) v b (I .shift-is)
       (I .owner-is ∙ level-owner valid (raise ν) v b)
+      (I .filled-is)
       (λ μ h. I .marks-are μ h ∙ marks-same l ν μ v b)
       (λ j h. let q : (slots * b + j) / slots ≡ b = omega arith in
       I .slots-are j h ∙ slot-same valid (raise ν) v (slots * b + j) (rw q inside))

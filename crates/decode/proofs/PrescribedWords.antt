@@ -26,7 +26,9 @@ use Rattle.layout.specs.Places.{Places, numberOf, numberIn}
 use Rattle.layout.specs.Pool.{poolOf}
 use Rattle.layout.specs.WellFormed.{Prescribed}
 use Rattle.layout.proofs.FreeLaws.{words-free}
-use Rattle.layout.proofs.NodeLaws.{get-shift, get-owner, get-mark, get-slot}
+use Rattle.layout.proofs.FieldLaws.{filled-same}
+use Rattle.layout.proofs.NodeLaws.{get-shift, get-owner, get-filled, get-mark, get-slot}
+use Rattle.tree.specs.Slots.{slot}
 use Rattle.layout.proofs.RenderWordLaws.{render-anchor, render-node}
 use Rattle.decode.proofs.Restrict.{hasLevel, Prescribes, NodeIs}
 use Rattle.decode.proofs.SameTree.{to-chain, has-same, lower, slot-same, marks-same, level-owner, head-same}
@@ -88,6 +90,9 @@ module _ (n : ℕ) (l : List Entry) (os : Places) (ws : List ℕ) (S : Prescribe
       record {
         shift-is = get-shift ws m l (numberIn os) (height l) v b w;
         owner-is = get-owner ws m l (numberIn os) (height l) v b w ∙ sym (level-owner (S .valid) (numberIn os) v b);
+        filled-is = get-filled ws m l (numberIn os) (height l) v b w
+            ∙ sym (filled-same (λ j. slot l (numberIn os) v (slots * b + j)) (poolOf ws .slot m)
+            (get-slot ws m l (numberIn os) (height l) v b w));
         marks-are = λ μ h. get-mark ws m l (numberIn os) (height l) v b w μ h
             ∙ sym (marks-same l (lower (numberIn os)) μ v b);
         slots-are = λ j h. let q : (slots * b + j) / slots ≡ b = omega arith in

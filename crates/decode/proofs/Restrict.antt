@@ -13,6 +13,7 @@ use Rattle.model.specs.declared.Entry.{Entry}
 use Rattle.model.specs.Model.{wordOk, covers, hasMark, marksOf}
 use Rattle.tree.specs.Tree.{height, tierOrder, slots}
 use Rattle.tree.specs.Slots.{nodeWord, siblingWord, Numbering}
+use Rattle.layout.specs.Words.{filledOf}
 use Rattle.layout.specs.Pool.{slotOf, Pool, Free, slotAt}
 use Rattle.layout.specs.Decode.{wide, levelOf, headNumber}
 
@@ -79,6 +80,7 @@ Chain lo (e ∷ l) hi = (lo ≤ e .base) × EntryGood e × Chain (e .base + 2 ^ 
 pub record NodeIs (P : Pool) (l : List Entry) (ν : Numbering) (n v b : ℕ) : Type 0 where
   pub shift-is : P .shift n ≡ tierOrder v + 1
   pub owner-is : P .owner n ≡ levelOwner l ν v b
+  pub filled-is : P .filled n ≡ filledOf (P .slot n)
   pub marks-are : (μ : ℕ) → μ < 3 → P .mark n μ ≡ levelMarks l ν μ v b
   pub slots-are : (j : ℕ) → j < slots → P .slot n j ≡ levelSlot l ν v (slots * b + j)
 

@@ -4,17 +4,17 @@ use mathlib.Core.Path.{_≡_, refl, sym, ap, ap₂, subst, _∙_}
 use mathlib.Core.Bool.{true, false}
 use mathlib.Core.List.{List}
 use mathlib.Core.Option.{Option, none, some}
-use mathlib.Core.Logic.{_≢_}
+use mathlib.Core.Logic.{_⊎_, inl, inr, _≢_}
 use native.Mathlib.Omega.{arith}
 use native.Mathlib.Nat.{le-refl, zero-add, zero-div, lt-of-mul-lt-mul-right}
 use lib.Dec.{leb, ltb, eqb}
 use lib.ListN.{length, getD}
 use borrow.Author.Tests.{leb-true, leb-false, eqb-true, eqb-false, ltb-true, ltb-false, le-leb, lt-leb, eq-eqb, ne-eqb}
-use Rattle.blocks.specs.Choice.{pick, both}
+use Rattle.blocks.specs.Choice.{pick}
 use Rattle.blocks.specs.Lists.{any, All, In}
 use Rattle.blocks.specs.Blocks.{block}
 use Rattle.blocks.proofs.BoolLaws.{clash, byT, both-l, both-r, both-no, either-yes}
-use Rattle.blocks.proofs.ListLaws.{All-map, All-without, any-split, look, each, any-in}
+use Rattle.blocks.proofs.ListLaws.{All-map, All-without, any-split, first-no, look, each, any-in}
 use Rattle.blocks.proofs.BlockLaws.{block-up, block-at, block-mono}
 use Rattle.blocks.proofs.BitLaws.{bits-same}
 use Rattle.model.specs.declared.Entry.{Entry}
@@ -35,14 +35,17 @@ use Rattle.tree.specs.Slots.{slot, Numbering}
 use Rattle.tree.specs.Tree.{slotMark, has, height, fits, Node, tierOrder, slots, topTier}
 use Rattle.tree.proofs.StoreLaws.{within-only}
 use Rattle.tree.proofs.HeightLaws.{height-fits, fits-base, fits-order, height-most}
-use Rattle.tree.proofs.SlotLaws.{tier-up, node-empty, empty-node, within-up}
+use Rattle.tree.proofs.SlotLaws.{tier-up, node-empty, empty-node, within-up, zero-within, zero-covering}
 use Rattle.tree.proofs.EraseLaws.{clear-slot-apart, clear-slot-inside, clear-slot-path, height-clear}
-use Rattle.layout.proofs.FieldLaws.{by-field, under-shift, under-owner, under-mark, under-slot}
-use Rattle.layout.proofs.NodeLaws.{get-owner, get-slot}
+use Rattle.layout.proofs.FieldLaws.{by-field, filled-same, under-shift, under-owner, under-filled, under-mark, under-slot}
+use Rattle.layout.proofs.NodeLaws.{get-owner, get-filled}
 use Rattle.layout.specs.Words.{
   fieldAt,
   fieldUnder,
   fieldSlot,
+  filledField,
+  filledOf,
+  slotWord,
   nodeEnd,
   place,
   poolWords,
@@ -52,6 +55,7 @@ use Rattle.layout.specs.Words.{
   countWord,
   spareWord,
   ownerPlace,
+  filledPlace,
   lastPlace,
   slotPlace,
   IsField,
@@ -63,10 +67,19 @@ use Rattle.lookup.specs.Views.{AtNode, Holds, Stands}
 use Rattle.lookup.proofs.WordLaws.{node-at}
 use Rattle.lookup.proofs.StandLaws.{covers-slot, after-is, wid-fits}
 use Rattle.marks.proofs.MarkLaws.{entry-in, entry-covers, one-apart, mark-old}
+use Rattle.erase.proofs.FilledLaws.{filled-none, filled-zero, filled-run, filled-under}
 use Rattle.erase.specs.Tall.{tallAt, Tall}
 use Rattle.erase.specs.Leaving.{cutAt, Cut, Unmarked}
 use Rattle.tree.proofs.NodeListLaws.{has-within, has-tier, has-low}
 use Rattle.layout.proofs.RenderWordLaws.{pool-length, place-of, pool-anchor, pool-node}
+
+-- field f of a node tells of its slot o
+abbrev pub Tells : ℕ → ℕ → Type 0
+Tells o f = (f ≡ fieldSlot o) ⊎ (f ≡ filledField)
+
+by-tells : (o f : ℕ) → Tells o f → (f ≡ fieldSlot o → ⊥) → (f ≡ filledField → ⊥) → ⊥
+by-tells o f (inl z) a b = a z
+by-tells o f (inr z) a b = b z
 
 module _ (l : List Entry) (val : Valid l) (i : ℕ) (e : Entry) (q : covering l i ≡ some e) (lone : e .marks ≡ 0) where
   abbrev l′ : List Entry
@@ -117,19 +130,21 @@ module _ (l : List Entry) (val : Valid l) (i : ℕ) (e : Entry) (q : covering l 
   unfolding slot
   slot-kept ν u c t = rw (t, within-was u c t)
 
-  fields-same : (h : ℕ) (ν : Numbering) (u b f : ℕ) → IsField f → ((o : ℕ) → o < slots → f ≡ fieldSlot o →
+  fields-same : (h : ℕ) (ν : Numbering) (u b f : ℕ) → IsField f → ((o : ℕ) → o < slots → Tells o f →
       slot (erase l i) ν (u - 1) (slots * b + o) ≡ slot l ν (u - 1) (slots * b + o)) →
       fieldUnder (erase l i) ν h u b f ≡ fieldUnder l ν h u b f
   fields-same h ν u b =
-      by-field (λ f. ((o : ℕ) → o < slots → f ≡ fieldSlot o →
+      by-field (λ f. ((o : ℕ) → o < slots → Tells o f →
       slot (erase l i) ν (u - 1) (slots * b + o) ≡ slot l ν (u - 1) (slots * b + o)) →
       fieldUnder (erase l i) ν h u b f ≡ fieldUnder l ν h u b f)
       (λ _. under-shift (erase l i) ν u b h ∙ sym (under-shift l ν u b h))
       (λ _. under-owner (erase l i) ν u b h ∙ sym (under-owner l ν u b h))
+      (λ s. under-filled (erase l i) ν u b h ∙ (filled-same (slotWord l ν u b) (slotWord (erase l i) ν u b)
+      (λ o g. s o g (inr refl)) ∙ sym (under-filled l ν u b h)))
       (λ x g _. under-mark (erase l i) ν u b h x g ∙ (bits-same (λ j. slotMark (erase l i) x (u - 1) (slots * b + j))
       (λ j. slotMark l x (u - 1) (slots * b + j)) slots (λ j _. marks-stay x (u - 1) (slots * b + j)) ∙ sym
       (under-mark l ν u b h x g)))
-      (λ o g s. under-slot (erase l i) ν u b h o ∙ (s o g refl ∙ sym (under-slot l ν u b h o)))
+      (λ o g s. under-slot (erase l i) ν u b h o ∙ (s o g (inl refl) ∙ sym (under-slot l ν u b h o)))
 
   -- a node off the entry's path lies apart from its run
   node-apart : (u b : ℕ) → any (within (tierOrder u) b) l ≡ true →
@@ -164,9 +179,9 @@ module _ (l : List Entry) (val : Valid l) (i : ℕ) (e : Entry) (q : covering l 
       (erase l i) ν h u b f
   off-tall h ν u b f pos le t ne = rw (le-leb u h le, within-stays u b (node-apart u b t ne), t)
 
-  -- a node on the path, above the entry's: only the path's slot may change
+  -- a node on the path, above the entry's: only the path's slot may change, and with it the count
   pub on-path : (h : ℕ) (ν : Numbering) (u f : ℕ) → 0 < u → e .order ≤ tierOrder (u - 1) → IsField f →
-      (f ≡ fieldSlot (block (tierOrder (u - 1)) i % slots) → any (within (tierOrder (u - 1)) (block (tierOrder (u - 1)) i))
+      (Tells (block (tierOrder (u - 1)) i % slots) f → any (within (tierOrder (u - 1)) (block (tierOrder (u - 1)) i))
       (erase l i) ≡ true) →
       fieldUnder (erase l i) ν h u (block (tierOrder u) i) f ≡ fieldUnder l ν h u (block (tierOrder u) i) f
   on-path h ν u f pos le lt path =
@@ -177,9 +192,34 @@ module _ (l : List Entry) (val : Valid l) (i : ℕ) (e : Entry) (q : covering l 
       byT (eqb (slots * block (tierOrder u) i + o) (block (tierOrder (u - 1)) i))
       (λ t. let d : slots * block (tierOrder u) i + o ≡ block (tierOrder (u - 1)) i = eqb-true _ _ t in
       let o≡ : o ≡ block (tierOrder (u - 1)) i % slots = omega arith in
-      rw d (slot-kept ν (u - 1) (block (tierOrder (u - 1)) i) (path (f≡ ∙ ap fieldSlot o≡))))
+      rw d (slot-kept ν (u - 1) (block (tierOrder (u - 1)) i) (path (subst (λ (x : ℕ). Tells x f) o≡ f≡))))
       (λ t. slot-stays ν (u - 1) (slots * block (tierOrder u) i + o)
       (apart-up i (e .order) (tierOrder (u - 1)) (slots * block (tierOrder u) i + o) le (eqb-false _ _ t))))
+
+  -- where the path's slot is emptied, the count is one less
+  pub path-counted : (h : ℕ) (ν : Numbering) (u : ℕ) → e .order ≤ tierOrder u →
+      any (within (tierOrder u) (block (tierOrder u) i)) l ≡ true →
+      any (within (tierOrder u) (block (tierOrder u) i)) (erase l i) ≡ false →
+      fieldUnder (erase l i) ν h (suc u) (block (tierOrder (suc u)) i) filledField + 1 ≡
+      fieldUnder l ν h (suc u) (block (tierOrder (suc u)) i) filledField
+  path-counted h ν u le was gone =
+      ap (λ (x : ℕ). x + 1) (filled-under (erase l i) ν h u (block (tierOrder (suc u)) i)) ∙
+      (filled-run (λ o. slot l ν u (slots * block (tierOrder (suc u)) i + o))
+      (λ o. slot (erase l i) ν u (slots * block (tierOrder (suc u)) i + o)) (block (tierOrder u) i % slots) 1
+      (omega arith)
+      (λ o lt out. slot-stays ν u (slots * block (tierOrder (suc u)) i + o)
+      (apart-up i (e .order) (tierOrder u) (slots * block (tierOrder (suc u)) i + o) le
+      (λ z. out (omega (arith, y)) (omega (arith, y)))))
+      (λ t lt z. clash was (zero-within l ν u (block (tierOrder u) i) (sorted-ok val) (rw (at-path t lt) at z)))
+      (λ t lt. rw (at-path t lt) (slot-path ν u gone))
+      ∙ sym (filled-under l ν h u (block (tierOrder (suc u)) i)))
+    where
+      y : block (tierOrder (suc u)) i ≡ block (tierOrder u) i / slots
+      y = tier-up u i
+
+      at-path : (t : ℕ) → t < 1 →
+          slots * block (tierOrder (suc u)) i + (block (tierOrder u) i % slots + t) ≡ block (tierOrder u) i
+      at-path t lt = omega (arith, y)
 
   -- what stays at one tier stays above
   pub path-up : (v d : ℕ) → any (within (tierOrder v) (block (tierOrder v) i)) (erase l i) ≡ true →
@@ -226,10 +266,6 @@ module _ {ws₀ : List ℕ} (s : WellFormed ws₀) {i v n : ℕ} {ws : List ℕ}
   cut-field f lt = let (a, b) = node-at s (c .at-node) in
       c .node n f a lt ∙ rw (b, lt-leb (suc v) v (le-refl (suc v)), le-leb (suc v) (suc v) (le-refl (suc v))) refl
 
-  cut-slot : (o : ℕ) → o < slots → getD ws (slotPlace n o) 0 ≡ slot (erase (s .list) i) (num s) v
-      (slots * block (tierOrder (suc v)) i + o)
-  cut-slot = get-slot ws n (erase (s .list) i) (num s) (height (s .list)) v (block (tierOrder (suc v)) i) cut-field
-
   pub cut-owner : getD ws (ownerPlace n) 0 ≡ pick (eqb (suc v) (height (s .list))) 0
       (1 + slots * num s (suc (suc v)) (block (tierOrder (suc v)) i / slots) + block (tierOrder (suc v)) i % slots)
   cut-owner = get-owner ws n (erase (s .list) i) (num s) (height (s .list)) v (block (tierOrder (suc v)) i) cut-field
@@ -237,20 +273,26 @@ module _ {ws₀ : List ℕ} (s : WellFormed ws₀) {i v n : ℕ} {ws : List ℕ}
   ok′ : All EntryOk (erase (s .list) i)
   ok′ = sorted-ok (erase-valid i (s .valid))
 
-  pub cut-empty : ((j : ℕ) → 0 ≤ j → j < slots → getD ws (slotPlace n j) 0 ≡ 0) →
+  cut-count : getD ws (filledPlace n) 0 ≡ filledOf (λ o. slot (erase (s .list) i) (num s) v
+      (slots * block (tierOrder (suc v)) i + o))
+  cut-count = get-filled ws n (erase (s .list) i) (num s) (height (s .list)) v (block (tierOrder (suc v)) i) cut-field
+
+  pub cut-empty : getD ws (filledPlace n) 0 ≡ 0 →
       any (within (tierOrder (suc v)) (block (tierOrder (suc v)) i)) (erase (s .list) i) ≡ false
   cut-empty z =
       node-empty (erase (s .list) i) (num s) v (block (tierOrder (suc v)) i) ok′
       (λ d y. let e : slots * block (tierOrder (suc v)) i + d % slots ≡ d = omega arith in
       subst (λ (x : ℕ). slot (erase (s .list) i) (num s) v x ≡ 0) e
-      (sym (cut-slot (d % slots) (omega arith)) ∙ z (d % slots) (omega arith) (omega arith)))
+      (filled-zero (λ o. slot (erase (s .list) i) (num s) v (slots * block (tierOrder (suc v)) i + o))
+      (sym cut-count ∙ z) (d % slots) (omega arith)))
 
-  pub cut-filled : (((j : ℕ) → 0 ≤ j → j < slots → getD ws (slotPlace n j) 0 ≡ 0) → ⊥) →
+  pub cut-filled : (getD ws (filledPlace n) 0 ≡ 0 → ⊥) →
       any (within (tierOrder (suc v)) (block (tierOrder (suc v)) i)) (erase (s .list) i) ≡ true
   cut-filled f =
       byT (any (within (tierOrder (suc v)) (block (tierOrder (suc v)) i)) (erase (s .list) i)) (λ t. t)
-      (λ t. absurd (f (λ j _ lt. cut-slot j lt ∙ empty-node (erase (s .list) i) (num s) v
-      (block (tierOrder (suc v)) i) t none-over (slots * block (tierOrder (suc v)) i + j) (omega arith))))
+      (λ t. absurd (f (cut-count ∙ filled-none (λ o. slot (erase (s .list) i) (num s) v
+      (slots * block (tierOrder (suc v)) i + o)) (λ j lt. empty-node (erase (s .list) i) (num s) v
+      (block (tierOrder (suc v)) i) t none-over (slots * block (tierOrder (suc v)) i + j) (omega arith)))))
     where
       none-over : All (λ x. tierOrder (suc v) ≤ x .order →
           covers (block (tierOrder (suc v)) i * 2 ^ (tierOrder (suc v))) x ≡ true → ⊥) (erase (s .list) i)
@@ -445,34 +487,53 @@ module _ {ws₀ : List ℕ} (s : WellFormed ws₀) {i v n : ℕ} {ws : List ℕ}
             let u : suc (suc v) ≡ suc v = ap (λ (p : Node). p .tier) e in omega arith,
       )
 
+      -- the count of the node over it, which is one less without it
+      over-filled : fieldUnder (erase (s .list) i) (num s) (height (s .list)) (suc (suc v))
+          (block (tierOrder (suc (suc v))) i) filledField + 1 ≡ getD ws (filledPlace ((p - 1) / slots)) 0
+      over-filled =
+          path-counted (s .list) (s .valid) i (c .entry) (c .covering-is) (c .unmarked) (height (s .list)) (num s)
+          (suc v) (omega (arith, c .low)) (was-there (suc v) (block (tierOrder (suc v)) i) (c .at-node .there)) gone ∙
+          sym (c .node ((p - 1) / slots) filledField (node-at s over .0) (omega arith) ∙ rw (
+            node-at s over .1,
+            lt-leb (suc (suc v)) v (omega arith),
+            lt-leb (suc (suc v)) (suc v) (le-refl (suc (suc v))),
+          ) refl)
+
+      pub over-counted : 1 ≤ getD ws (filledPlace ((p - 1) / slots)) 0
+      over-counted = omega (arith, over-filled)
+
       pub cut-next : {ws′ : List ℕ} → length ws′ ≡ length ws →
           ((j : ℕ) → poolWords n ≤ j → j < nodeEnd n → getD ws′ j 0 ≡ 0) →
           getD ws′ (slotPlace ((p - 1) / slots) ((p - 1) % slots)) 0 ≡ 0 →
+          getD ws′ (filledPlace ((p - 1) / slots)) 0 + 1 ≡ getD ws (filledPlace ((p - 1) / slots)) 0 →
           ((j : ℕ) → (poolWords n ≤ j → j < nodeEnd n → ⊥) →
-          j ≢ slotPlace ((p - 1) / slots) ((p - 1) % slots) → getD ws′ j 0 ≡ getD ws j 0) →
+          j ≢ slotPlace ((p - 1) / slots) ((p - 1) % slots) → j ≢ filledPlace ((p - 1) / slots) →
+          getD ws′ j 0 ≡ getD ws j 0) →
           Cut s i (suc v) ((p - 1) / slots) ws′
-      cut-next {ws′} len zeros slot₀ rest = record {
+      cut-next {ws′} len zeros slot₀ less rest = record {
         entry = c .entry;
         covering-is = c .covering-is;
         unmarked = c .unmarked;
         low = omega (arith, c .low);
         at-node = over;
         size = len ∙ c .size;
-        anchor = λ k lt. rest k (λ a b. omega arith) (omega arith) ∙ c .anchor k lt;
+        anchor = λ k lt. rest k (λ a b. omega arith) (omega arith) (omega arith) ∙ c .anchor k lt;
         node = λ m f q lt. byT (eqb m n) (λ t. let e : m ≡ n = eqb-true _ _ t in
             zeros (place m f) (omega arith) (omega arith) ∙ sym (freed m f e))
             (λ t. let ne : m ≡ n → ⊥ = eqb-false _ _ t in
-            byT (both (eqb m ((p - 1) / slots)) (eqb f (fieldSlot ((p - 1) % slots))))
-            (λ k. let m≡ : m ≡ (p - 1) / slots = eqb-true _ _
-            (both-l (eqb m ((p - 1) / slots)) (eqb f (fieldSlot ((p - 1) % slots))) k) in
-            let f≡ : f ≡ fieldSlot ((p - 1) % slots) = eqb-true _ _
-            (both-r (eqb m ((p - 1) / slots)) (eqb f (fieldSlot ((p - 1) % slots))) k) in
-            rw (m≡, f≡) (slot₀ ∙ sym cleared))
-            (λ k. let out : m ≡ (p - 1) / slots → f ≡ fieldSlot ((p - 1) % slots) →
-            ⊥ = λ x y. clash {b = both (eqb m ((p - 1) / slots)) (eqb f (fieldSlot ((p - 1) % slots)))}
-            (rw (eq-eqb m ((p - 1) / slots) x, eq-eqb f (fieldSlot ((p - 1) % slots)) y)) k in
-            rest (place m f) (λ a b. ne (omega arith)) (λ z. out (omega arith) (omega arith)) ∙
-            (c .node m f q lt ∙ go m f lt ne out (getD (s .places) m none) refl)));
+            byT (eqb m ((p - 1) / slots))
+            (λ k. let m≡ : m ≡ (p - 1) / slots = eqb-true _ _ k in
+            byT (eqb f (fieldSlot ((p - 1) % slots)))
+            (λ a. let f≡ : f ≡ fieldSlot ((p - 1) % slots) = eqb-true _ _ a in rw (m≡, f≡) (slot₀ ∙ sym cleared))
+            (λ a. let fs : f ≡ fieldSlot ((p - 1) % slots) → ⊥ = eqb-false _ _ a in
+            byT (eqb f filledField)
+            (λ b. let f≡ : f ≡ filledField = eqb-true _ _ b in rw (m≡, f≡) counted)
+            (λ b. let ff : f ≡ filledField → ⊥ = eqb-false _ _ b in
+            rest (place m f) (λ a b. ne (omega arith)) (λ z. fs (omega arith)) (λ z. ff (omega arith)) ∙
+            (c .node m f q lt ∙ go m f lt ne (λ _ z. by-tells ((p - 1) % slots) f z fs ff) (getD (s .places) m none) refl))))
+            (λ k. let nm : m ≡ (p - 1) / slots → ⊥ = eqb-false _ _ k in
+            rest (place m f) (λ a b. ne (omega arith)) (λ z. nm (omega arith)) (λ z. nm (omega arith)) ∙
+            (c .node m f q lt ∙ go m f lt ne (λ x. absurd (nm x)) (getD (s .places) m none) refl)));
       }
         where
           freed : (m f : ℕ) → m ≡ n → cutAt (s .list) (erase (s .list) i) (num s) (suc v) (getD (s .places) m none)
@@ -496,7 +557,17 @@ module _ {ws₀ : List ℕ} (s : WellFormed ws₀) {i v n : ℕ} {ws : List ℕ}
               (height (s .list)) ((p - 1) % slots) ∙ rw (w, d)
               (slot-path (s .list) (s .valid) i (c .entry) (c .covering-is) (c .unmarked) (num s) (suc v) gone))
 
-          go : (m f : ℕ) → IsField f → (m ≡ n → ⊥) → (m ≡ (p - 1) / slots → f ≡ fieldSlot ((p - 1) % slots) → ⊥) →
+          counted : getD ws′ (filledPlace ((p - 1) / slots)) 0 ≡ cutAt (s .list) (erase (s .list) i) (num s) (suc v)
+              (getD (s .places) ((p - 1) / slots) none) filledField
+          counted =
+              rw (
+                node-at s over .1,
+                lt-leb (suc (suc v)) (suc v) (le-refl (suc (suc v))),
+                le-leb (suc (suc v)) (suc (suc v)) (le-refl (suc (suc v))),
+              )
+              (omega (arith, less, over-filled))
+
+          go : (m f : ℕ) → IsField f → (m ≡ n → ⊥) → (m ≡ (p - 1) / slots → Tells ((p - 1) % slots) f → ⊥) →
               (o : Option Node) → getD (s .places) m none ≡ o → cutAt (s .list) (erase (s .list) i) (num s) v o f ≡
               cutAt (s .list) (erase (s .list) i) (num s) (suc v) o f
           go m f lt ne out none r = refl
@@ -519,8 +590,8 @@ module _ {ws₀ : List ℕ} (s : WellFormed ws₀) {i v n : ℕ} {ws : List ℕ}
               let w : x .tier - 1 ≡ suc v = omega arith in
               rw b′ (sym (on-path (s .list) (s .valid) i (c .entry) (c .covering-is) (c .unmarked)
               (height (s .list)) (num s) (x .tier) f pos (omega (arith, c .low)) lt
-              (λ z. absurd (out m≡ (z ∙ ap fieldSlot
-              (ap (λ (a : ℕ). block (tierOrder a) i % slots) w ∙ sym over-slot)))))))
+              (λ z. absurd (out m≡ (subst (λ (a : ℕ). Tells a f)
+              (ap (λ (a : ℕ). block (tierOrder a) i % slots) w ∙ sym over-slot) z))))))
               (λ b. sym (off-path (s .list) (s .valid) i (c .entry) (c .covering-is) (c .unmarked)
               (height (s .list)) (num s) (x .tier) (x .number) f pos (was-there (x .tier) (x .number) t)
               (λ _ z. eqb-false _ _ b z) lt))))
@@ -599,29 +670,78 @@ module _ {ws₀ : List ℕ} (s : WellFormed ws₀) {i v n o : ℕ} (h : Holds (s
         lt-of-mul-lt-mul-right (2 ^ (tierOrder v)) hi′ in
         f a (rw w at b)
 
+    B≡ : block (tierOrder (suc v)) i ≡ block (tierOrder v) (h .entry .base) / slots
+    B≡ = sym same-block ∙ tier-up v (h .entry .base)
+
+    -- all its slots are filled
+    run-filled : (t : ℕ) → t < 2 ^ r → slot (s .list) (num s) v (slots * block (tierOrder (suc v)) i + (o + t)) ≡ 0 → ⊥
+    run-filled t t< z =
+        let w : h .entry .order - tierOrder v ≡ r = omega arith in
+        let d : ℕ = slots * block (tierOrder (suc v)) i + (o + t) in
+        let k : covers (d * 2 ^ (tierOrder v)) (h .entry) ≡ true = covers-slot (s .valid) run-stands d
+        (omega (arith, B≡, h .slot-is)) (rw w (omega (arith, B≡, h .slot-is))) in
+        clash k (look (first-no (covers (d * 2 ^ (tierOrder v))) (s .list)
+        (zero-covering (s .list) (num s) v d (sorted-ok (s .valid)) z)) mem₀)
+
+    -- without it the node's count is less by as many
+    run-count : fieldUnder (erase (s .list) i) (num s) (height (s .list)) (suc v) (block (tierOrder (suc v)) i)
+        filledField + 2 ^ r ≡ getD ws₀ (filledPlace n) 0
+    run-count =
+        ap (λ (x : ℕ). x + 2 ^ r) (filled-under (erase (s .list) i) (num s) (height (s .list)) v
+        (block (tierOrder (suc v)) i)) ∙
+        (filled-run (λ j. slot (s .list) (num s) v (slots * block (tierOrder (suc v)) i + j))
+        (λ j. slot (erase (s .list) i) (num s) v (slots * block (tierOrder (suc v)) i + j)) o (2 ^ r) run-wide
+        (λ j lt out. slot-stays (s .list) (s .valid) i (h .entry) (h .covering-is) bare₀ (num s) v
+        (slots * block (tierOrder (suc v)) i + j) (out-run (slots * block (tierOrder (suc v)) i + j)
+        (λ x y. out (omega (arith, B≡, h .slot-is)) (omega (arith, B≡, h .slot-is)))))
+        run-filled
+        (λ t lt. slot-goes (s .list) (s .valid) i (h .entry) (h .covering-is) bare₀ (num s) v
+        (slots * block (tierOrder (suc v)) i + (o + t))
+        (in-run (slots * block (tierOrder (suc v)) i + (o + t)) (omega (arith, B≡, h .slot-is))
+        (omega (arith, B≡, h .slot-is))))
+        ∙ sym (pool-node s n filledField (node-at s at-i .0) (omega arith) ∙ (rw (node-at s at-i .1) refl ∙
+        filled-under (s .list) (num s) (height (s .list)) v (block (tierOrder (suc v)) i))))
+
+    pub run-counted : 2 ^ r ≤ getD ws₀ (filledPlace n) 0
+    run-counted = omega (arith, run-count)
+
     pub cut-start : {ws : List ℕ} → length ws ≡ length ws₀ →
+        getD ws (filledPlace n) 0 + 2 ^ r ≡ getD ws₀ (filledPlace n) 0 →
         ((j : ℕ) → slotPlace n o ≤ j → j < slotPlace n o + 2 ^ r → getD ws j 0 ≡ 0) →
-        ((j : ℕ) → j < slotPlace n o → getD ws j 0 ≡ getD ws₀ j 0) →
+        ((j : ℕ) → j < slotPlace n o → j ≢ filledPlace n → getD ws j 0 ≡ getD ws₀ j 0) →
         ((j : ℕ) → slotPlace n o + 2 ^ r ≤ j → getD ws j 0 ≡ getD ws₀ j 0) → Cut s i v n ws
-    cut-start {ws} len z b a = record {
+    cut-start {ws} len less z b a = record {
       entry = h .entry;
       covering-is = h .covering-is;
       unmarked = bare₀;
       low = h .high;
       at-node = at-i;
       size = len ∙ pool-length s;
-      anchor = λ k lt. b k (omega arith) ∙ pool-anchor s k lt;
+      anchor = λ k lt. b k (omega arith) (omega arith) ∙ pool-anchor s k lt;
       node = λ m f p lt. byT (ltb (place m f) (slotPlace n o))
-          (λ t. b (place m f) (ltb-true _ _ t) ∙ (pool-node s m f p lt ∙ go m f lt
-          (λ x y w. omega (arith, ltb-true, t)) (getD (s .places) m none) refl))
+          (λ t. byT (eqb (place m f) (filledPlace n))
+          (λ t′. let e : place m f ≡ filledPlace n = eqb-true _ _ t′ in
+          let m≡ : m ≡ n = omega arith in
+          let f≡ : f ≡ filledField = omega arith in
+          rw (m≡, f≡) counted)
+          (λ t′. let ne : place m f ≡ filledPlace n → ⊥ = eqb-false _ _ t′ in
+          b (place m f) (ltb-true _ _ t) ne ∙ (pool-node s m f p lt ∙ go m f lt
+          (λ x w y. omega (arith, ltb-true, t)) (λ x y. ne (omega arith)) (getD (s .places) m none) refl)))
           (λ t. byT (ltb (place m f) (slotPlace n o + 2 ^ r))
           (λ t′. inner m f lt (ltb-false _ _ t) (ltb-true _ _ t′))
           (λ t′. a (place m f) (ltb-false _ _ t′) ∙ (pool-node s m f p lt ∙ go m f lt
-          (λ x y w. omega (arith, ltb-false, t′)) (getD (s .places) m none) refl)));
+          (λ x y w. omega (arith, ltb-false, t′)) (λ x y. omega (arith, ltb-false, t′)) (getD (s .places) m none) refl)));
     }
       where
-        B≡ : block (tierOrder (suc v)) i ≡ block (tierOrder v) (h .entry .base) / slots
-        B≡ = sym same-block ∙ tier-up v (h .entry .base)
+        counted : getD ws (filledPlace n) 0 ≡ cutAt (s .list) (erase (s .list) i) (num s) v (getD (s .places) n none)
+            filledField
+        counted =
+            rw (
+              node-at s at-i .1,
+              lt-leb (suc v) v (le-refl (suc v)),
+              le-leb (suc v) (suc v) (le-refl (suc v)),
+            )
+            (omega (arith, less, run-count))
 
         slot-0 : (t : ℕ) → t < 2 ^ r → fieldUnder (erase (s .list) i) (num s) (height (s .list)) (suc v)
             (block (tierOrder (suc v)) i) (fieldSlot (o + t)) ≡ 0
@@ -652,11 +772,11 @@ module _ {ws₀ : List ℕ} (s : WellFormed ws₀) {i v n o : ℕ} (h : Holds (s
             (subst (λ (k : ℕ). fieldUnder (erase (s .list) i) (num s) (height (s .list)) (suc v)
             (block (tierOrder (suc v)) i) k ≡ 0) f≡ (slot-0 t t<)))
 
-        go : (m f : ℕ) → IsField f → (m ≡ n → fieldSlot o ≤ f → f < fieldSlot o + 2 ^ r → ⊥) → (x : Option Node) →
-            getD (s .places) m none ≡ x → fieldAt (s .list) (num s) x f ≡ cutAt (s .list) (erase (s .list) i) (num s)
-            v x f
-        go m f lt out none e = refl
-        go m f lt out (some p) e =
+        go : (m f : ℕ) → IsField f → (m ≡ n → fieldSlot o ≤ f → f < fieldSlot o + 2 ^ r → ⊥) →
+            (m ≡ n → f ≡ filledField → ⊥) → (x : Option Node) → getD (s .places) m none ≡ x →
+            fieldAt (s .list) (num s) x f ≡ cutAt (s .list) (erase (s .list) i) (num s) v x f
+        go m f lt out nf none e = refl
+        go m f lt out nf (some p) e =
             let (y, t) = place-of s m p e in
             let (pos, le) = has-tier (s .list) (p .tier) (p .number) t in
             let a : any (within (tierOrder (p .tier)) (p .number)) (s .list) ≡ true = has-within (s .list) (p .tier)
@@ -680,7 +800,8 @@ module _ {ws₀ : List ℕ} (s : WellFormed ws₀) {i v n o : ℕ} (h : Holds (s
             (p .tier) (p .number) f lt (λ o′ g₁ f≡. rw w
             (slot-stays (s .list) (s .valid) i (h .entry) (h .covering-is) bare₀ (num s) v
             (slots * p .number + o′) (out-run (slots * p .number + o′)
-            (λ x z. out m≡ (omega (arith, f≡, B≡, d′, h .slot-is)) (omega (arith, f≡, B≡, d′, h .slot-is)))))))
+            (λ x z. by-tells o′ f f≡ (λ f≡. out m≡ (omega (arith, f≡, B≡, d′, h .slot-is))
+            (omega (arith, f≡, B≡, d′, h .slot-is))) (nf m≡))))))
             (λ d. off-path (s .list) (s .valid) i (h .entry) (h .covering-is) bare₀ (height (s .list)) (num s)
             (p .tier) (p .number) f pos a (λ _ z. eqb-false _ _ d z) lt))))
             (λ k. rw (g, k)))

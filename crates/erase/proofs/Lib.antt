@@ -1,3 +1,4 @@
+pub mod FilledLaws
 pub mod LeavingLaws
 pub mod LowerLaws
 pub mod FreedLaws

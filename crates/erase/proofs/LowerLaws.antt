@@ -14,6 +14,7 @@ use Rattle.blocks.specs.Choice.{pick, both}
 use Rattle.blocks.specs.Lists.{any, All, In, here}
 use Rattle.blocks.specs.Blocks.{block}
 use Rattle.blocks.proofs.BoolLaws.{clash, byT, both-l, both-r, both-no}
+use Rattle.blocks.proofs.PlacingLaws.{none-some}
 use Rattle.blocks.proofs.ListLaws.{All-map, first-yes, look, each, any-in, in-any}
 use Rattle.model.specs.declared.Entry.{Entry}
 use Rattle.model.specs.Model.{covers, covering, within}
@@ -24,8 +25,8 @@ use Rattle.tree.proofs.SlotLaws.{node-empty, slot-num, within-up}
 use Rattle.tree.proofs.StoreLaws.{within-only}
 use Rattle.tree.proofs.HeightLaws.{Low, height-fits, fits-base, fits-order}
 use Rattle.tree.proofs.EraseLaws.{shrink, shrunk}
-use Rattle.layout.proofs.FieldLaws.{by-field, fields-same, at-shift, at-owner, at-mark, at-slot}
-use Rattle.layout.proofs.NodeLaws.{get-slot}
+use Rattle.layout.proofs.FieldLaws.{by-field, filled-same, fields-same, at-shift, at-owner, at-filled, at-mark, at-slot}
+use Rattle.layout.proofs.NodeLaws.{get-slot, get-filled}
 use Rattle.layout.specs.Words.{
   field,
   fieldUnder,
@@ -35,6 +36,7 @@ use Rattle.layout.specs.Words.{
   owner,
   ownerUnder,
   ownerField,
+  filledOf,
   markWord,
   slotWord,
   nodeEnd,
@@ -47,6 +49,7 @@ use Rattle.layout.specs.Words.{
   spareWord,
   anchorWords,
   ownerPlace,
+  filledPlace,
   lastPlace,
   slotPlace,
   IsField,
@@ -58,9 +61,10 @@ use Rattle.layout.specs.Pool.{slotOf}
 use Rattle.layout.specs.declared.Slot.{Slot}
 use Rattle.layout.specs.declared.Slot.the-variants.{Empty, Reserved, Held, Sibling, Child}
 use Rattle.layout.proofs.NumberLaws.{nd, prune-get, number-at, number-of}
-use Rattle.layout.proofs.SlotWordLaws.{View, view}
+use Rattle.layout.proofs.SlotWordLaws.{View, view, slot-empty}
 use Rattle.lookup.proofs.WayLaws.{view-child, view-empty, view-held, view-sibling}
 use Rattle.erase.specs.Tall.{stays, tallAt, Tall}
+use Rattle.erase.proofs.FilledLaws.{filled-none, filled-first, filled-one}
 
 -- a slot's word under another numbering
 module _ {n h : ℕ} {l : List Entry} {os : Places} {ws : List ℕ} (w : Tall n h l os ws) where
@@ -86,6 +90,10 @@ module _ {n h : ℕ} {l : List Entry} {os : Places} {ws : List ℕ} (w : Tall n 
   pub tall-slot : (u b o : ℕ) → suc u ≤ h → any (within (tierOrder (suc u)) b) l ≡ true → o < slots →
       getD ws (slotPlace (ν (suc u) b) o) 0 ≡ slot l ν u (slots * b + o)
   tall-slot u b o le t lt = get-slot ws (ν (suc u) b) l ν h u b (λ f q. tall-field (suc u) b f le t q) o lt
+
+  pub tall-filled : (u b : ℕ) → suc u ≤ h → any (within (tierOrder (suc u)) b) l ≡ true →
+      getD ws (filledPlace (ν (suc u) b)) 0 ≡ filledOf (λ o. slot l ν u (slots * b + o))
+  tall-filled u b le t = get-filled ws (ν (suc u) b) l ν h u b (λ f q. tall-field (suc u) b f le t q)
 
   -- entries lie under the head
   pub under : (x : Entry) → In x l → fits h x ≡ true
@@ -317,6 +325,8 @@ module _ {n h : ℕ} {l : List Entry} {os : Places} {ws : List ℕ} (w : Tall n 
               (p .tier) (p .number) f)
               (λ _. at-shift _ _ _ _ ∙ sym (at-shift _ _ _ _))
               (λ s. at-owner _ _ _ _ ∙ (owners t le s ∙ sym (at-owner _ _ _ _)))
+              (λ _. at-filled _ _ _ (slotWord l (numberIn os) (p .tier) (p .number)) ∙ sym
+              (at-filled _ _ _ (slotWord l (numberIn os) (p .tier) (p .number))))
               (λ x g _. at-mark _ _ (markWord l (numberIn os) (p .tier) (p .number)) _ x g ∙ sym
               (at-mark _ _ (markWord l (numberIn os) (p .tier) (p .number)) _ x g))
               (λ o g _. at-slot _ _ _ (slotWord l (numberIn os) (p .tier) (p .number)) o ∙ sym
@@ -345,15 +355,29 @@ module _ {k h : ℕ} {l : List Entry} {os : Places} {ws : List ℕ} (w₀ : Tall
   under-slot o lt = rw num₁ (tall-slot wide (h - 1) 0 o (le-refl (suc (h - 1))) there₁ lt ∙ ap
       (slot l (numberIn os) (h - 1)) (omega arith))
 
+  under-filled : getD ws (filledPlace n) 0 ≡ filledOf (slot l (numberIn os) (h - 1))
+  under-filled = rw num₁ (tall-filled wide (h - 1) 0 (le-refl (suc (h - 1))) there₁ ∙
+      filled-same (slot l (numberIn os) (h - 1)) (λ o. slot l (numberIn os) (h - 1) (slots * 0 + o))
+      (λ o _. ap (slot l (numberIn os) (h - 1)) (omega arith)))
+
+  -- not all its slots hold 0
+  not-all : ((d : ℕ) → d < slots → slot l (numberIn os) (h - 1) d ≡ 0) → ⊥
+  not-all z = clash there₁ (node-empty l (numberIn os) (h - 1) 0 (sorted-ok (w₀ .valid)) (λ d y. z d (omega arith)))
+
   -- the head stays
   stay : (height l ≤ h - 1 → ⊥) → ws ≡ render l (prune l os) k
   stay f = byT (leb (height l) (h - 1)) (λ t. absurd (f (leb-true _ _ t)))
       (λ t. let g : h - 1 < height l = leb-false _ _ t in tall-words w₀ (omega (arith, w₀ .fit)))
 
-  pub stay-vacant : (((j : ℕ) → 1 ≤ j → j < slots → getD ws (slotPlace n j) 0 ≡ 0) → ⊥) →
-      ws ≡ render l (prune l os) k
-  stay-vacant f = stay (λ le. f (λ j p q. under-slot j q ∙ shrunk l (w₀ .valid) (low w₀) (numberIn os) (h - 1) le j
-      p))
+  pub stay-filled : (getD ws (filledPlace n) 0 ≡ 1 → ⊥) → ws ≡ render l (prune l os) k
+  stay-filled f =
+      stay (λ le. f (under-filled ∙ filled-first (slot l (numberIn os) (h - 1))
+      (λ z. not-all (λ d _. byT (eqb d 0) (λ t. let e : d ≡ 0 = eqb-true _ _ t in rw e z)
+      (λ t. let e : d ≡ 0 → ⊥ = eqb-false _ _ t in rest le d (omega arith))))
+      (λ d p _. rest le d p)))
+    where
+      rest : height l ≤ h - 1 → (d : ℕ) → 1 ≤ d → slot l (numberIn os) (h - 1) d ≡ 0
+      rest le d p = shrunk l (w₀ .valid) (low w₀) (numberIn os) (h - 1) le d p
 
   module _ {x : ℕ} {s : Slot} (r : x ≡ getD ws (slotPlace n 0) 0) (q : s ≡ slotOf x) where
     word-is : x ≡ slot l (numberIn os) (h - 1) 0
@@ -400,21 +424,27 @@ module _ {k h : ℕ} {l : List Entry} {os : Places} {ws : List ℕ} (w₀ : Tall
         let y0 : y .base ≡ 0 = omega arith in
         b (ap (block (tierOrder (h - 1))) y0 ∙ zero-div (2 ^ (tierOrder (h - 1))))
 
-    module _ (vac : (j : ℕ) → 1 ≤ j → j < slots → getD ws (slotPlace n j) 0 ≡ 0) where
-      pub not-empty : s ≡ Empty → ⊥
-      not-empty e =
-          let (t, c) = view-empty seen-0 e in
-          clash there₁ (node-empty l (numberIn os) (h - 1) 0 (sorted-ok (w₀ .valid))
-          (λ d y. byT (eqb d 0) (λ f. let z : d ≡ 0 = eqb-true _ _ f in rw z (zero-word t c))
-          (λ f. let z : d ≡ 0 → ⊥ = eqb-false _ _ f in sym (under-slot d (omega arith)) ∙ vac d (omega arith)
-          (omega arith))))
-        where
-          zero-word : any (within (tierOrder (h - 1)) 0) l ≡ false → covering l (0 * 2 ^ (tierOrder (h - 1))) ≡ none →
-              slot l (numberIn os) (h - 1) 0 ≡ 0
-          zero-word t c = slot-none l (numberIn os) (h - 1) 0 t c
+    -- slot 0 is empty, and another is not
+    pub stay-empty : s ≡ Empty → getD ws (filledPlace n) 0 ≡ 1 → ws ≡ render l (prune l os) k
+    stay-empty e single =
+        let (t, c) = view-empty seen-0 e in
+        stay (λ le.
+        let z : filledOf (slot l (numberIn os) (h - 1)) ≡ 0 = filled-none (slot l (numberIn os) (h - 1))
+        (λ d _. byT (eqb d 0) (λ f. let y : d ≡ 0 = eqb-true _ _ f in rw y (slot-none l (numberIn os) (h - 1) 0 t c))
+        (λ f. let y : d ≡ 0 → ⊥ = eqb-false _ _ f in
+        shrunk l (w₀ .valid) (low w₀) (numberIn os) (h - 1) le d (omega arith))) in
+        let y : _≡_ {A = ℕ} 1 0 = sym single ∙ (under-filled ∙ z) in
+        omega arith)
 
-      lows : (any (within (tierOrder (h - 1)) 0) l ≡ true) ⊎ (h - 1 ≡ 0) → height l ≤ h - 1
-      lows c = drop-fit wide there₁ (λ d p lt. sym (under-slot d lt) ∙ vac d p lt) c
+    module _ (single : getD ws (filledPlace n) 0 ≡ 1) where
+      -- what shows something in slot 0 is alone
+      alone : (s ≡ Empty → ⊥) → (d : ℕ) → 1 ≤ d → d < slots → slot l (numberIn os) (h - 1) d ≡ 0
+      alone ne =
+          filled-one (slot l (numberIn os) (h - 1)) (sym under-filled ∙ single)
+          (λ z. ne (q ∙ (ap slotOf (word-is ∙ z) ∙ slot-empty)))
+
+      lows : (s ≡ Empty → ⊥) → (any (within (tierOrder (h - 1)) 0) l ≡ true) ⊎ (h - 1 ≡ 0) → height l ≤ h - 1
+      lows ne c = drop-fit wide there₁ (alone ne) c
 
       pub drop-child : (m : ℕ) → s ≡ Child m → {ws′ : List ℕ} → length ws′ ≡ length ws →
           ((j : ℕ) → poolWords n ≤ j → j < nodeEnd n → getD ws′ j 0 ≡ 0) →
@@ -423,7 +453,7 @@ module _ {k h : ℕ} {l : List Entry} {os : Places} {ws : List ℕ} (w₀ : Tall
           getD ws′ j 0 ≡ getD ws j 0) → Tall k (h - 1) l os ws′
       drop-child m e {ws′} len gone own head rest =
           let (t, y, _, ne) = under-child m e in
-          drop wide there₁ (lows (inl t)) len (rest countWord (λ p q. omega arith) (omega arith) (omega arith))
+          drop wide there₁ (lows (λ z. clash t (view-empty seen-0 z .0)) (inl t)) len (rest countWord (λ p q. omega arith) (omega arith) (omega arith))
           (head ∙ word-is) (rest marksWord (λ p q. omega arith) (omega arith) (omega arith))
           (rest spareWord (λ p q. omega arith) (omega arith) (omega arith))
           (λ f lt. subst (λ (z : ℕ). getD ws′ (place z f) 0 ≡ 0) num₁ (gone (place n f) (omega arith) (omega arith)))
@@ -436,7 +466,9 @@ module _ {k h : ℕ} {l : List Entry} {os : Places} {ws : List ℕ} (w₀ : Tall
           ((j : ℕ) → (poolWords n ≤ j → j < nodeEnd n → ⊥) → j ≢ headWord → getD ws′ j 0 ≡ getD ws j 0) →
           Tall k (h - 1) l os ws′
       drop-held e one {ws′} len gone head rest =
-          drop wide there₁ (lows (inr (omega arith))) len (rest countWord (λ p q. omega arith) (omega arith)) (head ∙ word-is)
+          let (y, _, c, _) = view-held seen-0 e in
+          drop wide there₁ (lows (λ z. none-some (sym (view-empty seen-0 z .1) ∙ c)) (inr (omega arith))) len
+          (rest countWord (λ p q. omega arith) (omega arith)) (head ∙ word-is)
           (rest marksWord (λ p q. omega arith) (omega arith)) (rest spareWord (λ p q. omega arith) (omega arith))
           (λ f lt. subst (λ (z : ℕ). getD ws′ (place z f) 0 ≡ 0) num₁ (gone (place n f) (omega arith) (omega arith)))
           (λ t. absurd (clash t (view-held seen-0 e .1)))

@@ -1,10 +1,10 @@
 -- What freeing a node leaves: its words 0, and the other words as they were.
-use Prim.Native.Nat.{ℕ, _≤_, _<_}
+use Prim.Native.Nat.{ℕ, _+_, _≤_, _<_}
 use mathlib.Core.Path.{_≡_}
 use mathlib.Core.Logic.{_≢_}
 use mathlib.Core.List.{List}
 use lib.ListN.{getD}
-use Rattle.layout.specs.Words.{poolWords, nodeEnd, headWord, ownerPlace, slotPlace}
+use Rattle.layout.specs.Words.{poolWords, nodeEnd, headWord, ownerPlace, filledPlace, slotPlace}
 
 -- the words from ws to ws′: those of node n became 0
 abbrev pub Gone : List ℕ → ℕ → Type 0
@@ -27,8 +27,9 @@ pub record Raised (ws ws′ : List ℕ) (n m x : ℕ) : Type 0 where
   pub head : getD ws′ headWord 0 ≡ x
   pub rest : (j : ℕ) → Outside n j → j ≢ ownerPlace m → j ≢ headWord → getD ws′ j 0 ≡ getD ws j 0
 
--- slot o of node m became 0
+-- slot o of node m became 0, and the filled count of m is one less
 pub record Unlinked (ws ws′ : List ℕ) (n m o : ℕ) : Type 0 where
   pub gone : Gone ws′ n
   pub cleared : m ≢ n → getD ws′ (slotPlace m o) 0 ≡ 0
-  pub rest : (j : ℕ) → Outside n j → j ≢ slotPlace m o → getD ws′ j 0 ≡ getD ws j 0
+  pub counted : m ≢ n → getD ws′ (filledPlace m) 0 + 1 ≡ getD ws (filledPlace m) 0
+  pub rest : (j : ℕ) → Outside n j → j ≢ slotPlace m o → j ≢ filledPlace m → getD ws′ j 0 ≡ getD ws j 0

@@ -8,30 +8,32 @@ use layout::SLOTS;
 use layout::Slot;
 use layout::clear_node;
 use layout::fill_slots;
+use layout::filled_of;
 use layout::lesser;
 use layout::owner_of;
 use layout::pow2;
+use layout::put_filled;
 use layout::put_owner;
 use layout::put_slot;
 use layout::read_slot;
 use layout::slot_word;
-use layout::vacant;
 use lookup::Located;
 use lookup::Spot;
 use lookup::locate;
 use lookup::order_of;
 use marks::climb;
 use model::Covered;
-ghost use Prim.Native.Nat.{ℕ, suc, _+_, _<_, _≤_};
+ghost use Prim.Native.Nat.{ℕ, suc, _+_, _-_, _<_, _≤_};
 ghost use mathlib.Core.Path.{_≡_};
 ghost use mathlib.Core.Bool.{Bool, true, false};
 ghost use mathlib.Core.List.{List};
+ghost use lib.ListN.{getD, set};
 ghost use Rattle.blocks.specs.Lists.{any};
 ghost use Rattle.model.specs.Model;
 ghost use Rattle.model.specs.Model.{within, covering, covered};
 ghost use Rattle.model.specs.declared.Entry.{Entry};
 ghost use Rattle.tree.specs.Tree.{slots, tierOrder, height};
-ghost use Rattle.layout.specs.Words.{lastPlace, slotPlace};
+ghost use Rattle.layout.specs.Words.{lastPlace, filledPlace, slotPlace};
 ghost use Rattle.layout.specs.Places.{Places, numberIn, prune, render};
 ghost use Rattle.layout.specs.Fill.{filled};
 ghost use Rattle.layout.specs.WellFormed.{WellFormed, InUse, num};
@@ -68,13 +70,25 @@ fn raise(pool: &mut [u64], n: u64, m: u64, x: u64)
     free_head(pool, n, x);
 }
 
-// Frees node n, and empties slot o of node m, which leads to it.
+// Takes c from the filled count of node n.
+fn uncount(pool: &mut [u64], n: u64, c: u64)
+    requires { do ⌜ filledPlace n < (← ⟦pool.len()⟧) ⌝ }
+    requires { ⌜ c ≤ getD (now pool) (filledPlace n) 0 ⌝ }
+    ensures { λ _. ⌜ now (pool .exit) ≡ set (now (pool .entry)) (filledPlace n) (getD (now (pool .entry)) (filledPlace n) 0 - c) ⌝ }
+{
+    let left = filled_of(pool, n) - c;
+    put_filled(pool, n, left);
+}
+
+// Frees node n, and empties slot o of node m, which leads to it; m has one filled slot less.
 fn unlink(pool: &mut [u64], n: u64, m: u64, o: u64)
     requires { do ⌜ lastPlace n < (← ⟦pool.len()⟧) ⌝ }
     requires { do ⌜ lastPlace m < (← ⟦pool.len()⟧) ⌝ }
     requires { ⌜ o < slots ⌝ }
+    requires { ⌜ 1 ≤ getD (now pool) (filledPlace m) 0 ⌝ }
     ensures { λ _. ⌜ Unlinked (now (pool .entry)) (now (pool .exit)) n m o ⌝ }
 {
+    uncount(pool, m, 1);
     put_slot(pool, m, o, 0);
     clear_node(pool, n);
 }
@@ -89,7 +103,7 @@ fn drop_head(pool: &mut [u64], n: u64, h: u64) -> bool
         any (within (tierOrder h) 0) l ≡ true → n ≡ numberIn os h 0 → Dropped r k h l os (now (pool .exit))) ⌝ }
     ensures { λ r. ⌜ ((low : ℕ) → (r ≡ true → low ≤ n) → Spares low (now (pool .entry)) (now (pool .exit))) ⌝ }
 {
-    if !vacant(pool, n, 1, SLOTS) {
+    if filled_of(pool, n) != 1 {
         return false;
     }
     let x = slot_word(pool, n, 0);
@@ -170,7 +184,7 @@ fn empty_slots(pool: &mut [u64], n: u64, o: u64, c: u64)
     fill_slots(pool, n, o, 0, c);
 }
 
-// Empties the slots of the entry that covers i.
+// Empties the slots of the entry that covers i, and takes them from the node's filled count.
 fn cut_run(pool: &mut [u64], i: u64, at: Spot)
     requires { ⌜ Leaves i (at .node) (at .tier) (at .slot) (at .top) (now pool) ⌝ }
     ensures { λ _. ⌜ ((s : WellFormed (now (pool .entry))) →
@@ -182,6 +196,7 @@ fn cut_run(pool: &mut [u64], i: u64, at: Spot)
     let o = at.slot;
     let k = order_of(pool, n, o);
     let c = pow2(k);
+    uncount(pool, n, c);
     empty_slots(pool, n, o, c);
 }
 
@@ -198,7 +213,7 @@ fn prune_up(pool: &mut [u64], i: u64, first: u64, tier: u64, low: u64) -> u64
     let mut v = tier;
     let mut floor = low;
     loop {
-        if !vacant(pool, n, 0, SLOTS) {
+        if filled_of(pool, n) != 0 {
             return floor;
         }
         floor = lesser(floor, n);

@@ -9,14 +9,15 @@ use native.Mathlib.Omega.{arith}
 use lib.ListN.{length}
 use lib.Dec.{leb, T}
 use borrow.Author.Tests.{leb-true, leb-false, lt-ltb, le-ltb, le-leb, lt-leb, eq-eqb, ne-eqb}
-use Rattle.blocks.specs.Choice.{pick}
-use Rattle.blocks.proofs.BoolLaws.{byT}
+use Rattle.blocks.specs.Choice.{pick, either}
+use Rattle.blocks.proofs.BoolLaws.{byT, clash, is-false, either-e}
 use Rattle.model.specs.declared.Entry.{Entry}
 use Rattle.model.specs.Model.{
   covering,
   present,
   covered,
   storable,
+  enterable,
   reserved,
   reservedWord,
   maxOrder,
@@ -29,6 +30,7 @@ use Rattle.model.specs.Model.{
 }
 use Rattle.model.specs.ByBlock as B
 use Rattle.model.proofs.AlignedLaws.{store-is}
+use Rattle.model.proofs.ValidLaws.{storable-enters}
 use Rattle.tree.specs.Tree.{nodes, needed}
 use Rattle.marks.proofs.RemarkLaws.{new-nodes-remark, places-remark, places-then-remark}
 use Rattle.layout.specs.Places.{Places, newPlaces, prune, freeCount, render}
@@ -38,13 +40,12 @@ use Rattle.layout.proofs.StayLaws.{same-places, places-prune}
 use Rattle.lookup.specs.Load.{load, loaded, depth}
 use Rattle.lookup.specs.Find.{anyMark, find}
 use Rattle.store.specs.declared.Stored.{Stored}
-use Rattle.store.specs.declared.Stored.the-variants.{Done, Short}
+use Rattle.store.specs.declared.Stored.the-variants.{Done, Short, Taken}
 use Rattle.store.specs.Stored.{Holding, Stores, Reserves, taken, tried}
 use Rattle.store.proofs.AfterLaws.{after-done}
 use Rattle.erase.proofs.FreedLaws.{in-use-remark}
-use Rattle.store.specs.declared.Reserving.{Reserving}
 use Rattle.batch.specs.declared.Command.{Command}
-use Rattle.batch.specs.declared.Command.the-variants.{Store, Load, Erase, Find, Reserve}
+use Rattle.batch.specs.declared.Command.the-variants.{Store, Load, Erase, Mark, Unmark, Find, Reserve}
 use Rattle.batch.specs.declared.Reply.{Reply}
 use Rattle.batch.specs.Reply.{answered}
 use Rattle.execute.specs.Execute.{
@@ -63,12 +64,14 @@ use Rattle.execute.specs.Execute.{
   noBudget,
   tooFewNodes,
 }
-use Rattle.execute.proofs.ExecuteLaws.{erase-new, short-11, enough-0, taken-15, reserve-11, reserve-0}
+use Rattle.execute.proofs.ExecuteLaws.{index-aligned, erase-new, short-11, enough-0, taken-15, reserve-11, reserve-0}
 use Rattle.execute.specs.Contracts.{
   coveredReply,
   loadedReply,
-  triedReply,
   reservedReply,
+  putting,
+  Put,
+  putOf,
   remarking,
   replyTo,
   wordsTo,
@@ -218,6 +221,12 @@ module _ {ws : List ℕ} (s : WellFormed ws) (i : ℕ) {x : Stored} {q : Reply} 
     short = λ _. (e, refl);
   }
 
+  pub settles-taken : x ≡ Taken → Settles s i x q ws
+  settles-taken d = record {
+    done = λ o c. let w : _≡_ {A = ℕ} 0 1 = cc in absurd (omega arith);
+    short = λ o. let w : _≡_ {A = ℕ} 0 1 = cc in absurd (omega arith);
+  }
+
 -- done, or short of nodes: exactly as the free nodes are enough. Crate store leaves ws₁, in ws′ mark 2 is clear as well
 module _ {ws ws₁ : List ℕ} (s : WellFormed ws) (i k w : ℕ) {x : Stored} (i< : i < 2 ^ 64) (w< : w < 2 ^ 64)
     (k≤ : k ≤ maxOrder) (st : storable w ≡ true)
@@ -297,7 +306,7 @@ module _ {ws : List ℕ} (s : WellFormed ws) (i : ℕ) where
   reserved-list = store (s .list) i 0 reservedWord
 
   module _ {ws′ : List ℕ} {q : Reply} {x : Stored} (c : covering (s .list) i ≡ none)
-      (r : Stores (s .n) (s .list) (s .places) reserved-list i ws ws′ x) (e : q ≡ triedReply x) where
+      (r : Stores (s .n) (s .list) (s .places) reserved-list i ws ws′ x) (e : q ≡ reservedReply x) where
     free-count : freeCount (s .places) ≡ s .n - length (nodes (s .list))
     free-count = omega (arith, free-places (s .n) (s .list) (s .places) (s .placed))
 
@@ -309,7 +318,7 @@ module _ {ws : List ℕ} (s : WellFormed ws) (i : ℕ) where
         reserve-0 (s .n) (s .list) i c (omega (arith, free-count)) in
         record {
           reply-is =
-              e ∙ ap triedReply (o .outcome-is) ∙ sym (ap (replyOf 135 0) (o .covering-is))
+              e ∙ ap reservedReply (o .outcome-is) ∙ sym (ap (replyOf 135 0) (o .covering-is))
               ∙ sym (ap (λ (y : Executed). y .reply) a);
           words-are = o .words-are ∙ sym (words-after s (Reserve i) (ap (λ (y : Executed). y .list) a));
         }
@@ -318,13 +327,13 @@ module _ {ws : List ℕ} (s : WellFormed ws) (i : ℕ) where
     reserve-less d =
         let (o, f) = r .short d in
         subst (λ (v : List ℕ). Executes s (Reserve i) q v) (sym f)
-        (leaves s (Reserve i) (reserve-11 (s .n) (s .list) i c (omega (arith, free-count))) (e ∙ ap triedReply o))
+        (leaves s (Reserve i) (reserve-11 (s .n) (s .list) i c (omega (arith, free-count))) (e ∙ ap reservedReply o))
 
-  pub reserves : {ws′ : List ℕ} {q : Reply} {x : Reserving} → Reserves (s .n) (s .list) (s .places) i ws ws′ x → q ≡ reservedReply x →
-      Executes s (Reserve i) q ws′
-  reserves {q = q} (taken e c w) r = subst (λ (v : List ℕ). Executes s (Reserve i) q v) (sym w)
-      (leaves s (Reserve i) (taken-15 (s .n) (s .list) i c) r)
-  reserves (tried x c h) r =
+  pub reserves : {ws′ : List ℕ} {q : Reply} {x : Stored} → Reserves (s .n) (s .list) (s .places) i ws ws′ x →
+      q ≡ reservedReply x → Executes s (Reserve i) q ws′
+  reserves {q = q} (taken e c w o) r = subst (λ (v : List ℕ). Executes s (Reserve i) q v) (sym w)
+      (leaves s (Reserve i) (taken-15 (s .n) (s .list) i c) (r ∙ ap reservedReply o))
+  reserves (tried c h) r =
       byT (leb (needed (s .list) reserved-list) (freeCount (s .places))) (λ d. reserve-full c h r (leb-true _ _ d))
       (λ d. reserve-less c h r (leb-false _ _ d))
 
@@ -337,3 +346,71 @@ leaves-words s c {q} e r = leaves s c {r = replyTo s c} (λ i. record { reply = 
 pub by-command : {ws ws′ : List ℕ} (s : WellFormed ws) {c d : Command} {q : Reply} → c ≡ d → Executes s d q ws′ →
     Executes s c q ws′
 by-command {ws′ = ws′} s {q = q} e x = subst (λ (y : Command). Executes s y q ws′) (sym e) x
+
+-- A STORE OR A RESERVATION
+either-both : (a b : Bool) → either a b ≡ false → (a ≡ false) × (b ≡ false)
+either-both true b e = absurd (clash refl e)
+either-both false b e = (refl, e)
+
+module _ (i k w : ℕ) {b : Bool} where
+  pub put-store : {ws ws′ : List ℕ} (s : WellFormed ws) {q : Reply} → b ≡ false → Executes s (Store i k w) q ws′ →
+      Executes s (putting i k w b) q ws′
+  put-store s f x = by-command s (ap (putting i k w) f) x
+
+  pub put-reserve : {ws ws′ : List ℕ} (s : WellFormed ws) {q : Reply} → b ≡ true → Executes s (Reserve i) q ws′ →
+      Executes s (putting i k w b) q ws′
+  put-reserve s t x = by-command s (ap (putting i k w) t) x
+
+  module _ (f : b ≡ true → (k ≡ 0) × (w ≡ reservedWord)) where
+    -- what refuses a store's fields does not refuse a reservation's
+    pub put-order : maxOrder < k → b ≡ false
+    put-order h = is-false (λ t. let o : k ≡ 0 = f t .0 in omega (arith, h, o))
+
+    pub put-index : aligned k i ≡ false → b ≡ false
+    put-index a = is-false (λ t. clash (subst (λ (y : ℕ). aligned y i ≡ true) (sym (f t .0)) (index-aligned i)) a)
+
+    pub put-enters : either b (storable w) ≡ true → T (enterable k w)
+    put-enters e = either-e b (storable w) e
+        (λ t. subst (λ (y : ℕ). T (enterable y w)) (sym (f t .0)) (subst (λ (y : ℕ). T (enterable 0 y)) (sym (f t .1)) tt))
+        (λ t. storable-enters k w (subst T (sym t) tt))
+
+  pub put-word : either b (storable w) ≡ false → (b ≡ false) × (storable w ≡ false)
+  put-word e = either-both b (storable w) e
+
+  pub put-storable : either b (storable w) ≡ true → b ≡ false → storable w ≡ true
+  put-storable e f = either-e b (storable w) e (λ t. absurd (clash t f)) (λ t. t)
+
+-- the words stay after the command
+pub words-stay : {ws ws₁ ws′ : List ℕ} (s : WellFormed ws) {c : Command} {q : Reply} → ws′ ≡ ws₁ → Executes s c q ws₁ →
+    Executes s c q ws′
+words-stay s {c} {q} e x = subst (λ (v : List ℕ). Executes s c q v) (sym e) x
+
+pub use-stays : {ws₁ ws′ : List ℕ} {low : ℕ} → ws′ ≡ ws₁ → InUse low ws₁ → InUse low ws′
+use-stays {low = low} e u = subst (InUse low) (sym e) u
+
+-- the command, by what it asks of a store
+pub put-is : (c : Command) {p : Put} → p ≡ putOf c → p .is ≡ true → c ≡ putting (p .index) (p .order) (p .word) (p .reserve)
+put-is c e =
+    subst (λ (y : Put). y .is ≡ true → c ≡ putting (y .index) (y .order) (y .word) (y .reserve)) (sym e) (go c)
+  where
+    go : (c : Command) → let y = putOf c in y .is ≡ true → c ≡ putting (y .index) (y .order) (y .word) (y .reserve)
+    go (Store i k w) t = refl
+    go (Load i) t = absurd (clash t refl)
+    go (Erase i) t = absurd (clash t refl)
+    go (Mark i m) t = absurd (clash t refl)
+    go (Unmark i m) t = absurd (clash t refl)
+    go (Find a z f k) t = absurd (clash t refl)
+    go (Reserve i) t = refl
+
+pub put-bare : (c : Command) {p : Put} → p ≡ putOf c → p .reserve ≡ true → (p .order ≡ 0) × (p .word ≡ reservedWord)
+put-bare c e =
+    subst (λ (y : Put). y .reserve ≡ true → (y .order ≡ 0) × (y .word ≡ reservedWord)) (sym e) (go c)
+  where
+    go : (c : Command) → putOf c .reserve ≡ true → (putOf c .order ≡ 0) × (putOf c .word ≡ reservedWord)
+    go (Store i k w) t = absurd (clash t refl)
+    go (Load i) t = absurd (clash t refl)
+    go (Erase i) t = absurd (clash t refl)
+    go (Mark i m) t = absurd (clash t refl)
+    go (Unmark i m) t = absurd (clash t refl)
+    go (Find a z f k) t = absurd (clash t refl)
+    go (Reserve i) t = (refl, refl)

@@ -7,19 +7,18 @@ use mathlib.Core.Option.{some}
 use Rattle.model.specs.declared.Entry.{Entry}
 use Rattle.model.specs.declared.Covered.{Covered}
 use Rattle.model.specs.declared.Covered.the-variants.{Nothing, By}
-use Rattle.model.specs.Model.{matchedMark, covering, covered, remark}
+use Rattle.model.specs.Model.{reservedWord, matchedMark, covering, covered, remark}
 use Rattle.layout.specs.Places.{render}
 use Rattle.layout.specs.WellFormed.{WellFormed}
 use Rattle.lookup.specs.declared.Loaded.{Loaded}
 use Rattle.lookup.specs.declared.Loaded.the-variants.{Absent, Present}
 use Rattle.batch.specs.declared.Command.{Command}
-use Rattle.batch.specs.declared.Command.the-variants.{Mark, Unmark}
+use Rattle.batch.specs.declared.Command.the-variants.{Store, Load, Erase, Mark, Unmark, Find, Reserve}
 use Rattle.batch.specs.declared.Reply.{Reply}
 use Rattle.batch.specs.Reply.{answered, answeredBy}
 use Rattle.store.specs.declared.Stored.{Stored}
-use Rattle.store.specs.declared.Stored.the-variants.{Done, Short}
-use Rattle.store.specs.declared.Reserving.{Reserving}
-use Rattle.store.specs.declared.Reserving.the-variants.{Taken, Tried}
+use Rattle.store.specs.declared.Stored.the-variants.{Done, Short, Taken}
+pub use Rattle.execute.specs.declared.Put.{Put}
 use Rattle.execute.specs.Execute.{absent, tooFewNodes, isTaken, execute}
 use Rattle.execute.specs.State.{State, next}
 
@@ -34,13 +33,28 @@ loadedReply t (Absent d) = answered t absent 0 d
 loadedReply t (Present e d) = answeredBy t e d
 
 -- the reply by what a reservation comes to
-abbrev pub triedReply : Stored → Reply
-triedReply (Done e) = answeredBy 135 e 0
-triedReply Short = answered 135 tooFewNodes 0 0
-
-abbrev pub reservedReply : Reserving → Reply
+abbrev pub reservedReply : Stored → Reply
+reservedReply (Done e) = answeredBy 135 e 0
+reservedReply Short = answered 135 tooFewNodes 0 0
 reservedReply Taken = answered 135 isTaken 0 0
-reservedReply (Tried x) = triedReply x
+
+-- a store, or a reservation
+abbrev pub putting : (i k w : ℕ) → Bool → Command
+putting i k w false = Store i k w
+putting i k w true = Reserve i
+
+-- what a command asks of a store
+abbrev pub noPut : Put
+noPut = record { is = false; index = 0; order = 0; word = 0; reserve = false }
+
+abbrev pub putOf : Command → Put
+putOf (Store i k w) = record { is = true; index = i; order = k; word = w; reserve = false }
+putOf (Load i) = noPut
+putOf (Erase i) = noPut
+putOf (Mark i m) = noPut
+putOf (Unmark i m) = noPut
+putOf (Find a z f k) = noPut
+putOf (Reserve i) = record { is = true; index = i; order = 0; word = reservedWord; reserve = true }
 
 -- the command that sets a mark, or clears it
 abbrev pub remarking : (i m : ℕ) → Bool → Command

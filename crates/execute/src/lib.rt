@@ -9,19 +9,18 @@ use lookup::Outcome;
 use model::Covered;
 use model::Entry;
 use model::shown_word;
-use store::Reserving;
 use store::Stored;
 ghost use mathlib.Core.Path.{_≡_};
-ghost use mathlib.Core.Bool.{false};
+ghost use mathlib.Core.Bool.{true, false};
 ghost use mathlib.Core.Option.{some};
 ghost use Prim.Native.Nat.{ℕ, _≤_};
-ghost use Rattle.blocks.specs.Choice.{pick};
-ghost use Rattle.model.specs.Model.{storable, maxOrder, aligned, matchedMark, covering, covered, remark};
+ghost use Rattle.blocks.specs.Choice.{pick, either};
+ghost use Rattle.model.specs.Model.{storable, reservedWord, maxOrder, aligned, matchedMark, covering, covered, remark};
 ghost use Rattle.layout.specs.Places.{render};
 ghost use Rattle.layout.specs.WellFormed.{WellFormed, InUse};
 ghost use Rattle.batch.specs.Reply.{answered, answeredBy};
 ghost use Rattle.execute.specs.Execute.{finding};
-ghost use Rattle.execute.specs.Contracts.{coveredReply, loadedReply, triedReply, reservedReply, asStored};
+ghost use Rattle.execute.specs.Contracts.{coveredReply, loadedReply, reservedReply, asStored, putting, putOf, noPut};
 ghost use Rattle.execute.specs.Contracts.{remarking, replyTo, Settles, Executes};
 
 // The answers that stand in a reply, and the reply's tags.
@@ -75,6 +74,15 @@ const MATCHED: u64 = 2;
 pub struct Execution {
     pub reply: Reply,
     pub low: u64,
+}
+
+// What a command asks of a store, if it is one or a reservation.
+struct Put {
+    is: bool,
+    index: u64,
+    order: u64,
+    word: u64,
+    reserve: bool,
 }
 
 // An answer with an index and a count, all else 0.
@@ -136,21 +144,14 @@ fn found_reply(x: Outcome) -> Reply
     }
 }
 
-fn tried_reply(x: Stored) -> Reply
-    ensures { λ r. ⌜ r ≡ triedReply x ⌝ }
+// The reply to a reservation by what it came to.
+fn reserved_reply(x: Stored) -> Reply
+    ensures { λ r. ⌜ r ≡ reservedReply x ⌝ }
 {
     match x {
         Stored::Done(e) => answered_by(RESERVED, e, 0),
         Stored::Short => answered(RESERVED, TOO_FEW_NODES, 0, 0),
-    }
-}
-
-fn reserved_reply(x: Reserving) -> Reply
-    ensures { λ r. ⌜ r ≡ reservedReply x ⌝ }
-{
-    match x {
-        Reserving::Taken => answered(RESERVED, TAKEN, 0, 0),
-        Reserving::Tried(o) => tried_reply(o),
+        Stored::Taken => answered(RESERVED, TAKEN, 0, 0),
     }
 }
 
@@ -162,6 +163,16 @@ fn is_storable(word: u64) -> bool
         return false;
     }
     word % 4 != 2
+}
+
+// A store's word, or that of a reservation.
+fn is_enterable(word: u64, reserve: bool) -> bool
+    ensures { λ r. ⌜ r ≡ either reserve (storable word) ⌝ }
+{
+    if reserve {
+        return true;
+    }
+    is_storable(word)
 }
 
 // A store's index is a multiple of 2^order (R180).
@@ -262,7 +273,7 @@ fn unmatch(pool: &mut [u64], index: u64, e: Entry) -> Reply
     answered_by(STORED, e, 0)
 }
 
-// The reply to a store by what it came to.
+// The reply to a store by what it came to; only a reservation comes to the last.
 fn stored_reply(pool: &mut [u64], index: u64, x: Stored) -> Reply
     requires { ⌜ WellFormed (now pool) ⌝ }
     ensures { λ r. ⌜ ((s : WellFormed (now (pool .entry))) → Settles s index x r (now (pool .exit))) ⌝ }
@@ -270,14 +281,37 @@ fn stored_reply(pool: &mut [u64], index: u64, x: Stored) -> Reply
     match x {
         Stored::Done(e) => unmatch(pool, index, e),
         Stored::Short => answered(STORED, TOO_FEW_NODES, 0, 0),
+        Stored::Taken => answered(STORED, TOO_FEW_NODES, 0, 0),
     }
 }
 
-fn run_store(pool: &mut [u64], index: u64, order: u64, word: u64, low: u64) -> Execution
+// The reply to a store, or to a reservation, by what it came to.
+fn put_reply(pool: &mut [u64], index: u64, x: Stored, reserve: bool) -> Reply
+    requires { ⌜ (reserve ≡ false → WellFormed (now pool)) ⌝ }
+    ensures { λ r. ⌜ (reserve ≡ true → (r ≡ reservedReply x) × (now (pool .exit) ≡ now (pool .entry))) ⌝ }
+    ensures { λ r. ⌜ (reserve ≡ false → (s : WellFormed (now (pool .entry))) → Settles s index x r (now (pool .exit))) ⌝ }
+{
+    if reserve {
+        return reserved_reply(x);
+    }
+    stored_reply(pool, index, x)
+}
+
+// A store; or a reservation, which is a store of order 0 with its word where nothing covers the index. Both have the one
+// call of crate store, so that it is inlined.
+fn run_store(
+    pool: &mut [u64],
+    index: u64,
+    order: u64,
+    word: u64,
+    reserve: bool,
+    low: u64,
+) -> Execution
     requires { ⌜ WellFormed (now pool) ⌝ }
     requires { ⌜ InUse low (now pool) ⌝ }
+    requires { ⌜ (reserve ≡ true → (order ≡ 0) × (word ≡ reservedWord)) ⌝ }
     ensures { λ r. ⌜ ((s : WellFormed (now (pool .entry))) →
-        Executes s (Command.Store index order word) (r .reply) (now (pool .exit))) ⌝ }
+        Executes s (putting index order word reserve) (r .reply) (now (pool .exit))) ⌝ }
     ensures { λ r. ⌜ InUse (r .low) (now (pool .exit)) ⌝ }
 {
     if order > MAX_ORDER {
@@ -287,14 +321,14 @@ fn run_store(pool: &mut [u64], index: u64, order: u64, word: u64, low: u64) -> E
         };
     }
     let aligned = is_aligned(index, order);
-    let storable = is_storable(word);
+    let enterable = is_enterable(word, reserve);
     if !aligned {
         return Execution {
             reply: answered(STORED, NOT_ALIGNED, 0, 0),
             low: low,
         };
     }
-    if !storable {
+    if !enterable {
         return Execution {
             reply: answered(STORED, NOT_STORABLE, 0, 0),
             low: low,
@@ -304,37 +338,80 @@ fn run_store(pool: &mut [u64], index: u64, order: u64, word: u64, low: u64) -> E
     let outcome = r.outcome;
     let next = r.low;
     Execution {
-        reply: stored_reply(pool, index, outcome),
+        reply: put_reply(pool, index, outcome, reserve),
         low: next,
     }
 }
 
-// A reservation: a store of order 0 where nothing covers the index.
-fn run_reserve(pool: &mut [u64], index: u64, low: u64) -> Execution
-    requires { ⌜ WellFormed (now pool) ⌝ }
-    requires { ⌜ InUse low (now pool) ⌝ }
-    ensures { λ r. ⌜ ((s : WellFormed (now (pool .entry))) →
-        Executes s (Command.Reserve index) (r .reply) (now (pool .exit))) ⌝ }
-    ensures { λ r. ⌜ InUse (r .low) (now (pool .exit)) ⌝ }
+// No store and no reservation.
+fn no_put() -> Put
+    ensures { λ r. ⌜ r ≡ noPut ⌝ }
 {
-    let r = store::reserve(pool, index, low);
-    let outcome = r.outcome;
-    let next = r.low;
-    Execution {
-        reply: reserved_reply(outcome),
-        low: next,
+    Put {
+        is: false,
+        index: 0,
+        order: 0,
+        word: 0,
+        reserve: false,
     }
 }
 
-// One command: its reply, and the number below which every node is in use.
-pub fn execute(pool: &mut [u64], c: Command, low: u64) -> Execution
+// What a command asks of a store.
+fn as_put(c: Command) -> Put
+    ensures { λ r. ⌜ r ≡ putOf c ⌝ }
+{
+    match c {
+        Command::Store { index, order, word } => Put {
+            is: true,
+            index: index,
+            order: order,
+            word: word,
+            reserve: false,
+        },
+        Command::Load { index: _ } => no_put(),
+        Command::Erase { index: _ } => no_put(),
+        Command::Mark { index: _, mark: _ } => no_put(),
+        Command::Unmark { index: _, mark: _ } => no_put(),
+        Command::Find {
+            first: _,
+            last: _,
+            filter: _,
+            budget: _,
+        } => no_put(),
+        Command::Reserve { index } => Put {
+            is: true,
+            index: index,
+            order: 0,
+            word: model::RESERVED,
+            reserve: true,
+        },
+    }
+}
+
+// For the commands that run_other is not called with.
+fn nothing(low: u64) -> Execution
+    ensures { λ r. ⌜ r .low ≡ low ⌝ }
+{
+    Execution {
+        reply: answered(STORED, ORDER_ABOVE, 0, 0),
+        low: low,
+    }
+}
+
+// Any command but a store and a reservation.
+fn run_other(pool: &mut [u64], c: Command, low: u64) -> Execution
     requires { ⌜ WellFormed (now pool) ⌝ }
     requires { ⌜ InUse low (now pool) ⌝ }
+    requires { ⌜ putOf c .is ≡ false ⌝ }
     ensures { λ r. ⌜ ((s : WellFormed (now (pool .entry))) → Executes s c (r .reply) (now (pool .exit))) ⌝ }
     ensures { λ r. ⌜ InUse (r .low) (now (pool .exit)) ⌝ }
 {
     match c {
-        Command::Store { index, order, word } => run_store(pool, index, order, word, low),
+        Command::Store {
+            index: _,
+            order: _,
+            word: _,
+        } => nothing(low),
         Command::Load { index } => Execution {
             reply: run_load(pool, index),
             low: low,
@@ -357,6 +434,20 @@ pub fn execute(pool: &mut [u64], c: Command, low: u64) -> Execution
             reply: run_find(pool, first, last, filter, budget),
             low: low,
         },
-        Command::Reserve { index } => run_reserve(pool, index, low),
+        Command::Reserve { index: _ } => nothing(low),
     }
+}
+
+// One command: its reply, and the number below which every node is in use.
+pub fn execute(pool: &mut [u64], c: Command, low: u64) -> Execution
+    requires { ⌜ WellFormed (now pool) ⌝ }
+    requires { ⌜ InUse low (now pool) ⌝ }
+    ensures { λ r. ⌜ ((s : WellFormed (now (pool .entry))) → Executes s c (r .reply) (now (pool .exit))) ⌝ }
+    ensures { λ r. ⌜ InUse (r .low) (now (pool .exit)) ⌝ }
+{
+    let p = as_put(c);
+    if p.is {
+        return run_store(pool, p.index, p.order, p.word, p.reserve, low);
+    }
+    run_other(pool, c, low)
 }

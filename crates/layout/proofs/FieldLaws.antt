@@ -1,7 +1,7 @@
 -- The fields of a node: a law for each, all by their kinds, and two nodes compared.
 use Prim.Native.Nat.{ℕ, suc, _+_, _*_, _-_, _/_, _<_, _≤_}
-use mathlib.Core.Path.{_≡_, refl, sym, subst, _∙_}
-use mathlib.Core.Bool.{true, false}
+use mathlib.Core.Path.{_≡_, refl, sym, ap, subst, _∙_}
+use mathlib.Core.Bool.{true, false, not}
 use mathlib.Core.List.{List}
 use native.Mathlib.Omega.{arith}
 use lib.Dec.{leb, ltb, eqb}
@@ -10,6 +10,7 @@ use Rattle.blocks.specs.Choice.{both}
 use Rattle.blocks.specs.Blocks.{bitsTo}
 use Rattle.blocks.proofs.BoolLaws.{byT, both-l, both-r, clash}
 use Rattle.blocks.proofs.BitLaws.{bits-same}
+use Rattle.blocks.proofs.CountLaws.{count-same}
 use Rattle.model.specs.declared.Entry.{Entry}
 use Rattle.model.specs.Model.{markCount}
 use Rattle.tree.specs.Slots.{Numbering, slot}
@@ -18,9 +19,11 @@ use Rattle.layout.specs.Words.{
   IsField,
   shiftField,
   ownerField,
+  filledField,
   markField,
   slotField,
   isMark,
+  filledOf,
   fieldOf,
   shiftWord,
   owner,
@@ -50,6 +53,10 @@ module _ (shift owner : ℕ) (mark slot : ℕ → ℕ) where
   unfolding fieldOf
   at-owner = refl
 
+  pub at-filled : fieldOf shift owner mark slot filledField ≡ filledOf slot
+  unfolding fieldOf
+  at-filled = refl
+
   pub at-mark : (m : ℕ) → m < markCount → fieldOf shift owner mark slot (markField + m) ≡ mark m
   unfolding fieldOf
   at-mark m h =
@@ -57,6 +64,7 @@ module _ (shift owner : ℕ) (mark slot : ℕ → ℕ) where
       rw (
         ne-eqb (markField + m) shiftField (omega arith),
         ne-eqb (markField + m) ownerField (omega arith),
+        ne-eqb (markField + m) filledField (omega arith),
         is-mark m h,
         e,
       )
@@ -68,25 +76,33 @@ module _ (shift owner : ℕ) (mark slot : ℕ → ℕ) where
       rw (
         ne-eqb (slotField + o) shiftField (omega arith),
         ne-eqb (slotField + o) ownerField (omega arith),
+        ne-eqb (slotField + o) filledField (omega arith),
         no-mark o,
         e,
       )
 
 -- every field is one of these kinds
-pub by-field : (Q : ℕ → Type 0) → Q shiftField → Q ownerField → ((m : ℕ) → m < markCount → Q (markField + m)) →
+pub by-field : (Q : ℕ → Type 0) → Q shiftField → Q ownerField → Q filledField → ((m : ℕ) → m < markCount → Q (markField + m)) →
     ((o : ℕ) → o < slots → Q (slotField + o)) → (f : ℕ) → IsField f → Q f
-by-field Q a b c d f h =
+by-field Q a b z c d f h =
     byT (eqb f shiftField) (λ t. subst Q (sym (eqb-true _ _ t)) a)
     (λ t₀. byT (eqb f ownerField) (λ t. subst Q (sym (eqb-true _ _ t)) b)
-    (λ t₁. let ne₀ : f ≡ shiftField → ⊥ = eqb-false _ _ t₀ in
+    (λ t₁. byT (eqb f filledField) (λ t. subst Q (sym (eqb-true _ _ t)) z)
+    (λ t₂. let ne₀ : f ≡ shiftField → ⊥ = eqb-false _ _ t₀ in
     let ne₁ : f ≡ ownerField → ⊥ = eqb-false _ _ t₁ in
+    let ne₂ : f ≡ filledField → ⊥ = eqb-false _ _ t₂ in
     byT (ltb f (markField + markCount))
     (λ t. let lt : f < markField + markCount = ltb-true _ _ t in
     let e : markField + (f - markField) ≡ f = omega arith in
     subst Q e (c (f - markField) (omega arith)))
     (λ t. let ge : markField + markCount ≤ f = ltb-false _ _ t in
     let e : slotField + (f - slotField) ≡ f = omega arith in
-    subst Q e (d (f - slotField) (omega arith)))))
+    subst Q e (d (f - slotField) (omega arith))))))
+
+pub filled-same : (slot slot′ : ℕ → ℕ) → ((o : ℕ) → o < slots → slot′ o ≡ slot o) → filledOf slot′ ≡ filledOf slot
+filled-same slot slot′ d =
+    count-same (λ o. not (eqb (slot′ o) 0)) (λ o. not (eqb (slot o) 0)) slots
+    (λ o h. ap (λ (x : ℕ). not (eqb x 0)) (d o h))
 
 -- two nodes with the same words
 pub fields-same : (s s′ w w′ : ℕ) (mark mark′ slot slot′ : ℕ → ℕ) → s′ ≡ s → w′ ≡ w →
@@ -96,6 +112,7 @@ fields-same s s′ w w′ mark mark′ slot slot′ a b c d =
     by-field (λ f. fieldOf s′ w′ mark′ slot′ f ≡ fieldOf s w mark slot f)
     (at-shift s′ w′ mark′ slot′ ∙ (a ∙ sym (at-shift s w mark slot)))
     (at-owner s′ w′ mark′ slot′ ∙ (b ∙ sym (at-owner s w mark slot)))
+    (at-filled s′ w′ mark′ slot′ ∙ (filled-same slot slot′ d ∙ sym (at-filled s w mark slot)))
     (λ m h. at-mark s′ w′ mark′ slot′ m h ∙ (c m h ∙ sym (at-mark s w mark slot m h)))
     (λ o h. at-slot s′ w′ mark′ slot′ o ∙ (d o h ∙ sym (at-slot s w mark slot o)))
 
@@ -108,6 +125,9 @@ module _ (l : List Entry) (ν : Numbering) (u b : ℕ) where
     pub under-owner : fieldUnder l ν h u b ownerField ≡ ownerUnder h ν u b
     under-owner = at-owner _ _ _ _
 
+    pub under-filled : fieldUnder l ν h u b filledField ≡ filledOf (slotWord l ν u b)
+    under-filled = at-filled _ _ _ _
+
     pub under-mark : (m : ℕ) → m < markCount → fieldUnder l ν h u b (markField + m) ≡ markWord l ν u b m
     under-mark m g = at-mark _ _ (markWord l ν u b) _ m g
 
@@ -119,6 +139,9 @@ module _ (l : List Entry) (ν : Numbering) (u b : ℕ) where
 
   pub field-owner : field l ν u b ownerField ≡ owner l ν u b
   field-owner = at-owner _ _ _ _
+
+  pub field-filled : field l ν u b filledField ≡ filledOf (slotWord l ν u b)
+  field-filled = at-filled _ _ _ _
 
   pub field-mark : (m : ℕ) → m < markCount →
       field l ν u b (markField + m) ≡ bitsTo (λ j. slotMark l m (u - 1) (slots * b + j)) slots

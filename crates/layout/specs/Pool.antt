@@ -15,6 +15,7 @@ use Rattle.layout.specs.Words.{
   place,
   shiftField,
   ownerField,
+  filledField,
   markField,
   slotField,
 }
@@ -44,6 +45,7 @@ pub record Pool : Type 0 where
   pub marks : ℕ
   pub shift : ℕ → ℕ
   pub owner : ℕ → ℕ
+  pub filled : ℕ → ℕ
   pub mark : ℕ → ℕ → ℕ
   pub slot : ℕ → ℕ → ℕ
 
@@ -55,6 +57,7 @@ poolOf ws =
       marks = getD ws marksWord 0;
       shift = λ n. getD ws (place n shiftField) 0;
       owner = λ n. getD ws (place n ownerField) 0;
+      filled = λ n. getD ws (place n filledField) 0;
       mark = λ n m. getD ws (place n (markField + m)) 0;
       slot = λ n j. getD ws (place n (slotField + j)) 0;
     }
@@ -63,6 +66,7 @@ poolOf ws =
 pub record Free (P : Pool) (n : ℕ) : Type 0 where
   pub shift-is : P .shift n ≡ 0
   pub owner-is : P .owner n ≡ 0
+  pub filled-is : P .filled n ≡ 0
   pub marks-are : (m : ℕ) → m < markCount → P .mark n m ≡ 0
   pub slots-are : (j : ℕ) → j < slots → P .slot n j ≡ 0
 

@@ -1,12 +1,12 @@
 -- The words of the pool (R27 to R30): the layout's constants, and each word of the anchor and of a node. Here alone
 -- stands which field of a node is which; other crates use the places by name, and the laws of layout/proofs/FieldLaws.
 use Prim.Native.Nat.{ℕ, suc, _+_, _*_, _-_, _/_, _%_, _<_}
-use mathlib.Core.Bool.{Bool}
+use mathlib.Core.Bool.{Bool, not}
 use mathlib.Core.List.{List}
 use mathlib.Core.Option.{Option, none, some}
 use lib.Dec.{leb, ltb, eqb}
 use Rattle.blocks.specs.Choice.{pick, both}
-use Rattle.blocks.specs.Blocks.{bitsTo}
+use Rattle.blocks.specs.Blocks.{bitsTo, countTo}
 use Rattle.model.specs.declared.Entry.{Entry}
 use Rattle.model.specs.Model.{marksOf, markCount}
 use Rattle.tree.specs.Tree.{slotBits, slots, tierOrder, height, Node, slotMark}
@@ -17,7 +17,7 @@ abbrev pub anchorWords : ℕ
 anchorWords = 4
 
 abbrev pub nodeWords : ℕ
-nodeWords = 69
+nodeWords = 70
 
 abbrev pub maxNodes : ℕ
 maxNodes = 1000
@@ -61,11 +61,14 @@ shiftField = 0
 abbrev pub ownerField : ℕ
 ownerField = 1
 
+abbrev pub filledField : ℕ
+filledField = 2
+
 abbrev pub markField : ℕ
-markField = 2
+markField = 3
 
 abbrev pub slotField : ℕ
-slotField = 5
+slotField = 6
 
 abbrev pub lastField : ℕ
 lastField = nodeWords - 1
@@ -81,12 +84,15 @@ fieldMark m = markField + m
 abbrev pub fieldSlot : ℕ → ℕ
 fieldSlot o = slotField + o
 
--- the places of the words of node n: its shift, its owner, the word of mark m, slot o; and its last word
+-- the places of the words of node n: its shift, its owner, its filled count, the word of mark m, slot o; and its last word
 abbrev pub shiftPlace : ℕ → ℕ
 shiftPlace n = place n shiftField
 
 abbrev pub ownerPlace : ℕ → ℕ
 ownerPlace n = place n ownerField
+
+abbrev pub filledPlace : ℕ → ℕ
+filledPlace n = place n filledField
 
 abbrev pub markPlace : ℕ → ℕ → ℕ
 markPlace n m = place n (fieldMark m)
@@ -101,13 +107,18 @@ lastPlace n = place n lastField
 abbrev pub isMark : ℕ → Bool
 isMark f = both (leb markField f) (ltb f (markField + markCount))
 
+-- R220: how many of a node's slots are not 0
+abbrev pub filledOf : (slot : ℕ → ℕ) → ℕ
+filledOf slot = countTo (λ o. not (eqb (slot o) 0)) slots
+
 -- R29: field f of a node, by its first two words, its mark words and its slots
 unfoldable pub fieldOf : (shift owner : ℕ) → (mark slot : ℕ → ℕ) → ℕ → ℕ
 fieldOf shift owner mark slot f =
     pick (eqb f shiftField) shift
     (pick (eqb f ownerField) owner
+    (pick (eqb f filledField) (filledOf slot)
     (pick (isMark f) (mark (f - markField))
-    (slot (f - slotField))))
+    (slot (f - slotField)))))
 
 -- shift + 1, for a node of tier u
 abbrev pub shiftWord : ℕ → ℕ

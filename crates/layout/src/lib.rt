@@ -9,7 +9,7 @@ ghost use lib.ListN.{getD, set};
 ghost use Rattle.blocks.specs.Blocks.{block, bit, NextBit};
 ghost use Rattle.tree.specs.Tree.{slots, tierOrder, topTier};
 ghost use Rattle.tree.specs.Slots.{siblingWord, nodeWord};
-ghost use Rattle.layout.specs.Words.{nodeWords, shiftPlace, ownerPlace, markPlace, slotPlace, lastPlace};
+ghost use Rattle.layout.specs.Words.{nodeWords, shiftPlace, ownerPlace, filledPlace, markPlace, slotPlace, lastPlace};
 ghost use Rattle.layout.specs.Words.{shiftWord, ownerWord};
 ghost use Rattle.layout.specs.Pool.{slotOf, siblingBit, poolOf, Free};
 ghost use Rattle.layout.specs.Reading.{Decides, Internal, Blank, Vacant, Plain, NextFilled};
@@ -18,7 +18,7 @@ ghost use Rattle.layout.specs.Fill.{filled, cleared};
 // The layout's constants, as specs/Words has them.
 pub const ANCHOR_WORDS: u64 = 4;
 
-pub const NODE_WORDS: u64 = 69;
+pub const NODE_WORDS: u64 = 70;
 
 pub const MAX_NODES: u64 = 1000;
 
@@ -34,9 +34,11 @@ const SHIFT_FIELD: u64 = 0;
 
 const OWNER_FIELD: u64 = 1;
 
-const MARK_FIELD: u64 = 2;
+const FILLED_FIELD: u64 = 2;
 
-const SLOT_FIELD: u64 = 5;
+const MARK_FIELD: u64 = 3;
+
+const SLOT_FIELD: u64 = 6;
 
 pub const SLOT_BITS: u64 = 6;
 
@@ -105,6 +107,14 @@ pub fn owner_of(pool: &[u64], n: u64) -> u64
     pool[(ANCHOR_WORDS + NODE_WORDS * n + OWNER_FIELD) as usize]
 }
 
+// How many slots of node n are not 0.
+pub fn filled_of(pool: &[u64], n: u64) -> u64
+    requires { do ⌜ filledPlace n < (← ⟦pool.len()⟧) ⌝ }
+    ensures { λ r. ⌜ r ≡ getD (now (pool .entry)) (filledPlace n) 0 ⌝ }
+{
+    pool[(ANCHOR_WORDS + NODE_WORDS * n + FILLED_FIELD) as usize]
+}
+
 // The word of mark m of node n.
 pub fn mark_word(pool: &[u64], n: u64, m: u64) -> u64
     requires { do ⌜ markPlace n m < (← ⟦pool.len()⟧) ⌝ }
@@ -141,6 +151,13 @@ pub fn put_owner(pool: &mut [u64], n: u64, x: u64)
     ensures { λ _. ⌜ now (pool .exit) ≡ set (now (pool .entry)) (ownerPlace n) x ⌝ }
 {
     pool[(ANCHOR_WORDS + NODE_WORDS * n + OWNER_FIELD) as usize] = x;
+}
+
+pub fn put_filled(pool: &mut [u64], n: u64, x: u64)
+    requires { do ⌜ filledPlace n < (← ⟦pool.len()⟧) ⌝ }
+    ensures { λ _. ⌜ now (pool .exit) ≡ set (now (pool .entry)) (filledPlace n) x ⌝ }
+{
+    pool[(ANCHOR_WORDS + NODE_WORDS * n + FILLED_FIELD) as usize] = x;
 }
 
 pub fn put_mark_word(pool: &mut [u64], n: u64, m: u64, x: u64)

@@ -37,8 +37,17 @@ use Rattle.tree.proofs.StoreLaws.{marked-only}
 use Rattle.tree.proofs.HeightLaws.{Low, height-fits, fits-base}
 use Rattle.tree.proofs.SlotLaws.{tier-up, mark-up, mark-down}
 use Rattle.tree.proofs.RelabelLaws.{mapO, any-map, within-map, covering-map, height-map}
-use Rattle.layout.specs.Words.{field, fieldMark, ownerUnder, anchorWord, marksWord, IsField}
-use Rattle.layout.proofs.FieldLaws.{by-field, field-shift, field-owner, field-mark, field-slot, level-mark}
+use Rattle.layout.specs.Words.{field, fieldMark, slotWord, ownerUnder, anchorWord, marksWord, IsField}
+use Rattle.layout.proofs.FieldLaws.{
+  by-field,
+  filled-same,
+  field-shift,
+  field-owner,
+  field-filled,
+  field-mark,
+  field-slot,
+  level-mark,
+}
 use Rattle.marks.proofs.BitSetLaws.{set-bits}
 use Rattle.model.proofs.MarkLaws.{marks-bits, marks-of-bits}
 use Rattle.marks.specs.Climb.{Markable}
@@ -186,6 +195,8 @@ module _ (l : List Entry) (val : Valid l) (i : ℕ) (e : Entry) (q : covering l 
         by-field (λ k. (k ≡ fieldMark m → c ≡ block (tierOrder u) (e .base) → ⊥) → field l′ ν u c k ≡ field l ν u c k)
         (λ _. field-shift l′ ν u c ∙ sym (field-shift l ν u c))
         (λ _. field-owner l′ ν u c ∙ (ap (λ (x : ℕ). ownerUnder x ν u c) same-height ∙ sym (field-owner l ν u c)))
+        (λ _. field-filled l′ ν u c ∙ (filled-same (slotWord l ν u c) (slotWord l′ ν u c)
+        (λ o g. same-slot ν (u - 1) (slots * c + o)) ∙ sym (field-filled l ν u c)))
         (λ x g ne. field-mark l′ ν u c x g ∙ (bits-same (λ j. slotMark l′ x (u - 1) (slots * c + j))
         (λ j. slotMark l x (u - 1) (slots * c + j)) slots
         (λ j lt. mark-off x (u - 1) (slots * c + j) g

@@ -28,7 +28,20 @@ use Rattle.tree.proofs.HeightLaws.{height-fits, fits-i, fits-base, fits-tall}
 use Rattle.tree.proofs.NeededLaws.{path-up}
 use Rattle.tree.proofs.SlotLaws.{tier-up, zero-starts}
 use Rattle.tree.proofs.StoreLaws.{within-only}
-use Rattle.layout.specs.Words.{place, shiftField, ownerField, fieldSlot, shiftWord, field, fieldAt, shiftPlace, ownerPlace, slotPlace, IsField}
+use Rattle.layout.specs.Words.{
+  place,
+  shiftField,
+  ownerField,
+  fieldSlot,
+  shiftWord,
+  field,
+  fieldAt,
+  shiftPlace,
+  ownerPlace,
+  filledPlace,
+  slotPlace,
+  IsField,
+}
 use Rattle.layout.specs.Places.{Places, numberIn, freeCount, newPlaces, render}
 use Rattle.layout.specs.WellFormed.{WellFormed, InUse, num}
 use Rattle.layout.proofs.OwnerLaws.{parent, owner-same}
@@ -41,13 +54,37 @@ use Rattle.plan.specs.Plan.{Plan, Found, Walked, before, freeAt}
 use Rattle.plan.proofs.AfterStore.{lows, tops, has-path}
 use Rattle.plan.proofs.FreeNumbers.{none-before, size-is}
 use Rattle.plan.proofs.FreshNumbers.{Tiers, tiers-same, needed-is, path-number}
-use Rattle.write.specs.Writes.{span, offset, joins, headAt, linked, entered, Laid, built}
+use Rattle.write.specs.Writes.{span, offset, joins, headAt, linked, entered, pathCounts, settled, Laid, built}
 use Rattle.store.specs.Stored.{AtGap, Stores, Done, Short, entryOf}
-use Rattle.store.proofs.FinalWords.{Long, Right, EdgeAt, set-stays, joins-same, joins-split, joins-keeps, joins-stay}
+use Rattle.store.proofs.FinalWords.{
+  Long,
+  Right,
+  EdgeAt,
+  Counts,
+  PathFinal,
+  path-counts,
+  path-makes,
+  set-stays,
+  joins-same,
+  joins-split,
+  joins-keeps,
+  joins-stay,
+}
 use Rattle.store.proofs.Target.{field₁, field₁-shift, field₁-owner, field₁-slot, X, X-anchor, X-node, num-lt, edge-of}
 use Rattle.store.proofs.PathWords.{shift-ok, owner-ok, head-ok}
 use Rattle.write.proofs.RunLaws.{run-fits, run-slot}
-use Rattle.store.proofs.EmptyRange.{has-keeps, in-use-after, stores-unmarked, path-chain-entry}
+use Rattle.store.proofs.SlotCounts.{filledAt}
+use Rattle.store.proofs.FilledWords.{
+  enterable-some,
+  path-more,
+  path-one,
+  entry-one,
+  entry-more,
+  was-filled,
+  path-stays,
+  all-filled,
+}
+use Rattle.store.proofs.EmptyRange.{has-keeps, was-free, freed, in-use-after, stores-unmarked, path-chain-entry}
 use Rattle.store.proofs.Outcomes.{low-le, low-used}
 use Rattle.tree.proofs.NodeListLaws.{has-le, has-within, has-in}
 
@@ -276,52 +313,123 @@ module _ {ws : List ℕ} (s : WellFormed ws) (i k w u first : ℕ) (i< : i < 2 ^
     abbrev d₁ : ℕ
     d₁ = H′ - (u + 1)
 
-    abbrev J : List ℕ
-    J = joins ps′ i ws (v + 1) d₀
+    -- ws₁ has the filled counts too
+    module _ {ws₁ : List ℕ} (counts : Counts (s .n) Y ws ws₁) where
+      abbrev J : List ℕ
+      J = joins ps′ i ws₁ (v + 1) d₀
 
-    keeps-J : {q : ℕ} → R q ws → R q J
-    keeps-J r = joins-keeps (s .n) Y ps′ i (v + 1) d₀ lg (λ t a b. edge t a (omega (arith, tier-le))) r
+      keeps-J : {q : ℕ} → R q ws → R q J
+      keeps-J r = joins-keeps (s .n) Y ps′ i (v + 1) d₀ (counts .long) (λ t a b. edge t a (omega (arith, tier-le)))
+          (counts .keep _ r)
 
-    joins-is : joins ps′ i ws (v + 1) (H′ - (v + 1)) ≡ J
-    joins-is =
-        let e₁ : H′ - (v + 1) ≡ d₀ + d₁ = omega (arith, tier-le, height-same) in
-        let e₂ : v + 1 + d₀ ≡ u + 1 = omega arith in
-        ap (λ (d : ℕ). joins ps′ i ws (v + 1) d) e₁ ∙ (joins-split ps′ i ws (v + 1) d₀ d₁ ∙
-        (ap (λ (t : ℕ). joins ps′ i J t d₁) e₂ ∙
-        joins-stay (s .n) Y ps′ i (u + 1) d₁ (λ t a b. edge t (omega arith) (omega (arith, height-same)))
-        (λ t a b. let lt : t < H = omega (arith, height-same) in
-        let o : has l t (block (tierOrder t) i) ≡ true = has-over t (omega arith) (omega arith) in (
-          rw (ps′-is t (omega arith)) (keeps-J (shift-there t (block (tierOrder t) i) o)),
-          rw (ps′-is t (omega arith)) (keeps-J (owner-there t (block (tierOrder t) i) lt o)),
-          rw (ps′-is (t + 1) (omega arith), add-one t) (keeps-J (slot-there t (omega arith) lt)),
-        ))))
+      joins-is : joins ps′ i ws₁ (v + 1) (H′ - (v + 1)) ≡ J
+      joins-is =
+          let e₁ : H′ - (v + 1) ≡ d₀ + d₁ = omega (arith, tier-le, height-same) in
+          let e₂ : v + 1 + d₀ ≡ u + 1 = omega arith in
+          ap (λ (d : ℕ). joins ps′ i ws₁ (v + 1) d) e₁ ∙ (joins-split ps′ i ws₁ (v + 1) d₀ d₁ ∙
+          (ap (λ (t : ℕ). joins ps′ i J t d₁) e₂ ∙
+          joins-stay (s .n) Y ps′ i (u + 1) d₁ (λ t a b. edge t (omega arith) (omega (arith, height-same)))
+          (λ t a b. let lt : t < H = omega (arith, height-same) in
+          let o : has l t (block (tierOrder t) i) ≡ true = has-over t (omega arith) (omega arith) in (
+            rw (ps′-is t (omega arith)) (keeps-J (shift-there t (block (tierOrder t) i) o)),
+            rw (ps′-is t (omega arith)) (keeps-J (owner-there t (block (tierOrder t) i) lt o)),
+            rw (ps′-is (t + 1) (omega arith), add-one t) (keeps-J (slot-there t (omega arith) lt)),
+          ))))
 
-    linked-is : linked ws ps′ i v H′ ≡ J
-    linked-is =
-        let shift-stays : set J (shiftPlace (getD ps′ H′ 0)) (shiftWord H′) ≡ J = set-stays (s .n) Y _ _
-        (shift-ok (s .n) l os (s .placed) (s .valid) i k w i< k≤ new enough some-node ps′ [] plan lg)
-        (rw head-num (keeps-J (shift-there H 0 head-has))) in
-        let owner-stays : set J (ownerPlace (getD ps′ H′ 0)) 0 ≡ J = set-stays (s .n) Y _ _
-        (owner-ok (s .n) l os (s .placed) (s .valid) i k w i< k≤ new enough some-node ps′ [] plan lg)
-        (rw head-num (keeps-J head-owner)) in
-        let head-stays : set J 1 (nodeWord (getD ps′ H′ 0)) ≡ J = set-stays (s .n) Y _ _
-        (head-ok (s .n) l os (s .placed) (s .valid) i k w i< k≤ new enough some-node ps′ [] plan lg)
-        (keeps-J head-there) in
-        ap (λ (y : List ℕ). headAt y (getD ps′ H′ 0) H′) joins-is ∙
-        (ap (λ (y : List ℕ). set (set y (ownerPlace (getD ps′ H′ 0)) 0) 1 (nodeWord (getD ps′ H′ 0))) shift-stays ∙
-        (ap (λ (y : List ℕ). set y 1 (nodeWord (getD ps′ H′ 0))) owner-stays ∙ head-stays))
+      linked-is : linked ws₁ ps′ i v H′ ≡ J
+      linked-is =
+          let shift-stays : set J (shiftPlace (getD ps′ H′ 0)) (shiftWord H′) ≡ J = set-stays (s .n) Y _ _
+          (shift-ok (s .n) l os (s .placed) (s .valid) i k w i< k≤ new enough some-node ps′ [] plan (counts .long))
+          (rw head-num (keeps-J (shift-there H 0 head-has))) in
+          let owner-stays : set J (ownerPlace (getD ps′ H′ 0)) 0 ≡ J = set-stays (s .n) Y _ _
+          (owner-ok (s .n) l os (s .placed) (s .valid) i k w i< k≤ new enough some-node ps′ [] plan (counts .long))
+          (rw head-num (keeps-J head-owner)) in
+          let head-stays : set J 1 (nodeWord (getD ps′ H′ 0)) ≡ J = set-stays (s .n) Y _ _
+          (head-ok (s .n) l os (s .placed) (s .valid) i k w i< k≤ new enough some-node ps′ [] plan (counts .long))
+          (keeps-J head-there) in
+          ap (λ (y : List ℕ). headAt y (getD ps′ H′ 0) H′) joins-is ∙
+          (ap (λ (y : List ℕ). set (set y (ownerPlace (getD ps′ H′ 0)) 0) 1 (nodeWord (getD ps′ H′ 0))) shift-stays ∙
+          (ap (λ (y : List ℕ). set y 1 (nodeWord (getD ps′ H′ 0))) owner-stays ∙ head-stays))
 
-    pub words-after : (ps : List ℕ) → ((t : ℕ) → v < t → t ≤ u + 1 → getD ps t 0 ≡ ν′ t (block (tierOrder t) i)) →
-        built ws ps i k w u ≡ render l′ (newPlaces l l′ os) (s .n)
-    unfolding built
-    words-after ps is =
-        let agree : (t : ℕ) → v < t → t ≤ u + 1 → getD ps t 0 ≡ getD ps′ t 0 =
-        λ t a b. is t a b ∙ sym (ps′-is t (omega (arith, tier-le))) in
-        ap (λ (y : List ℕ). entered y (getD ps (v + 1) 0) (offset i k) (span k) w)
-        (joins-same ps ps′ i ws (v + 1) d₀ (λ t a b. agree t (omega arith) (omega arith)) ∙ sym linked-is) ∙
-        (ap (λ (a : ℕ). entered (linked ws ps′ i v H′) a (offset i k) (span k) w) (agree (v + 1) (omega arith) (omega arith)) ∙
-        (sym (rw (le-ltb H H′ (omega (arith, height-same))) refl) ∙
-        path-chain-entry s i k w i< k≤ new none-start enough some-node ps′ [] plan))
+    -- THE COUNTS
+    -- nothing lies in a block of the path below the slot
+    nothing-at : (t : ℕ) → v < t → t ≤ u → any (within (tierOrder t) (block (tierOrder t) i)) l ≡ false
+    nothing-at t a b = is-false (λ y. clash (has-in l t (block (tierOrder t) i) (omega (arith, tier-le)) y) (not-there t a b))
+
+    module _ (some-word : w ≡ 0 → ⊥) (ps : List ℕ)
+        (is : (t : ℕ) → v < t → t ≤ u + 1 → getD ps t 0 ≡ ν′ t (block (tierOrder t) i)) where
+      abbrev f : ℕ
+      f = getD ws (filledPlace (getD ps (u + 1) 0)) 0
+
+      over-has : (t : ℕ) → suc u ≤ t → t ≤ H → has l′ t (block (tierOrder t) i) ≡ true
+      over-has t a b = path-has t (omega arith) b
+
+      first-filled : f ≡ filledAt l ν′ u (block (tierOrder (suc u)) i)
+      first-filled = rw (is (u + 1) (omega arith) (omega arith), add-one u)
+          (was-filled (s .n) l os (s .placed) (s .valid) i k w i< k≤ new enough some-node ps′ [] plan ws (λ m. false)
+          (freed s i k w i< k≤ new none-start enough some-node ps′ [] plan) (λ t b h. refl)
+          (λ m a e q. was-free s i k w i< k≤ new none-start enough m e) some-word u (block (tierOrder (suc u)) i)
+          (over-has (suc u) (omega arith) tier-le) (at .there))
+
+      final : PathFinal (s .n) Y ps k (u + 1) f
+      final = record {
+        low = omega arith;
+        nodes = λ t a b. rw (is t a b) (path-lt t a b);
+        alone = λ e. let d : u ≡ v = omega arith in
+            rw (first-filled, is (u + 1) (omega arith) (omega arith)) (subst (λ (y : ℕ).
+            filledAt l ν′ y (block (tierOrder (suc y)) i) + span k ≡ Y (filledPlace (ν′ (y + 1) (block (tierOrder (y + 1)) i))))
+            (sym d) (subst (λ (y : ℕ). filledAt l ν′ v (block (tierOrder y) i) + span k ≡
+            Y (filledPlace (ν′ (v + 1) (block (tierOrder (v + 1)) i)))) (add-one v)
+            (entry-more (s .n) l os (s .placed) (s .valid) i k w i< k≤ new enough some-word
+            (omega (arith, tier-le, height-same)) none-start)));
+        highest = λ ne. rw (first-filled, is (u + 1) (omega arith) (omega arith), add-one u)
+            (path-more (s .n) l os (s .placed) (s .valid) i k w i< k≤ new enough some-word u (omega arith)
+            (omega (arith, tier-le, height-same)) (nothing-at u (omega arith) (omega arith)));
+        lowest = λ ne. rw (is (v + 1) (omega arith) (omega arith))
+            (entry-one (s .n) l os (s .placed) (s .valid) i k w i< k≤ new enough some-word
+            (omega (arith, tier-le, height-same)) (nothing-at (v + 1) (omega arith) (omega arith)));
+        between = λ t a b. let d : suc (t - 1) ≡ t = omega arith in
+            rw (is t (omega arith) (omega arith)) (subst (λ (y : ℕ). 1 ≡ Y (filledPlace (ν′ y (block (tierOrder y) i)))) d
+            (path-one (s .n) l os (s .placed) (s .valid) i k w i< k≤ new enough some-word (t - 1) (omega arith)
+            (omega (arith, tier-le, height-same))
+            (subst (λ (y : ℕ). any (within (tierOrder y) (block (tierOrder y) i)) l ≡ false) (sym d)
+            (nothing-at t (omega arith) (omega arith)))));
+      }
+
+      abbrev w₁ : List ℕ
+      w₁ = pathCounts ws ps k (u + 1) f
+
+      counted : Counts (s .n) Y ws w₁
+      counted = path-counts (s .n) Y final lg
+
+      filled-right : (t b : ℕ) → has l′ (suc t) b ≡ true → R (filledPlace (ν′ (suc t) b)) w₁
+      filled-right = all-filled (s .n) l os (s .placed) (s .valid) i k w i< k≤ new enough some-node ps′ [] plan ws
+          (λ m. false) (freed s i k w i< k≤ new none-start enough some-node ps′ [] plan) (λ t b h. refl)
+          (λ m a e q. was-free s i k w i< k≤ new none-start enough m e) some-word counted on-path
+          (λ t h g. absurd (omega (arith, has-le l′ (suc t) 0 h, height-same)))
+        where
+          on-path : (t : ℕ) → v ≤ t → has l′ (suc t) (block (tierOrder (suc t)) i) ≡ true →
+              R (filledPlace (ν′ (suc t) (block (tierOrder (suc t)) i))) w₁
+          on-path t a h = byT (ltb t (u + 1))
+              (λ x. let lt : t < u + 1 = ltb-true _ _ x in
+              rw (← is (suc t) (omega arith) (omega arith)) (path-makes (s .n) Y final lg (suc t) (omega arith) (omega arith)))
+              (λ x. let ge : u + 1 ≤ t = ltb-false _ _ x in
+              let le : suc t ≤ H = omega (arith, has-le l′ (suc t) (block (tierOrder (suc t)) i) h, height-same) in
+              counted .keep _ (path-stays (s .n) l os (s .placed) (s .valid) i k w i< k≤ new enough some-node ps′ [] plan ws
+              (λ m. false) (freed s i k w i< k≤ new none-start enough some-node ps′ [] plan) (λ t b h. refl)
+              (λ m a e q. was-free s i k w i< k≤ new none-start enough m e) some-word t (omega arith) h
+              (has-over (suc t) (omega arith) le) (has-over t (omega arith) (omega arith))))
+
+      pub words-after : built ws ps i k w u ≡ render l′ (newPlaces l l′ os) (s .n)
+      unfolding built
+      words-after =
+          let agree : (t : ℕ) → v < t → t ≤ u + 1 → getD ps t 0 ≡ getD ps′ t 0 =
+          λ t a b. is t a b ∙ sym (ps′-is t (omega (arith, tier-le))) in
+          ap (λ (y : List ℕ). entered y (getD ps (v + 1) 0) (offset i k) (span k) w)
+          (joins-same ps ps′ i w₁ (v + 1) d₀ (λ t a b. agree t (omega arith) (omega arith)) ∙ sym (linked-is counted)) ∙
+          (ap (λ (a : ℕ). entered (linked w₁ ps′ i v H′) a (offset i k) (span k) w) (agree (v + 1) (omega arith) (omega arith)) ∙
+          (sym (rw (le-ltb H H′ (omega (arith, height-same))) refl) ∙
+          path-chain-entry s i k w i< k≤ new none-start enough some-node ps′ [] plan w₁ counted filled-right))
 
 -- AS THE CODE HAS IT: new nodes below the slot
 module _ {ws : List ℕ} (s : WellFormed ws) (i k w u first : ℕ) (i< : i < 2 ^ 64) (k≤ : k ≤ 63) (deep : k / slotBits < u)
@@ -374,16 +482,17 @@ module _ {ws : List ℕ} (s : WellFormed ws) (i k w u first : ℕ) (i< : i < 2 ^
     laid-lt t a b = rw (ps-is t a b)
         (path-lt s i k w u first i< k≤ (g .new) none-below high (g .at-node) no-node enough t a b)
 
-    words : {ws′ : List ℕ} → ws′ ≡ built ws ps i k w u → ws′ ≡ render (storeNew (s .list) i k w)
+    words : {ws′ : List ℕ} → T (enterable k w) → ws′ ≡ built ws ps i k w u → ws′ ≡ render (storeNew (s .list) i k w)
         (newPlaces (s .list) (storeNew (s .list) i k w) (s .places)) (s .n)
-    words e = e ∙ words-after s i k w u first i< k≤ (g .new) none-below high (g .at-node) no-node enough ps ps-is
+    words st e = e ∙ words-after s i k w u first i< k≤ (g .new) none-below high (g .at-node) no-node enough
+        (enterable-some k w st) ps ps-is
 
-    pub below-done : {ws′ : List ℕ} {e : Entry} → e ≡ entryOf i k w 0 → ws′ ≡ built ws ps i k w u →
+    pub below-done : {ws′ : List ℕ} {e : Entry} → T (enterable k w) → e ≡ entryOf i k w 0 → ws′ ≡ built ws ps i k w u →
         Stores (s .n) (s .list) (s .places) (storeNew (s .list) i k w) i ws ws′ (Done e)
-    below-done q e = stores-unmarked s i k w i< k≤ (g .new) none-below enough q (words e)
+    below-done st q e = stores-unmarked s i k w i< k≤ (g .new) none-below enough q (words st e)
 
     pub below-used : {ws′ : List ℕ} → T (enterable k w) → w < 2 ^ 64 → ws′ ≡ built ws ps i k w u → InUse next ws′
-    below-used st w< e = in-use-after s i k w i< k≤ (g .new) none-below enough st w< (words e) next (found .next-le)
+    below-used st w< e = in-use-after s i k w i< k≤ (g .new) none-below enough st w< (words st e) next (found .next-le)
         (omega (arith, needed-as, found .count-is, found .next-is))
 
 -- AS THE CODE HAS IT: empty slots of the entry's node
@@ -423,26 +532,29 @@ module _ {ws : List ℕ} (s : WellFormed ws) (i k w u a : ℕ) (i< : i < 2 ^ 64)
   enough₀ : needed (s .list) (storeNew (s .list) i k w) ≤ freeCount (s .places)
   enough₀ = omega (arith, none-needed)
 
-  words₀ : {ws′ : List ℕ} → ws′ ≡ entered ws a (offset i k) (span k) w → ws′ ≡ render (storeNew (s .list) i k w)
+  words₀ : {ws′ : List ℕ} → T (enterable k w) → ws′ ≡ settled ws a (offset i k) (span k) w → ws′ ≡ render (storeNew (s .list) i k w)
       (newPlaces (s .list) (storeNew (s .list) i k w) (s .places)) (s .n)
-  unfolding built joins
-  words₀ e =
+  unfolding built joins pathCounts
+  words₀ st e =
       let ps : List ℕ = upTo (λ t. a) 0 (k / slotBits + 2) in
       let num-is : getD (upTo (λ t. a) 0 (k / slotBits + 2)) (k / slotBits + 1) 0 ≡ a = getD-upTo (λ t. a) 0 (k / slotBits + 2) (k / slotBits + 1)
       (omega arith) in
       let z : u + 1 - (k / slotBits + 1) ≡ 0 = omega arith in
-      let same : entered ws a (offset i k) (span k) w ≡ built ws (upTo (λ t. a) 0 (k / slotBits + 2)) i k w u = rw (z, num-is) refl in
-      e ∙ (same ∙ words-after s i k w u a i< k≤ (g .new) none-in high₀ (g .at-node) no-tier enough₀ ps
+      let y : u + 1 ≡ k / slotBits + 1 = omega arith in
+      let same : settled ws a (offset i k) (span k) w ≡ built ws (upTo (λ t. a) 0 (k / slotBits + 2)) i k w u =
+      rw (z, y, eq-eqb (k / slotBits + 1) (k / slotBits + 1) refl, num-is) refl in
+      e ∙ (same ∙ words-after s i k w u a i< k≤ (g .new) none-in high₀ (g .at-node) no-tier enough₀ (enterable-some k w st) ps
       (λ t p q. let f : t ≡ k / slotBits + 1 = omega arith in
       let f′ : t ≡ suc u = omega arith in
       ap (λ (y : ℕ). getD (upTo (λ t. a) 0 (k / slotBits + 2)) y 0) f ∙ (num-is ∙
       rw f′ (sym (first-is s i k w u a i< k≤ (g .new) none-in high₀ (g .at-node) no-tier enough₀)))))
 
-  pub slots-done : {ws′ : List ℕ} {e : Entry} → e ≡ entryOf i k w 0 → ws′ ≡ entered ws a (offset i k) (span k) w →
+  pub slots-done : {ws′ : List ℕ} {e : Entry} → T (enterable k w) → e ≡ entryOf i k w 0 →
+      ws′ ≡ settled ws a (offset i k) (span k) w →
       Stores (s .n) (s .list) (s .places) (storeNew (s .list) i k w) i ws ws′ (Done e)
-  slots-done q e = stores-unmarked s i k w i< k≤ (g .new) none-in enough₀ q (words₀ e)
+  slots-done st q e = stores-unmarked s i k w i< k≤ (g .new) none-in enough₀ q (words₀ st e)
 
   pub slots-used : {ws′ : List ℕ} {low : ℕ} → T (enterable k w) → w < 2 ^ 64 → InUse low ws →
-      ws′ ≡ entered ws a (offset i k) (span k) w → InUse low ws′
-  slots-used {ws′} {low} st w< h e = in-use-after s i k w i< k≤ (g .new) none-in enough₀ st w< (words₀ e) low
+      ws′ ≡ settled ws a (offset i k) (span k) w → InUse low ws′
+  slots-used {ws′} {low} st w< h e = in-use-after s i k w i< k≤ (g .new) none-in enough₀ st w< (words₀ st e) low
       (omega (arith, size-is s, low-le s h)) (omega (arith, none-before (s .places) low (low-used s h)))

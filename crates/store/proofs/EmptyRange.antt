@@ -1,6 +1,6 @@
 -- A store where nothing starts in the target range: no node goes, no mark changes, and the path, the chain and the entry
 -- are all that is written.
-use Prim.Native.Nat.{ℕ, _+_, _*_, _-_, _/_, _^_, _≤_, _<_}
+use Prim.Native.Nat.{ℕ, suc, _+_, _*_, _-_, _/_, _^_, _≤_, _<_}
 use mathlib.Core.Path.{_≡_, refl, sym, ap, subst, _∙_}
 use mathlib.Core.Bool.{true, false, not}
 use mathlib.Core.List.{List}
@@ -23,7 +23,7 @@ use Rattle.model.proofs.ValidLaws.{room, store-at-valid}
 use Rattle.tree.specs.Tree.{slots, tierOrder, height, has, Node, newNodes, needed, slotMark, slotBits}
 use Rattle.tree.specs.Slots.{Numbering, slot}
 use Rattle.tree.proofs.StoreLaws.{within-only, store-covering, mark-apart, mark-path, mark-inside}
-use Rattle.layout.specs.Words.{field, fieldAt, IsField}
+use Rattle.layout.specs.Words.{field, fieldAt, filledPlace, IsField}
 use Rattle.layout.specs.Places.{Places, numberIn, freeCount, keepIf, newPlaces, render}
 use Rattle.layout.specs.WellFormed.{WellFormed, InUse}
 use Rattle.layout.proofs.NewNumberLaws.{number-none, new-stays}
@@ -35,8 +35,9 @@ use Rattle.plan.proofs.AfterStore.{Lies, lies, on-path, in-run, off, rooms, top
 use Rattle.plan.proofs.FreeNumbers.{below-taken}
 use Rattle.write.specs.Writes.{span, offset, linked, entered}
 use Rattle.store.specs.Stored.{Stores, Done, entryOf}
+use Rattle.store.proofs.FinalWords.{Right, Counts}
 use Rattle.store.proofs.Freeing.{Freed, freed-none}
-use Rattle.store.proofs.Target.{field₁, field₁-as, fieldAt₁, X-anchor, X-at}
+use Rattle.store.proofs.Target.{field₁, field₁-as, fieldAt₁, X, X-anchor, X-at}
 use Rattle.store.proofs.PathWords.{grownWords, enter-long, grow-long, link-long, lg₁, anchor-right, node-right}
 use Rattle.store.proofs.Outcomes.{in-use}
 use Rattle.tree.proofs.NodeListLaws.{has-le, has-within}
@@ -99,7 +100,7 @@ module _ {ws : List ℕ} (s : WellFormed ws) (i k w : ℕ) (i< : i < 2 ^ 64) (k�
   os₁ = newPlaces l l₁ os
 
   -- a place that is free after was free before
-  was-free : (m : ℕ) → getD os₁ m none ≡ none → getD os m none ≡ none
+  pub was-free : (m : ℕ) → getD os₁ m none ≡ none → getD os m none ≡ none
   was-free m e = go (getD os m none) refl (number-none (s .n) l os (s .placed) l₁ enough m e)
     where
       go : (o : Option Node) → getD os m none ≡ o → keepIf l₁ o ≡ none → o ≡ none
@@ -147,7 +148,7 @@ module _ {ws : List ℕ} (s : WellFormed ws) (i k w : ℕ) (i< : i < 2 ^ 64) (k�
     abbrev ν₁ : Numbering
     ν₁ = numberIn os₁
 
-    freed : Freed (s .n) (λ m. false) (render l os (s .n)) ws
+    pub freed : Freed (s .n) (λ m. false) (render l os (s .n)) ws
     freed = subst (λ (y : List ℕ). Freed (s .n) (λ m. false) (render l os (s .n)) y) (sym (s .words-are))
         (freed-none (s .n) (render l os (s .n)))
 
@@ -157,22 +158,26 @@ module _ {ws : List ℕ} (s : WellFormed ws) (i k w : ℕ) (i< : i < 2 ^ 64) (k�
         (λ j. slotMark l₁ x (t - 1) (slots * b + j)) slots
         (λ j g. mark-same l (s .valid) i k w i< k≤ new none-start x (t - 1) (slots * b + j) h))
 
-    pub path-chain-entry : entered (grownWords (linked ws ps i (k / slotBits) (height l₁)) ps cs (marksOf l) (height l)
-        (height l₁) (slot l (numberIn os) (height l) 0) (both (nonempty l) (not (eqb (block k i) 0))))
-        (getD ps (k / slotBits + 1) 0) (offset i k) (span k) w ≡ render l₁ os₁ (s .n)
-    unfolding fieldAt₁
-    path-chain-entry = render-is l₁ os₁ (s .n) _
-        (enter-long (s .n) l os (s .placed) (s .valid) i k w i< k≤ new enough some-node ps cs plan
-        (grow-long (s .n) l os (s .placed) (s .valid) i k w i< k≤ new enough some-node ps cs plan
-        (link-long (s .n) l os (s .placed) (s .valid) i k w i< k≤ new enough some-node ps cs plan
-        (lg₁ (s .n) l os (s .placed) (s .valid) i k w i< k≤ new enough some-node ps cs plan ws (λ m. false) freed
-        (λ u b t. refl) (λ m a e q. was-free m e)))) .len)
-        (λ p h. anchor-right (s .n) l os (s .placed) (s .valid) i k w i< k≤ new enough some-node ps cs plan ws (λ m. false)
-        freed (λ u b t. refl) (λ m a e q. was-free m e) p h .is ∙ X-anchor (s .n) l os (s .placed) l₁ enough p h)
-        (λ m f a h. node-right (s .n) l os (s .placed) (s .valid) i k w i< k≤ new enough some-node ps cs plan ws
-        (λ m. false) freed (λ u b t. refl) (λ m a e q. was-free m e) m f a h .is ∙
-        (X-at (s .n) l os (s .placed) l₁ enough m f h ∙ go f h (getD os₁ m none)))
-      where
-        go : (f : ℕ) → IsField f → (o : Option Node) → fieldAt₁ l l₁ ν₁ o f ≡ fieldAt l₁ ν₁ o f
-        go f h none = refl
-        go f h (some p) = field-same (p .tier) (p .number) f h
+    -- ws₁ has the filled counts too
+    module _ (ws₁ : List ℕ) (counts : Counts (s .n) (X (s .n) l os (s .placed) l₁ enough) ws ws₁)
+        (filled-right : (u b : ℕ) → has l₁ (suc u) b ≡ true →
+        Right (s .n) (X (s .n) l os (s .placed) l₁ enough) (filledPlace (ν₁ (suc u) b)) ws₁) where
+      pub path-chain-entry : entered (grownWords (linked ws₁ ps i (k / slotBits) (height l₁)) ps cs (marksOf l) (height l)
+          (height l₁) (slot l (numberIn os) (height l) 0) (both (nonempty l) (not (eqb (block k i) 0))))
+          (getD ps (k / slotBits + 1) 0) (offset i k) (span k) w ≡ render l₁ os₁ (s .n)
+      unfolding fieldAt₁
+      path-chain-entry = render-is l₁ os₁ (s .n) _
+          (enter-long (s .n) l os (s .placed) (s .valid) i k w i< k≤ new enough some-node ps cs plan
+          (grow-long (s .n) l os (s .placed) (s .valid) i k w i< k≤ new enough some-node ps cs plan
+          (link-long (s .n) l os (s .placed) (s .valid) i k w i< k≤ new enough some-node ps cs plan
+          (lg₁ (s .n) l os (s .placed) (s .valid) i k w i< k≤ new enough some-node ps cs plan ws (λ m. false) freed
+          (λ u b t. refl) (λ m a e q. was-free m e) ws₁ counts filled-right))) .len)
+          (λ p h. anchor-right (s .n) l os (s .placed) (s .valid) i k w i< k≤ new enough some-node ps cs plan ws (λ m. false)
+          freed (λ u b t. refl) (λ m a e q. was-free m e) ws₁ counts filled-right p h .is ∙ X-anchor (s .n) l os (s .placed) l₁ enough p h)
+          (λ m f a h. node-right (s .n) l os (s .placed) (s .valid) i k w i< k≤ new enough some-node ps cs plan ws
+          (λ m. false) freed (λ u b t. refl) (λ m a e q. was-free m e) ws₁ counts filled-right m f a h .is ∙
+          (X-at (s .n) l os (s .placed) l₁ enough m f h ∙ go f h (getD os₁ m none)))
+        where
+          go : (f : ℕ) → IsField f → (o : Option Node) → fieldAt₁ l l₁ ν₁ o f ≡ fieldAt l₁ ν₁ o f
+          go f h none = refl
+          go f h (some p) = field-same (p .tier) (p .number) f h

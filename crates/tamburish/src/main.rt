@@ -6,8 +6,8 @@ ghost use lib.ListN.{length};
 ghost use Rattle.tamburish.specs.Program;
 ghost use Rattle.tamburish.specs.Program.{ran, refusalSize, refusalOver};
 
-// 4 + 69 * 40 words for 40 nodes.
-const POOL_WORDS: usize = 2764;
+// 4 + 70 * 40 words for 40 nodes.
+const POOL_WORDS: usize = 2804;
 // One byte more than the longest batch, so that a longer one is seen to be too long.
 const INPUT_BYTES: usize = 8193;
 // 24 bytes for each of the 744 commands that fit into 8,192 bytes, the shortest having 11.

@@ -1,6 +1,6 @@
 // The check of a pool, and its init.
 //
-// pool: the borrowed words, 4 + 69 n of them for n nodes.
+// pool: the borrowed words, 4 + 70 n of them for n nodes.
 use layout::ANCHOR_WORDS;
 use layout::COUNT_WORD;
 use layout::MAX_NODES;

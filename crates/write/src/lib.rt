@@ -1,9 +1,11 @@
-// What a store writes, once all that decides it is read: the edges between nodes, the marks, the entry with its siblings,
-// and the nodes that it frees. Each function leaves what a definition of specs/Writes says, whatever the words are.
+// What a store writes, once all that decides it is read: the filled counts, the edges between nodes, the marks, the entry
+// with its siblings, and the nodes that it frees. Each function leaves what a definition of specs/Writes says, whatever
+// the words are.
 //
 // pool: the borrowed words; n: how many nodes it has, or the number of one; low: below it every node is in use; u: a
 // tier; v: the tier of the slots that hold the entry; h, top: the tier of the head before and after; path, chain: the
-// numbers of the nodes over the index and over index 0, by tier; a: a node; o, c: the first of its slots, and how many.
+// numbers of the nodes over the index and over index 0, by tier; a: a node; o, c: the first of its slots, and how many; f:
+// a filled count.
 use layout::HEAD_WORD;
 use layout::SLOT_BITS;
 use layout::SLOTS;
@@ -11,11 +13,13 @@ use layout::Slot;
 use layout::block_of;
 use layout::clear_node;
 use layout::fill_slots;
+use layout::filled_of;
 use layout::lesser;
 use layout::mark_word;
 use layout::node_word;
 use layout::owner_word;
 use layout::pow2;
+use layout::put_filled;
 use layout::put_mark_word;
 use layout::put_owner;
 use layout::put_shift;
@@ -32,7 +36,7 @@ ghost use mathlib.Core.Path.{_≡_};
 ghost use lib.Dec.{ltb};
 ghost use lib.ListN.{getD, length};
 ghost use Rattle.tree.specs.Tree.{slots, slotBits, topTier};
-ghost use Rattle.layout.specs.Words.{poolWords, lastPlace, markPlace};
+ghost use Rattle.layout.specs.Words.{poolWords, lastPlace, filledPlace, markPlace};
 ghost use Rattle.layout.specs.Spares.{Spared};
 ghost use Rattle.plan.specs.Plan.{Storable};
 ghost use Rattle.write.specs.Writes;
@@ -279,7 +283,7 @@ fn mark_top(pool: &mut [u64], path: &[u64], heads: Heads)
 }
 
 // An entry in its slots.
-pub fn enter(pool: &mut [u64], seat: Seat, word: u64)
+fn enter(pool: &mut [u64], seat: Seat, word: u64)
     requires { do ⌜ lastPlace (seat .node) < (← ⟦pool.len()⟧) ⌝ }
     requires { ⌜ (seat .slot + seat .count ≤ slots) × (1 ≤ seat .count) ⌝ }
     ensures { λ _. ⌜ now (pool .exit) ≡ Writes.entered (now (pool .entry))
@@ -290,6 +294,20 @@ pub fn enter(pool: &mut [u64], seat: Seat, word: u64)
     let c = seat.count;
     fill_slots(pool, a, o + 1, sibling_word(o), c - 1);
     put_slot(pool, a, o, word);
+}
+
+// An entry in slots that are empty, which then count as filled.
+pub fn settle(pool: &mut [u64], seat: Seat, word: u64)
+    requires { do ⌜ lastPlace (seat .node) < (← ⟦pool.len()⟧) ⌝ }
+    requires { ⌜ (seat .slot + seat .count ≤ slots) × (1 ≤ seat .count) ⌝ }
+    requires { ⌜ getD (now pool) (filledPlace (seat .node)) 0 ≤ slots ⌝ }
+    ensures { λ _. ⌜ now (pool .exit) ≡ Writes.settled (now (pool .entry))
+        (seat .node) (seat .slot) (seat .count) word ⌝ }
+{
+    let a = seat.node;
+    let f = filled_of(pool, a);
+    put_filled(pool, a, f + seat.count);
+    enter(pool, seat, word);
 }
 
 // The three mark words of the entry's node: the marks of its slots give way to their OR in the first.
@@ -337,6 +355,87 @@ pub fn seat_of(target: Target, node: u64) -> Seat
     }
 }
 
+// The counts of nodes with one filled slot each, of the tiers from from to to - 1.
+fn count_ones(pool: &mut [u64], nums: &[u64], from: u64, to: u64)
+    requires { ⌜ to ≤ topTier ⌝ }
+    requires { do ⌜ to < (← ⟦nums.len()⟧) ⌝ }
+    requires { ⌜ ((u : ℕ) → from ≤ u → u < to → lastPlace (getD (now nums) u 0) < length (now pool)) ⌝ }
+    ensures { λ _. ⌜ now (pool .exit) ≡ Writes.ones (now (nums .entry)) (now (pool .entry)) from (to - from) ⌝ }
+{
+    let mut u = from;
+    while u < to {
+        let n = nums[u as usize];
+        put_filled(pool, n, 1);
+        u = u + 1;
+    }
+}
+
+// The counts on the path of an entry: the node of tier top has f other filled slots, and those below it are new.
+fn count_path(pool: &mut [u64], path: &[u64], order: u64, top: u64, f: u64)
+    requires { ⌜ (order / slotBits < top) × (top ≤ topTier) × (top < length (now path)) × (f ≤ slots) ⌝ }
+    requires { ⌜ ((u : ℕ) → order / slotBits + 1 ≤ u → u ≤ top →
+        lastPlace (getD (now path) u 0) < length (now pool)) ⌝ }
+    ensures { λ _. ⌜ now (pool .exit) ≡ Writes.pathCounts (now (pool .entry)) (now (path .entry)) order top f ⌝ }
+{
+    let t = order / SLOT_BITS + 1;
+    let c = span_of(order);
+    let a = path[top as usize];
+    if t == top {
+        put_filled(pool, a, f + c);
+        return;
+    }
+    put_filled(pool, a, f + 1);
+    let b = path[t as usize];
+    put_filled(pool, b, c);
+    count_ones(pool, path, t + 1, top);
+}
+
+// The counts under a head that grows: on the path, and, where there was a head, on the chain.
+fn count_grown(pool: &mut [u64], path: &[u64], chain: &[u64], order: u64, heads: Heads)
+    requires { ⌜ (order / slotBits < heads .new) × (heads .new ≤ topTier) × (heads .old < heads .new) ⌝ }
+    requires { ⌜ (heads .new < length (now path)) × (heads .new < length (now chain)) ⌝ }
+    requires { ⌜ ((u : ℕ) → order / slotBits + 1 ≤ u → u ≤ heads .new →
+        lastPlace (getD (now path) u 0) < length (now pool)) ⌝ }
+    requires { ⌜ ((heads .word ≡ 0 → ⊥) → (u : ℕ) → heads .old ≤ u → 1 ≤ u → u ≤ heads .new →
+        lastPlace (getD (now chain) u 0) < length (now pool)) ⌝ }
+    ensures { λ _. ⌜ now (pool .exit) ≡ Writes.grownCounts (now (pool .entry)) (now (path .entry)) (now (chain .entry))
+        order (heads .old) (heads .new) (heads .word) ⌝ }
+{
+    if heads.word == 0 {
+        count_path(pool, path, order, heads.new, 0);
+        return;
+    }
+    count_path(pool, path, order, heads.new, 1);
+    count_ones(pool, chain, heads.old + 1, heads.new);
+}
+
+// How many of the slots of node n from o on, c of them, are not 0.
+fn filled_in(pool: &[u64], n: u64, o: u64, c: u64) -> u64
+    requires { do ⌜ lastPlace n < (← ⟦pool.len()⟧) ⌝ }
+    requires { ⌜ o + c ≤ slots ⌝ }
+    ensures { λ r. ⌜ (r ≡ Writes.filledIn (now (pool .entry)) n o c) × (r ≤ c) ⌝ }
+{
+    let mut j = 0;
+    let mut r = 0;
+    while j < c {
+        let w = slot_word(pool, n, o + j);
+        r = r + ((w != 0) as u64);
+        j = j + 1;
+    }
+    r
+}
+
+// The count of the entry's node once all its slots are filled: those that were filled before count already.
+fn filled_then(pool: &[u64], seat: Seat) -> u64
+    requires { do ⌜ lastPlace (seat .node) < (← ⟦pool.len()⟧) ⌝ }
+    requires { ⌜ seat .slot + seat .count ≤ slots ⌝ }
+    requires { ⌜ getD (now pool) (filledPlace (seat .node)) 0 ≤ slots ⌝ }
+    ensures { λ r. ⌜ r ≡ Writes.filledThen (now (pool .entry)) (seat .node) (seat .slot) (seat .count) ⌝ }
+{
+    let f = filled_of(pool, seat.node);
+    f + seat.count - filled_in(pool, seat.node, seat.slot, seat.count)
+}
+
 // All writes of a store to which entries give way: those below its slots, or, where the head grows, the whole old tree.
 pub fn rebuild(
     pool: &mut [u64],
@@ -350,6 +449,7 @@ pub fn rebuild(
     requires { ⌜ Storable target × (target .order / slotBits < heads .new) × (heads .new ≤ topTier) ×
         (topTier < length (now path)) ⌝ }
     requires { ⌜ ((u : ℕ) → target .order / slotBits + 1 ≤ u → u ≤ heads .new → getD (now path) u 0 < n) ⌝ }
+    requires { ⌜ getD (now pool) (filledPlace (getD (now path) (target .order / slotBits + 1) 0)) 0 ≤ slots ⌝ }
     ensures { λ _. ⌜ now (pool .exit) ≡ Writes.rebuilt (now (pool .entry)) (now (path .entry))
         (target .index) (target .order) (target .word) n (heads .old) (heads .new) (heads .word) (heads .marks) ⌝ }
     ensures { λ r. ⌜ Spared low r (now (pool .entry)) (Writes.givenWay (now (pool .entry)) (now (path .entry))
@@ -358,7 +458,9 @@ pub fn rebuild(
     let v = target.order / SLOT_BITS;
     let a = path[(v + 1) as usize];
     let seat = seat_of(target, a);
+    let f = filled_then(pool, seat);
     let r = clear(pool, n, seat, heads, low);
+    put_filled(pool, a, f);
     link(pool, path, target.index, v, heads.new);
     mark_top(pool, path, heads);
     enter(pool, seat, target.word);
@@ -380,6 +482,7 @@ pub fn extend(pool: &mut [u64], path: &[u64], chain: &[u64], target: Target, hea
         (target .index) (target .order) (target .word) (heads .old) (heads .new) (heads .word) (heads .marks) ⌝ }
 {
     let v = target.order / SLOT_BITS;
+    count_grown(pool, path, chain, target.order, heads);
     link(pool, path, target.index, v, heads.new);
     grow(pool, path, chain, heads);
     let a = path[(v + 1) as usize];
@@ -399,16 +502,19 @@ pub fn lay(nums: &[u64], path: &mut [u64], first: u64, v: u64, u: u64)
     path[(u + 1) as usize] = first;
 }
 
-// The edges below the node of tier u + 1, and the entry in the lowest node.
+// The counts from the node of tier u + 1 down, the edges below it, and the entry in the lowest node.
 pub fn build(pool: &mut [u64], path: &[u64], target: Target, u: u64)
     requires { ⌜ Storable target × (target .order / slotBits < u) × (u < topTier) × (topTier < length (now path)) ⌝ }
     requires { ⌜ ((t : ℕ) → target .order / slotBits + 1 ≤ t → t ≤ u + 1 →
         lastPlace (getD (now path) t 0) < length (now pool)) ⌝ }
+    requires { ⌜ getD (now pool) (filledPlace (getD (now path) (u + 1) 0)) 0 ≤ slots ⌝ }
     ensures { λ _. ⌜ now (pool .exit) ≡ Writes.built (now (pool .entry)) (now (path .entry))
         (target .index) (target .order) (target .word) u ⌝ }
 {
     let index = target.index;
     let v = target.order / SLOT_BITS;
+    let first = path[(u + 1) as usize];
+    count_path(pool, path, target.order, u + 1, filled_of(pool, first));
     join_all(pool, path, index, v + 1, u + 1);
     let a = path[(v + 1) as usize];
     enter(pool, seat_of(target, a), target.word);

@@ -118,7 +118,7 @@ fn refusals_of_a_list_in_their_order() {
     assert_eq!(list_into(&damaged, 65, 64, 0), (Err(Refusal::NotWellFormed), untouched.clone()));
     assert_eq!(damaged.list(..), Err(Refusal::NotWellFormed));
     assert_eq!(damaged.list(64..64), Err(Refusal::NotWellFormed));
-    let cut = Pool::from_words(damaged.words()[..72].to_vec());
+    let cut = Pool::from_words(damaged.words()[..73].to_vec());
     assert_eq!(list_into(&cut, 65, 64, 0), (Err(Refusal::PoolLength), untouched));
     let raw = |first, last| raw::list(pool.words(), first, last, &mut []);
     assert_eq!(raw(65, 64), raw::RawResult { answer: 8, number: 0 });

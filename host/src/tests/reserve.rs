@@ -138,13 +138,15 @@ fn the_check_of_its_word() {
     let checked = |words: &[(usize, u64)]| {
         let (_, mut pool) = run(1, &[reserve(5), store(6, 0, 3)]);
         words.iter().for_each(|(place, word)| pool.words_mut()[*place] = *word);
+        // A right count, so that it is the word that is told.
+        pool.words_mut()[layout::count_place(0)] = layout::filled_slots(pool.words(), 0);
         pool.check().is_ok()
     };
-    let at = |slot| layout::slot_place(0, slot);
+    let (at, marks) = (|slot| layout::slot_place(0, slot), layout::mark_place(0, 0));
     assert!(checked(&[]) && checked(&[(at(6), 1030)]) && checked(&[(at(63), 1030)]));
     // Mark 0 of slot 5, with the anchor's; the head; the shift 6; words beside it.
-    assert!(!checked(&[(6, 1 << 5), (2, 1)]) && checked(&[(6, 1 << 6), (2, 1)]));
-    assert!(!checked(&[(1, 1030)]) && !checked(&[(4, 7)]));
+    assert!(!checked(&[(marks, 1 << 5), (2, 1)]) && checked(&[(marks, 1 << 6), (2, 1)]));
+    assert!(!checked(&[(1, 1030)]) && !checked(&[(layout::node_place(0), 7)]));
     assert!(!checked(&[(at(5), 1026)]) && !checked(&[(at(5), 1034)]));
     // A sibling of the entry in slot 6, but none of what is reserved.
     assert!(checked(&[(at(7), 26)]) && !checked(&[(at(6), 22)]));

@@ -193,7 +193,7 @@ fn case_10_marks_of_replaced_entries_are_kept() {
     assert_eq!(pool.words[at(1, 0)], 1);
     assert_eq!(pool.needed(64, 6), 0);
     pool.expect_store(64, 6, 9, gives(64, 6, 9, 3));
-    let mut named = vec![(1, node_word(0)), (2, 3), (at(0, 2), 2), (at(0, 3), 2)];
+    let mut named = vec![(1, node_word(0)), (2, 3), (mark_at(0, 0), 2), (mark_at(0, 1), 2)];
     named.extend(node(0, 6, 0, &[(1, 9)]));
     pool.assert_words(&named);
 }
@@ -247,14 +247,14 @@ fn case_14_bytes_of_a_store_and_of_a_reply() {
 
 #[test]
 fn case_15_pool_lengths() {
-    for length in [73, 69_004] {
+    for (length, count) in [(74, 1), (70_004, 1000)] {
         let mut words = vec![JUNK; length];
         assert_eq!(init(&mut words), outcome(0, 0));
-        assert_eq!(words, words_with((length - 4) / 69, &[]));
+        assert_eq!(words, words_with(count, &[]));
         assert_eq!(check(&words), outcome(0, 0));
         assert_eq!(run(&mut words, &[], &mut []), outcome(0, 0));
     }
-    for length in [72, 69_073] {
+    for length in [73, 70_074] {
         let mut words = vec![JUNK; length];
         assert_eq!(init(&mut words), outcome(1, 0));
         assert_eq!(check(&words), outcome(1, 0));

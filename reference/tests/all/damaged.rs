@@ -11,6 +11,14 @@ fn assert_damaged(words: &[u64]) {
     assert_eq!(pool, words);
 }
 
+/// This one word is changed, and then its node's filled count with it.
+fn assert_damaged_by(words: &[u64], place: usize, word: u64) {
+    let mut damaged = words.to_vec();
+    damaged[place] = word;
+    assert_damaged(&damaged);
+    assert_damaged(&with_word(words, place, word));
+}
+
 fn assert_well_formed(words: &[u64]) {
     assert_eq!(check(words), outcome(0, 0));
 }
@@ -28,9 +36,7 @@ fn a_word_that_fits_nowhere_is_seen_at_every_place() {
     assert_well_formed(&words);
     for place in 0..words.len() {
         for junk in [4002, 4 * (1024 + 4) + 2, 4 * 64 + 2, LAST - 1] {
-            let mut damaged = words.clone();
-            damaged[place] = junk;
-            assert_damaged(&damaged);
+            assert_damaged_by(&words, place, junk);
         }
     }
 }
@@ -42,15 +48,11 @@ fn a_cleared_or_flipped_word_is_seen() {
     let nonzero = (0..words.len()).filter(|place| words[*place] != 0);
     for place in nonzero.filter(|place| !entries.contains(place)) {
         for other in [0, words[place] ^ 1, words[place] + 4, words[place] ^ (1 << 40)] {
-            let mut damaged = words.clone();
-            damaged[place] = other;
-            assert_damaged(&damaged);
+            assert_damaged_by(&words, place, other);
         }
     }
     for place in entries {
-        let mut damaged = words.clone();
-        damaged[place] = 0;
-        assert_damaged(&damaged);
+        assert_damaged_by(&words, place, 0);
     }
 }
 
@@ -122,8 +124,10 @@ fn an_empty_node() {
     words[slot_at(0, 5)] = node_word(3);
     words[at(3, 0)] = 1;
     words[at(3, 1)] = 6;
+    recount(&mut words);
     assert_damaged(&words);
     words[slot_at(3, 0)] = 7;
+    recount(&mut words);
     assert_well_formed(&words);
 }
 
@@ -177,15 +181,15 @@ fn mark_bits() {
     for mark in 0..3 {
         words[2] = 1 << mark;
         assert_damaged(&words);
-        words[at(0, 2 + mark)] = 1 << 8;
+        words[mark_at(0, mark)] = 1 << 8;
         assert_well_formed(&words);
-        words[at(0, 2 + mark)] = 1 << 9;
+        words[mark_at(0, mark)] = 1 << 9;
         assert_damaged(&words);
-        words[at(0, 2 + mark)] = 1 << 8 | 1 << 9;
+        words[mark_at(0, mark)] = 1 << 8 | 1 << 9;
         assert_damaged(&words);
-        words[at(0, 2 + mark)] = 1 << 8 | 1 << 20;
+        words[mark_at(0, mark)] = 1 << 8 | 1 << 20;
         assert_damaged(&words);
-        words[at(0, 2 + mark)] = 0;
+        words[mark_at(0, mark)] = 0;
     }
 }
 
@@ -203,6 +207,7 @@ fn loops_and_shared_nodes() {
             words[slot_at(number, slot)] = if number < 10 { node_word(number + 1) } else { 3 };
         }
     }
+    recount(&mut words);
     assert_damaged(&words);
     let mut words = case_3(3).words;
     words[slot_at(0, 1)] = node_word(1);
@@ -243,6 +248,9 @@ fn random_words_do_no_harm() {
                 2 => random.below(300),
                 _ => random.word(),
             };
+        }
+        if random.one_in(2) {
+            recount(&mut words);
         }
         let answer = check(&words).answer;
         assert!(answer == 0 || answer == 2);

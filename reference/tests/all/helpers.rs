@@ -15,27 +15,69 @@ pub fn node_word(number: usize) -> u64 {
     4 * (1024 + number as u64) + 2
 }
 
-/// The place of a field of a node: shift + 1 is field 0, owner 1, marks 2 to 4, slots from 5.
+/// The words of a node, by R29.
+const NODE_WORDS: usize = 70;
+
+/// The words of a pool of so many nodes, by R27.
+pub fn length_of(count: usize) -> usize {
+    4 + NODE_WORDS * count
+}
+
+/// The place of a field of a node, by R29: shift + 1 is field 0, the owner 1, the filled count 2, the
+/// marks 3 to 5, the slots from 6 on.
 pub fn at(number: usize, field: usize) -> usize {
-    4 + 69 * number + field
+    length_of(number) + field
+}
+
+pub fn count_at(number: usize) -> usize {
+    at(number, 2)
+}
+
+pub fn mark_at(number: usize, mark: usize) -> usize {
+    at(number, 3 + mark)
 }
 
 pub fn slot_at(number: usize, slot: usize) -> usize {
-    at(number, 5 + slot)
+    at(number, 6 + slot)
+}
+
+/// How many slots of a node are not 0 (R220).
+pub fn filled(words: &[u64], number: usize) -> u64 {
+    words[slot_at(number, 0)..slot_at(number, 64)].iter().filter(|word| **word != 0).count() as u64
+}
+
+/// Sets every node's filled count right, so that no test is passed for the sake of a wrong one.
+pub fn recount(words: &mut [u64]) {
+    for number in 0..words.len() / NODE_WORDS {
+        words[count_at(number)] = filled(words, number);
+    }
 }
 
 pub fn outcome(answer: u64, number: u64) -> Outcome {
     Outcome { answer, number }
 }
 
-/// The words of a pool of N nodes that are zero but for word 0 and those named.
+/// The words of a pool of N nodes that are zero but for word 0, those named and the filled counts
+/// that go with them.
 pub fn words_with(count: usize, named: &[(usize, u64)]) -> Vec<u64> {
-    let mut words = vec![0; 4 + 69 * count];
+    let mut words = vec![0; length_of(count)];
     words[0] = count as u64;
     for (place, word) in named {
         words[*place] = *word;
     }
+    recount(&mut words);
     words
+}
+
+/// The words with one of them changed; where that is a slot, with its node's filled count.
+pub fn with_word(words: &[u64], place: usize, word: u64) -> Vec<u64> {
+    let mut changed = words.to_vec();
+    changed[place] = word;
+    let number = place.saturating_sub(at(0, 0)) / NODE_WORDS;
+    if (slot_at(number, 0)..slot_at(number, 64)).contains(&place) {
+        changed[count_at(number)] = filled(&changed, number);
+    }
+    changed
 }
 
 /// The words of a node: its place and value pairs for shift, owner and the named slots.
@@ -126,7 +168,7 @@ pub struct Pool {
 
 impl Pool {
     pub fn fresh(count: usize) -> Pool {
-        let mut words = vec![JUNK; 4 + 69 * count];
+        let mut words = vec![JUNK; length_of(count)];
         assert_eq!(init(&mut words), outcome(0, 0));
         Pool { words }
     }

@@ -1,6 +1,6 @@
 //! What any tree of this kind must keep, read off the raw words without the library.
 
-use crate::helpers::{at, node_word, slot_at};
+use crate::helpers::{at, count_at, filled, length_of, mark_at, node_word, slot_at};
 
 /// The word of a reservation.
 const RESERVED: u64 = 1030;
@@ -15,7 +15,7 @@ fn is_sibling_word(word: u64) -> bool {
 
 pub fn assert_invariants(words: &[u64]) {
     let count = words[0] as usize;
-    assert_eq!(words.len(), 4 + 69 * count);
+    assert_eq!(words.len(), length_of(count));
     assert!(words[2] < 8 && words[3] == 0);
     for number in 0..count {
         if words[at(number, 0)] == 0 {
@@ -42,16 +42,17 @@ fn assert_owner(words: &[u64], number: usize) {
     let (parent, slot) = (parent as usize, slot as usize);
     assert_eq!(words[slot_at(parent, slot)], node_word(number));
     assert_eq!(words[at(parent, 0)], words[at(number, 0)] + 6);
-    for mark in 2..5 {
-        let above = words[at(parent, mark)] >> slot & 1;
-        assert_eq!(above == 1, words[at(number, mark)] != 0);
+    for mark in 0..3 {
+        let above = words[mark_at(parent, mark)] >> slot & 1;
+        assert_eq!(above == 1, words[mark_at(number, mark)] != 0);
     }
 }
 
-/// No node is empty; siblings point at an entry below them; only entries and nodes have marks.
+/// No node is empty, and its count is that of its filled slots; siblings point at an entry below them; only entries and nodes have marks.
 fn assert_slots(words: &[u64], number: usize) {
     let slots = &words[slot_at(number, 0)..slot_at(number, 64)];
     assert!(slots.iter().any(|word| *word != 0));
+    assert_eq!(words[count_at(number)], filled(words, number));
     for (slot, word) in slots.iter().enumerate() {
         if is_sibling_word(*word) {
             let first = (*word / 4) as usize;
@@ -59,7 +60,7 @@ fn assert_slots(words: &[u64], number: usize) {
         }
         assert!(*word != RESERVED || words[at(number, 0)] == 1, "reserved above shift 0");
         if is_sibling_word(*word) || *word == 0 || *word == RESERVED {
-            assert!((2..5).all(|mark| words[at(number, mark)] >> slot & 1 == 0));
+            assert!((0..3).all(|mark| words[mark_at(number, mark)] >> slot & 1 == 0));
         }
     }
 }
@@ -73,6 +74,6 @@ fn assert_head_node(words: &[u64], number: usize) {
         assert!(words[at(number, 0)] > 1, "the head could be the entry");
     }
     for mark in 0..3 {
-        assert_eq!(words[2] >> mark & 1 == 1, words[at(number, 2 + mark)] != 0);
+        assert_eq!(words[2] >> mark & 1 == 1, words[mark_at(number, mark)] != 0);
     }
 }

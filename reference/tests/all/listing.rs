@@ -168,11 +168,11 @@ fn refusals_in_their_order() {
     let pool = case_3(3);
     for (first, last) in [(0, LAST), (1, 0), (LAST, 0), (LAST, LAST - 1)] {
         for buffer in [0, 21, 42] {
-            refused(&[0; 72], first, last, buffer, 1, 0);
-            refused(&[JUNK; 74], first, last, buffer, 1, 0);
+            refused(&[0; 73], first, last, buffer, 1, 0);
+            refused(&[JUNK; 75], first, last, buffer, 1, 0);
             refused(&[], first, last, buffer, 1, 0);
-            refused(&[JUNK; 73], first, last, buffer, 2, 0);
-            refused(&[0; 73], first, last, buffer, 2, 0);
+            refused(&[JUNK; 74], first, last, buffer, 2, 0);
+            refused(&[0; 74], first, last, buffer, 2, 0);
             if first > last {
                 refused(&pool.words, first, last, buffer, 8, 0);
             }

@@ -2,6 +2,7 @@
 
 mod cases;
 mod cells;
+mod counts;
 mod damaged;
 mod finds;
 mod helpers;

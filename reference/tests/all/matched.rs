@@ -18,14 +18,14 @@ fn an_entry_with_marks_0_and_2_replaced_by_a_wider_one() {
     let mut pool = Pool::fresh(2);
     pool.put(64, 5);
     set_marks(&mut pool, (64, 0, 5), &[0, 2]);
-    let mut named = vec![(1, node_word(0)), (2, 5), (at(0, 2), 2), (at(0, 4), 2)];
-    named.extend([(at(1, 2), 1), (at(1, 4), 1)]);
+    let mut named = vec![(1, node_word(0)), (2, 5), (mark_at(0, 0), 2), (mark_at(0, 2), 2)];
+    named.extend([(mark_at(1, 0), 1), (mark_at(1, 2), 1)]);
     named.extend(node(0, 6, 0, &[(1, node_word(1))]));
     named.extend(node(1, 0, 2, &[(0, 5)]));
     pool.assert_words(&named);
 
     pool.expect_store(64, 6, 9, gives(64, 6, 9, 1));
-    let mut named = vec![(1, node_word(0)), (2, 1), (at(0, 2), 2)];
+    let mut named = vec![(1, node_word(0)), (2, 1), (mark_at(0, 0), 2)];
     named.extend(node(0, 6, 0, &[(1, 9)]));
     pool.assert_words(&named);
     pool.expect_load(100, counting(gives(64, 6, 9, 1), 1));
@@ -40,7 +40,7 @@ fn several_replaced_entries() {
     set_marks(&mut pool, (64, 0, 5), &[0, 2]);
     set_marks(&mut pool, (65, 0, 7), &[2, 1]);
     pool.expect_store(64, 6, 9, gives(64, 6, 9, 3));
-    let mut named = vec![(1, node_word(0)), (2, 3), (at(0, 2), 2), (at(0, 3), 2)];
+    let mut named = vec![(1, node_word(0)), (2, 3), (mark_at(0, 0), 2), (mark_at(0, 1), 2)];
     named.extend(node(0, 6, 0, &[(1, 9)]));
     pool.assert_words(&named);
 }
@@ -56,7 +56,7 @@ fn the_same_word_stored_again() {
     }
     let words = |anchor, head, low, high| {
         let mut named = vec![(1, node_word(0)), (2, anchor)];
-        named.extend([(at(0, 4), head), (at(1, 4), low), (at(2, 4), high)]);
+        named.extend([(mark_at(0, 2), head), (mark_at(1, 2), low), (mark_at(2, 2), high)]);
         named.extend(node(0, 6, 0, &[(0, node_word(1)), (1, node_word(2))]));
         named.extend(node(1, 0, 1, &[(0, 3), (1, 9)]));
         named.extend(node(2, 0, 2, &[(0, 5)]));
@@ -80,7 +80,7 @@ fn a_store_into_a_larger_entry_or_one_of_its_order() {
         set_marks(&mut pool, (8, 3, 7), &[2, 0, 1]);
         pool.expect_store(index, order, word, gives(8, 3, word, 3));
         let bit = 1 << 8;
-        let mut named = vec![(1, node_word(0)), (2, 3), (at(0, 2), bit), (at(0, 3), bit)];
+        let mut named = vec![(1, node_word(0)), (2, 3), (mark_at(0, 0), bit), (mark_at(0, 1), bit)];
         named.extend(node(0, 0, 0, &[(8, word)]));
         named.extend((9..=15).map(|slot| (slot_at(0, slot), 34)));
         pool.assert_words(&named);
@@ -103,7 +103,7 @@ fn every_parent_up_to_the_head() {
     let index = 1 << 18;
     pool.put(index, 7);
     set_marks(&mut pool, (index, 0, 7), &[2]);
-    let bits = |pool: &Pool| (pool.words[2], [0, 1, 2, 3].map(|n| pool.words[at(n, 4)]));
+    let bits = |pool: &Pool| (pool.words[2], [0, 1, 2, 3].map(|n| pool.words[mark_at(n, 2)]));
     assert_eq!(bits(&pool), (4, [2, 1, 1, 1]));
     pool.expect_store(index, 0, 7, gives(index, 0, 7, 0));
     assert_eq!(bits(&pool), (0, [0, 0, 0, 0]));
@@ -120,7 +120,7 @@ fn mark_2_stays_where_nothing_is_replaced() {
     pool.expect_store(0, 6, 7, only(11));
     pool.expect_store(1, 0, 2, only(6));
     pool.expect_store(1, 1, 9, only(14));
-    let mut named = vec![(1, node_word(0)), (2, 4), (at(0, 4), 2)];
+    let mut named = vec![(1, node_word(0)), (2, 4), (mark_at(0, 2), 2)];
     named.extend(node(0, 0, 0, &[(1, 5), (2, 9)]));
     pool.assert_words(&named);
 }

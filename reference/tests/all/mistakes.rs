@@ -23,7 +23,7 @@ fn a_parent_mark_stays_while_a_brother_slot_has_it() {
     for (index, word) in [(0, 3), (1, 9), (64, 5)] {
         pool.expect_mark(index, 2, gives(index, 0, word, 4));
     }
-    let marks = |pool: &Pool| (pool.words[2], [0, 1, 2].map(|n| pool.words[at(n, 4)]));
+    let marks = |pool: &Pool| (pool.words[2], [0, 1, 2].map(|n| pool.words[mark_at(n, 2)]));
     assert_eq!(marks(&pool), (4, [3, 3, 1]));
     pool.expect_unmark(0, 2, gives(0, 0, 3, 0));
     assert_eq!(marks(&pool), (4, [3, 2, 1]));

@@ -20,14 +20,14 @@ fn load() -> Vec<u8> {
 
 #[test]
 fn pool_lengths() {
-    for length in [0, 1, 4, 5, 72, 74, 141, 143, 69_003, 69_005, 69_073] {
+    for length in [0, 1, 4, 5, 73, 75, 143, 145, 69_004, 70_003, 70_005, 70_074] {
         let words = vec![0; length];
         assert_eq!(init(&mut words.clone()), outcome(1, 0), "length {length}");
         assert_eq!(check(&words), outcome(1, 0), "length {length}");
         assert_eq!(refused(&words, &[9], 0), outcome(1, 0), "length {length}");
     }
     for count in [1, 2, 3, 999, 1000] {
-        let mut words = vec![JUNK; 4 + 69 * count];
+        let mut words = vec![JUNK; length_of(count)];
         assert_eq!(init(&mut words), outcome(0, 0));
         assert_eq!(check(&words), outcome(0, 0));
     }
@@ -35,16 +35,16 @@ fn pool_lengths() {
 
 #[test]
 fn a_wrong_length_comes_before_wrong_words() {
-    assert_eq!(check(&[JUNK; 74]), outcome(1, 0));
-    assert_eq!(refused(&[JUNK; 74], &[9], 0), outcome(1, 0));
+    assert_eq!(check(&[JUNK; 75]), outcome(1, 0));
+    assert_eq!(refused(&[JUNK; 75], &[9], 0), outcome(1, 0));
 }
 
 #[test]
 fn wrong_words_come_before_a_bad_batch() {
-    assert_eq!(refused(&[JUNK; 73], &[], 0), outcome(2, 0));
-    assert_eq!(refused(&[JUNK; 73], &[9], 0), outcome(2, 0));
-    assert_eq!(refused(&[JUNK; 73], &[0; 9000], 0), outcome(2, 0));
-    assert_eq!(refused(&[0; 73], &load(), 0), outcome(2, 0));
+    assert_eq!(refused(&[JUNK; 74], &[], 0), outcome(2, 0));
+    assert_eq!(refused(&[JUNK; 74], &[9], 0), outcome(2, 0));
+    assert_eq!(refused(&[JUNK; 74], &[0; 9000], 0), outcome(2, 0));
+    assert_eq!(refused(&[0; 74], &load(), 0), outcome(2, 0));
 }
 
 #[test]

@@ -208,7 +208,7 @@ fn a_store_of_a_larger_order_replaces_all_in_its_run() {
     pool.expect_mark(9, 2, gives(9, 0, 5, 6));
     pool.expect_store(8, 3, 7, gives(8, 3, 7, 2));
     let mut named = one_node(&[(8, 7), (16, 1030)]);
-    named.extend([(2, 2), (at(0, 3), 1 << 8)]);
+    named.extend([(2, 2), (mark_at(0, 1), 1 << 8)]);
     named.extend((9..=15).map(|slot| (slot_at(0, slot), 34)));
     pool.assert_words(&named);
 
@@ -412,14 +412,12 @@ fn the_check_takes_it_in_slots_of_shift_0_alone() {
     let leaves = (slot_at(1, 0)..slot_at(1, 64)).chain(slot_at(2, 1)..slot_at(2, 64));
     let good: Vec<usize> = leaves.collect();
     for place in 0..pool.words.len() {
-        let mut words = pool.words.clone();
-        words[place] = RESERVED;
+        let answer = |word| check(&with_word(&pool.words, place, word));
         let wanted = if good.contains(&place) { 0 } else { 2 };
-        assert_eq!(check(&words), outcome(wanted, 0), "word {place}");
+        assert_eq!(answer(RESERVED), outcome(wanted, 0), "word {place}");
         // Internal words beside it, among them XArray's retry entry 256, fit nowhere.
         for other in [1026, 1034] {
-            words[place] = other;
-            assert_eq!(check(&words), outcome(2, 0), "{other} in word {place}");
+            assert_eq!(answer(other), outcome(2, 0), "{other} in word {place}");
         }
     }
 }
@@ -453,7 +451,7 @@ fn the_check_of_its_mark_bits() {
     let named = one_node(&[(5, 1030), (6, 3)]);
     assert_eq!(checked(&named), 0);
     for mark in 0..3 {
-        let bits = at(0, 2 + mark);
+        let bits = mark_at(0, mark);
         let anchor = (2, 1 << mark);
         assert_eq!(checked(&with(named.clone(), &[(bits, 1 << 6), anchor])), 0);
         assert_eq!(checked(&with(named.clone(), &[(bits, 1 << 5), anchor])), 2);

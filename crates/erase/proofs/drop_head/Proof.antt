@@ -1,18 +1,17 @@
 -- `drop_head`: the head n, of tier h, gives way to what its slot 0 holds, if that is all it has: a node, or, at
 -- shift 0, an entry.
-use mathlib.Core.Path.{refl}
+use mathlib.Core.Path.{refl, sym, _∙_}
 use mathlib.Core.Logic.{inl, inr}
 use native.Mathlib.Omega.{arith}
-use borrow.Author.Tests.{not-true, not-false}
 use Rattle.blocks.proofs.BoolLaws.{clash}
 use Rattle.erase.proofs.LowerLaws.{
   under-fits,
   under-child,
-  stay-vacant,
+  stay-filled,
+  stay-empty,
   stay-held,
   drop-child,
   drop-held,
-  not-empty,
   not-sibling,
 }
 use Rattle.erase.proofs.FreedLaws.{raised-spares, freed-spares}
@@ -34,17 +33,17 @@ start-from-slot-word-arg c = c .before .before .before .before .before
 abbrev start-from-slot-word : tie.After-slot-word → tie.Start
 start-from-slot-word c = c .before .before .before .before .before .before
 
-abbrev vacant-from-read-slot : tie.After-read-slot → tie.After-vacant
-vacant-from-read-slot c = c .before .before .before .before
+abbrev filled-of-from-read-slot : tie.After-read-slot → tie.After-filled-of
+filled-of-from-read-slot c = c .before .before .before .before
 
 abbrev start-from-read-slot : tie.After-read-slot → tie.Start
-start-from-read-slot c = vacant-from-read-slot c .before .before .before
+start-from-read-slot c = filled-of-from-read-slot c .before .before .before
 
 abbrev else1-from-enum-told2 : tie.After-enum-told2 → tie.Else1
 else1-from-enum-told2 c = c .before .before .before .before .before
 
-abbrev vacant-from-enum-told2 : tie.After-enum-told2 → tie.After-vacant
-vacant-from-enum-told2 c = else1-from-enum-told2 c .before
+abbrev filled-of-from-enum-told2 : tie.After-enum-told2 → tie.After-filled-of
+filled-of-from-enum-told2 c = else1-from-enum-told2 c .before
 
 abbrev else1-from-enum-told3 : tie.After-enum-told3 → tie.Else1
 else1-from-enum-told3 c = c .before .before .before .before .before
@@ -109,9 +108,9 @@ slot-word-from-slice-known4 c = read-slot-from-slice-known4 c .before
 abbrev else1-from-slice-known4 : tie.After-slice-known4 → tie.Else1
 else1-from-slice-known4 c = slot-word-from-slice-known4 c .before .before
 
-vacant-requires : tie.Need-vacant-requires
-vacant-requires c κs = let H = c .before .before .pre .1 in
-    (under-fits (H .tower .tall) (c .before .before .pre .0) (H .there) (H .number) .0, (omega arith, omega arith))
+filled-of-requires : tie.Need-filled-of-requires
+filled-of-requires c κs = let H = c .before .before .pre .1 in
+    omega (arith, under-fits (H .tower .tall) (c .before .before .pre .0) (H .there) (H .number) .0)
 
 same-length : tie.Need-same-length
 same-length c = search needs
@@ -120,8 +119,7 @@ returns : tie.Need-returns
 returns c = (
   (λ k l os w t q. record {
     yes = λ e. absurd (clash e refl);
-    no = λ _. stay-vacant w (start-from-then1 c .pre .0) t q
-        (c .before .vacant .ensures .1 (not-true _ (c .if1 .taken)));
+    no = λ _. stay-filled w (start-from-then1 c .pre .0) t q (λ z. c .if1 .taken (c .before .filled-of .ensures ∙ z));
   }),
   λ low _. spares-same low _,
 )
@@ -207,9 +205,8 @@ returns-4 c = let d = c .before .before .raise .ensures in (
   (λ k l os w t q. record {
     yes = λ _. drop-child w (start-from-read-slot (read-slot-from-slice-known2 c) .pre .0) t q (slot-word-from-slice-known2 c .slot-word
         .ensures) (read-slot-from-slice-known2 c .read-slot .ensures)
-        (vacant-from-read-slot (read-slot-from-slice-known2 c) .vacant .ensures .0
-        (not-false _ (else1-from-slice-known2 c .if1
-        .left))) _ (k-from-slice-known2 c .k .given .1) (c .before .before .raise .kept .0)
+        (sym (filled-of-from-read-slot (read-slot-from-slice-known2 c) .filled-of .ensures) ∙
+        else1-from-slice-known2 c .if1 .left) _ (k-from-slice-known2 c .k .given .1) (c .before .before .raise .kept .0)
         (d .gone) (d .own) (d .head) (d .rest);
     no = λ e. absurd (clash refl e);
   }),
@@ -224,10 +221,9 @@ returns-5 c = let d = c .before .before .free-head .ensures in (
   (λ k l os w t q. record {
     yes = λ _. drop-held w (start-from-read-slot (read-slot-from-slice-known3 c) .pre .0) t q (slot-word-from-slice-known3 c .slot-word
         .ensures) (read-slot-from-slice-known3 c .read-slot .ensures)
-        (vacant-from-read-slot (read-slot-from-slice-known3 c) .vacant .ensures .0
-        (not-false _ (else1-from-slice-known3 c .if1
-        .left))) (inl (enum-told-from-slice-known3 c .enum-told .given .1))
-        (else2-from-slice-known3 c .if2 .left)
+        (sym (filled-of-from-read-slot (read-slot-from-slice-known3 c) .filled-of .ensures) ∙
+        else1-from-slice-known3 c .if1 .left) (inl (enum-told-from-slice-known3 c .enum-told .given .1))
+        (omega (arith, else2-from-slice-known3 c .if2 .left))
         (c .before .before .free-head .kept .0) (d .gone) (d .head) (d .rest);
     no = λ e. absurd (clash refl e);
   }),
@@ -241,10 +237,10 @@ returns-6 : tie.Need-returns-6
 returns-6 c = (
   (λ k l os w t q. record {
     yes = λ e. absurd (clash e refl);
-    no = λ _. absurd (not-empty w (start-from-else1 (else1-from-enum-told2 c) .pre .0)
+    no = λ _. stay-empty w (start-from-else1 (else1-from-enum-told2 c) .pre .0)
         t q (c .before .before .before .slot-word .ensures) (c .before .before .read-slot .ensures)
-        (vacant-from-enum-told2 c .vacant .ensures .0
-        (not-false _ (else1-from-enum-told2 c .if1 .left))) (c .enum-told2 .given .1));
+        (c .enum-told2 .given .1) (sym (filled-of-from-enum-told2 c .filled-of .ensures) ∙
+        else1-from-enum-told2 c .if1 .left);
   }),
   λ low _. spares-same low _,
 )
@@ -271,9 +267,8 @@ returns-8 c = let d = c .before .before .free-head2 .ensures in (
   (λ k l os w t q. record {
     yes = λ _. drop-held w (start-from-read-slot (read-slot-from-slice-known4 c) .pre .0) t q (slot-word-from-slice-known4 c .slot-word
         .ensures) (read-slot-from-slice-known4 c .read-slot .ensures)
-        (vacant-from-read-slot (read-slot-from-slice-known4 c) .vacant .ensures .0
-        (not-false _ (else1-from-slice-known4 c .if1
-        .left))) (inr (enum-told-from-slice-known4 c .enum-told4 .given .1))
+        (sym (filled-of-from-read-slot (read-slot-from-slice-known4 c) .filled-of .ensures) ∙
+        else1-from-slice-known4 c .if1 .left) (inr (enum-told-from-slice-known4 c .enum-told4 .given .1))
         (omega (arith, else3-from-slice-known4 c .if3 .left, start-from-read-slot (read-slot-from-slice-known4 c) .pre .0))
         (c .before .before .free-head2 .kept .0) (d .gone) (d .head) (d .rest);
     no = λ e. absurd (clash refl e);
@@ -285,7 +280,7 @@ pub drop-head-spec : {M : Type 1} → statement M
 drop-head-spec =
     tie.close
     (tie.spec
-    vacant-requires
+    filled-of-requires
     same-length
     returns
     slot-word-requires

@@ -5,12 +5,11 @@ use mathlib.Core.List.{List}
 use native.Mathlib.Omega.{arith}
 use native.Mathlib.Numerals.{add-one}
 use lib.ListN.{length}
-use borrow.Author.Tests.{not-true, not-false}
 use Rattle.tree.specs.Tree.{slots, topTier}
 use Rattle.layout.specs.Words.{maxNodes, lastPlace}
 use Rattle.layout.specs.WellFormed.{WellFormed}
 use Rattle.erase.specs.Leaving.{Cut, Cutting}
-use Rattle.erase.proofs.LeavingLaws.{cut-fits, cut-empty, cut-filled, cut-done, cut-top, cut-next, over-fits}
+use Rattle.erase.proofs.LeavingLaws.{cut-fits, cut-empty, cut-filled, cut-done, cut-top, cut-next, over-fits, over-counted}
 use Rattle.erase.proofs.FreedLaws.{freed-spares, unlinked-spares}
 use Rattle.erase.proofs.prune_up.Statement.{statement}
 use Rattle.erase.proofs.prune_up.Tie as tie
@@ -45,11 +44,11 @@ loop-from-free-head-arg c = c .before .before .before .before .before .before .b
 abbrev else1-from-unlink-arg : tie.After-unlink-arg Inv-loop μ-loop → tie.Else1 Inv-loop μ-loop
 else1-from-unlink-arg c = c .before .before .before .before .before
 
-abbrev vacant-from-unlink-arg : tie.After-unlink-arg Inv-loop μ-loop → tie.After-vacant Inv-loop μ-loop
-vacant-from-unlink-arg c = else1-from-unlink-arg c .before
+abbrev filled-of-from-unlink-arg : tie.After-unlink-arg Inv-loop μ-loop → tie.After-filled-of Inv-loop μ-loop
+filled-of-from-unlink-arg c = else1-from-unlink-arg c .before
 
 abbrev loop-from-unlink-arg : tie.After-unlink-arg Inv-loop μ-loop → tie.At-loop Inv-loop μ-loop
-loop-from-unlink-arg c = vacant-from-unlink-arg c .before .before
+loop-from-unlink-arg c = filled-of-from-unlink-arg c .before .before
 
 abbrev then2-from-slice-known2 : tie.After-slice-known2 Inv-loop μ-loop → tie.Then2 Inv-loop μ-loop
 then2-from-slice-known2 c = c .before .before .before .before
@@ -63,11 +62,11 @@ lesser-from-slice-known2 c = owner-of-from-slice-known2 c .before .before
 abbrev else1-from-slice-known2 : tie.After-slice-known2 Inv-loop μ-loop → tie.Else1 Inv-loop μ-loop
 else1-from-slice-known2 c = lesser-from-slice-known2 c .before
 
-abbrev vacant-from-slice-known2 : tie.After-slice-known2 Inv-loop μ-loop → tie.After-vacant Inv-loop μ-loop
-vacant-from-slice-known2 c = else1-from-slice-known2 c .before
+abbrev filled-of-from-slice-known2 : tie.After-slice-known2 Inv-loop μ-loop → tie.After-filled-of Inv-loop μ-loop
+filled-of-from-slice-known2 c = else1-from-slice-known2 c .before
 
 abbrev loop-from-slice-known2 : tie.After-slice-known2 Inv-loop μ-loop → tie.At-loop Inv-loop μ-loop
-loop-from-slice-known2 c = vacant-from-slice-known2 c .before .before
+loop-from-slice-known2 c = filled-of-from-slice-known2 c .before .before
 
 abbrev loop-from-slice-known3 : tie.After-slice-known3 Inv-loop μ-loop → tie.At-loop Inv-loop μ-loop
 loop-from-slice-known3 c = c .before .before .before .before .before .before .before .before .before .before .before
@@ -75,8 +74,8 @@ loop-from-slice-known3 c = c .before .before .before .before .before .before .be
 loop-holds : tie.Need-loop-holds Inv-loop μ-loop
 loop-holds c = (bounds (c .before .pre) refl, c .before .pre, omega arith, spares-same _ _, λ ws s k. k)
 
-vacant-requires : tie.Need-vacant-requires Inv-loop μ-loop
-vacant-requires c κs = (c .before .loop .inv .0 .node-in, (omega arith, omega arith))
+filled-of-requires : tie.Need-filled-of-requires Inv-loop μ-loop
+filled-of-requires c κs = omega (arith, c .before .loop .inv .0 .node-in)
 
 same-length : tie.Need-same-length Inv-loop μ-loop
 same-length c = c .before .before .before .loop .inv .0 .same
@@ -87,7 +86,7 @@ returns c = let w = c .before .before .before .loop .inv in (
   (
     w .3,
     λ ws s k. let k′ = w .4 ws s k in
-        cut-done s k′ (cut-filled s k′ (c .before .vacant .ensures .1 (not-true _ (c .if1 .taken)))),
+        cut-done s k′ (cut-filled s k′ (λ z. c .if1 .taken (c .before .filled-of .ensures ∙ z))),
   ),
 )
 
@@ -113,9 +112,8 @@ returns-2 c = let w = loop-from-slice-known2 c .loop
       (
         spares-then (omega arith) (w .3) (freed-spares d _ (omega arith)),
         λ ws s k. let k′ = w .4 ws s k in
-            cut-top s k′ (cut-empty s k′ (vacant-from-slice-known2 c
-            .vacant .ensures .0 (not-false _ (else1-from-slice-known2 c
-            .if1 .left))))
+            cut-top s k′ (cut-empty s k′ (sym (filled-of-from-slice-known2 c .filled-of .ensures) ∙
+            else1-from-slice-known2 c .if1 .left))
             (sym (owner-of-from-slice-known2 c .owner-of .ensures) ∙ then2-from-slice-known2 c .if2
             .taken) (c .before .before .free-head .kept .0) (d .gone) (d .head) (d .rest),
       ),
@@ -130,13 +128,17 @@ sub-unlink c = omega arith
 unlink-requires : tie.Need-unlink-requires Inv-loop μ-loop
 unlink-requires c κs = let w = loop-from-unlink-arg c .loop .inv in
     let k = w .1 in
-    let g = cut-empty (k .formed) (k .state) (vacant-from-unlink-arg c .vacant .ensures .0
-    (not-false _ (else1-from-unlink-arg c .if1 .left))) in (
+    let g = cut-empty (k .formed) (k .state) (sym (filled-of-from-unlink-arg c .filled-of .ensures) ∙
+    else1-from-unlink-arg c .if1 .left) in (
       w .0 .node-in,
       (
         over-fits (k .formed) (k .state) g (c .before .before .owner-of .result) (c .before .before .owner-of .ensures)
             (c .before .if2 .left) .0,
-        omega arith,
+        (
+          omega arith,
+          over-counted (k .formed) (k .state) g (c .before .before .owner-of .result)
+              (c .before .before .owner-of .ensures) (c .before .if2 .left),
+        ),
       ),
     )
 
@@ -159,13 +161,13 @@ step-cut : (c : tie.After-slice-known3 Inv-loop μ-loop) (ws : List ℕ) (s : We
     (c .before .before .unlink .last .0)
 step-cut c ws s k =
     let d = c .before .before .unlink .ensures in
-    let g = cut-empty s k (c .before .before .before .before .before .before .before .before .before .vacant .ensures
-    .0 (not-false _ (c .before .before .before .before .before .before .before .before .if1 .left))) in
+    let g = cut-empty s k (sym (c .before .before .before .before .before .before .before .before .before .filled-of
+    .ensures) ∙ c .before .before .before .before .before .before .before .before .if1 .left) in
     let p = c .before .before .before .before .before .owner-of .result in
     let r = c .before .before .before .before .before .owner-of .ensures in
     let ne = c .before .before .before .before .if2 .left in
     cut-next s k g p r ne (c .before .before .unlink .kept .0) (d .gone) (d .cleared (over-fits s k g p r ne .1))
-    (d .rest)
+    (d .counted (over-fits s k g p r ne .1)) (d .rest)
 
 next : (c : tie.After-slice-known3 Inv-loop μ-loop) →
     Inv-loop (c .before .before .before .before .before .before .before .before .before .before .before .before
@@ -217,7 +219,7 @@ prune-up-spec =
     Inv-loop
     μ-loop
     loop-holds
-    vacant-requires
+    filled-of-requires
     same-length
     returns
     lesser-requires

@@ -5,25 +5,43 @@ use borrow.Author.Needs.{needs}
 use Rattle.execute.proofs.reserved_reply.Statement.{statement}
 use Rattle.execute.proofs.reserved_reply.Tie as tie
 
+enum-known-x : tie.Need-enum-known-x
+enum-known-x c = search needs
+
+answered-by-requires : tie.Need-answered-by-requires
+answered-by-requires c κs = search needs
+
 enum-told : tie.Need-enum-told
 enum-told c = search needs
 
 answered-requires : tie.Need-answered-requires
 answered-requires c κs = search needs
 
-enum-known-x : tie.Need-enum-known-x
-enum-known-x c = search needs
+enum-told-2 : tie.Need-enum-told-2
+enum-told-2 c = search needs
 
-tried-reply-requires : tie.Need-tried-reply-requires
-tried-reply-requires c κs = search needs
+answered-requires-2 : tie.Need-answered-requires-2
+answered-requires-2 c κs = search needs
 
 returns : tie.Need-returns
-returns c = c .answered .ensures ∙ sym (ap reservedReply (c .before .enum-told .given .1))
+returns c = c .answered-by .ensures ∙ sym (ap reservedReply (c .before .before .x .given .1))
 
 returns-2 : tie.Need-returns-2
-returns-2 c = c .tried-reply .ensures ∙ sym (ap reservedReply (c .before .before .x .given .1))
+returns-2 c = c .answered .ensures ∙ sym (ap reservedReply (c .before .enum-told .given .1))
+
+returns-3 : tie.Need-returns-3
+returns-3 c = c .answered2 .ensures ∙ sym (ap reservedReply (c .before .enum-told2 .given .1))
 
 pub reserved-reply-spec : {M : Type 1} → statement M
 reserved-reply-spec =
     tie.close
-    (tie.spec enum-told answered-requires enum-known-x tried-reply-requires returns returns-2)
+    (tie.spec
+    enum-known-x
+    answered-by-requires
+    enum-told
+    answered-requires
+    enum-told-2
+    answered-requires-2
+    returns
+    returns-2
+    returns-3)

@@ -1,46 +1,60 @@
--- `steps_ok`: whether the slots of node n are as they must be, from step to step.
+-- `steps_ok`: whether the slots of node n are as they must be and k of them filled, from step to step.
 use native.Mathlib.Omega.{arith}
 use Prim.Native.Nat.{_-_}
 use Rattle.tree.specs.Tree.{slots}
 use Rattle.layout.specs.Pool.{poolOf}
-use Rattle.scan.proofs.TestLaws.{yes!, no! }
-use Rattle.scan.proofs.StepLaws.{Gone, gone-start, gone-on}
+use Rattle.scan.proofs.TestLaws.{no! }
+use Rattle.scan.proofs.TallyLaws.{Tallied, tallied-start, tallied-on, all-tallied}
 use Rattle.scan.proofs.steps_ok.Statement.{statement}
 use Rattle.scan.proofs.steps_ok.Tie as tie
 
 abbrev Inv-loop : tie.InvT-loop
-Inv-loop pool n v m j₀ j = Gone (poolOf pool) n v j
+Inv-loop pool n v k m j₀ c₀ j c = Tallied (poolOf pool) n v j c
 
 abbrev μ-loop : tie.MeasureT-loop
-μ-loop pool n v m j₀ j = slots - j
+μ-loop pool n v k m j₀ c₀ j c = slots - j
 
 -- THE PLACES IN THE CODE, each from one after it
 abbrev start-from-in-loop : tie.In-loop Inv-loop μ-loop → tie.Start Inv-loop μ-loop
 start-from-in-loop c = c .before .before .before .before
 
+abbrev step-from-if-filled : tie.After-if-filled Inv-loop μ-loop → tie.After-step Inv-loop μ-loop
+step-from-if-filled c = c .before .before
+
+abbrev loop-from-if-filled : tie.After-if-filled Inv-loop μ-loop → tie.At-loop Inv-loop μ-loop
+loop-from-if-filled c = step-from-if-filled c .before .before
+
 all-marks-requires : tie.Need-all-marks-requires Inv-loop μ-loop
 all-marks-requires c κs = omega arith
 
 loop-holds : tie.Need-loop-holds Inv-loop μ-loop
-loop-holds c = gone-start _ _ _
+loop-holds c = tallied-start _ _ _
 
 step-requires : tie.Need-step-requires Inv-loop μ-loop
-step-requires c κs = (start-from-in-loop c .pre .0, ((omega arith, omega arith), (c .before .before .all-marks .ensures, c .before .loop .inv .past)))
+step-requires c κs = (start-from-in-loop c .pre .0, ((omega arith, omega arith), (c .before .before .all-marks .ensures, c .before .loop .inv .gone .past)))
 
 returns : tie.Need-returns Inv-loop μ-loop
-returns c = no! (c .before .step .ensures .bad (c .if1 .taken))
+returns c = no! (λ s. c .before .step .ensures .bad (c .if1 .taken) (s .slots-ok))
+
+if-filled-requires : tie.Need-if-filled-requires Inv-loop μ-loop
+if-filled-requires c κs = omega arith
+
+add-c : tie.Need-add-c Inv-loop μ-loop
+add-c c = let L = loop-from-if-filled c .loop .inv in
+    omega (arith, c .if-filled .ensures .1, step-from-if-filled c .step .ensures .inside, L .few)
 
 add-j : tie.Need-add-j Inv-loop μ-loop
-add-j c = omega (arith, c .before .step .ensures .inside)
+add-j c = omega (arith, step-from-if-filled c .step .ensures .inside)
 
 loop-less : tie.Need-loop-less Inv-loop μ-loop
-loop-less c = omega (arith, c .before .step .ensures .inside)
+loop-less c = omega (arith, step-from-if-filled c .step .ensures .inside, c .before .if1 .left)
 
 loop-again : tie.Need-loop-again Inv-loop μ-loop
-loop-again c = gone-on _ _ _ _ _ (c .before .before .before .loop .inv) (c .before .step .ensures) (c .if1 .left)
+loop-again c = let L = loop-from-if-filled c .loop .inv in
+    tallied-on _ _ _ _ _ _ _ L (step-from-if-filled c .step .ensures) (c .before .if1 .left) (c .if-filled .ensures .0)
 
 returns-2 : tie.Need-returns-2 Inv-loop μ-loop
-returns-2 c = let L = c .before .loop in yes! (λ j lt. L .inv .ok j (omega (arith, L .inv .inside)))
+returns-2 c = let L = c .before .loop .inv in all-tallied _ _ _ _ _ _ L (omega arith)
 
 pub steps-ok-spec : {M : Type 1} → statement M
 steps-ok-spec =
@@ -52,6 +66,8 @@ steps-ok-spec =
     loop-holds
     step-requires
     returns
+    if-filled-requires
+    add-c
     add-j
     loop-less
     loop-again

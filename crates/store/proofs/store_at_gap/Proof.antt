@@ -6,9 +6,11 @@ use lib.ListN.{length, getD}
 use Rattle.blocks.proofs.BoolLaws.{not-false}
 use Rattle.tree.specs.Tree.{slotBits}
 use Rattle.layout.specs.Words.{lastPlace, slotPlace}
-use Rattle.lookup.proofs.WordLaws.{node-fits}
+use Rattle.lookup.proofs.WordLaws.{node-at, node-fits}
 use Rattle.write.specs.declared.Seat.{Seat}
-use Rattle.write.specs.Writes.{entered}
+use Rattle.write.specs.Writes.{settled}
+use Rattle.store.proofs.FilledWords.{filled-bound}
+use Rattle.store.proofs.ReachLaws.{reached-gap}
 use Rattle.store.proofs.AtGap.{slots-done, slots-used}
 use borrow.Author.Needs.{needs}
 use Rattle.store.proofs.store_at_gap.Statement.{statement}
@@ -21,11 +23,11 @@ start c = c .before .before .before .before
 abbrev seat : tie.After-vacant → tie.After-seat-of
 seat c = c .before .before .before
 
-abbrev asked : tie.After-enter → tie.After-vacant
+abbrev asked : tie.After-settle → tie.After-vacant
 asked c = c .before .before .before
 
-abbrev entered-at : tie.After-slice-known5 → tie.After-enter
-entered-at c = c .before .before
+abbrev settled-at : tie.After-slice-known5 → tie.After-settle
+settled-at c = c .before .before
 
 abbrev start-below : tie.After-store-below-arg → tie.Start
 start-below c = c .before .before .before .before
@@ -50,6 +52,13 @@ node-ok c = let p = start (c .before) .pre in omega (
   node-fits (p .0) (p .1 .1 .1 (p .0) .at-node) .0,
 )
 
+node-lt : (c : tie.After-seat-of) → c .seat-of .result .node < start (c .before) .pre .0 .n
+node-lt c = let p = start (c .before) .pre in omega (
+  arith,
+  ap (λ (e : Seat). e .node) (c .seat-of .ensures .0),
+  node-at (p .0) (p .1 .1 .1 (p .0) .at-node) .0,
+)
+
 store-below-requires : tie.Need-store-below-requires
 store-below-requires c κs = let p = start-below c .pre in
     (p .0, (p .1 .0, ((c .before .if1 .taken, p .1 .1 .0), p .1 .1 .1)))
@@ -61,7 +70,16 @@ returns : tie.Need-returns
 returns c = below c .store-below .ensures
 
 store-new-requires : tie.Need-store-new-requires
-store-new-requires c κs = let p = start-new c .pre in (p .0, (p .1 .0, λ s. p .1 .1 .1 s .new))
+store-new-requires c κs = let p = start-new c .pre in (
+  p .0,
+  (
+    p .1 .0,
+    λ s. (
+      p .1 .1 .1 s .new,
+      reached-gap _ _ _ _ _ (p .1 .1 .1 s .at-node) (omega (arith, c .before .if2 .taken)),
+    ),
+  ),
+)
 
 same-length-2 : tie.Need-same-length-2
 same-length-2 c = search needs
@@ -79,7 +97,16 @@ vacant-requires : tie.Need-vacant-requires
 vacant-requires c κs = let x = c .before .before in (node-ok x, (omega arith, omega (arith, x .seat-of .ensures .1 .0)))
 
 store-new-requires-2 : tie.Need-store-new-requires-2
-store-new-requires-2 c κs = let p = start (seat (c .before .before) .before) .pre in (p .0, (p .1 .0, λ s. p .1 .1 .1 s .new))
+store-new-requires-2 c κs = let x = seat (c .before .before) in let p = start (x .before) .pre in (
+  p .0,
+  (
+    p .1 .0,
+    λ s. (
+      p .1 .1 .1 s .new,
+      reached-gap _ _ _ _ _ (p .1 .1 .1 s .at-node) (omega (arith, x .before .before .if1 .left)),
+    ),
+  ),
+)
 
 same-length-3 : tie.Need-same-length-3
 same-length-3 c = search needs
@@ -87,28 +114,28 @@ same-length-3 c = search needs
 returns-3 : tie.Need-returns-3
 returns-3 c = new-2 c .store-new2 .ensures
 
-enter-requires : tie.Need-enter-requires
-enter-requires c κs = let x = seat (c .before .before) in
-    (node-ok x, (x .seat-of .ensures .1 .0, x .seat-of .ensures .1 .1))
+settle-requires : tie.Need-settle-requires
+settle-requires c κs = let x = seat (c .before .before) in
+    (node-ok x, ((x .seat-of .ensures .1 .0, x .seat-of .ensures .1 .1), filled-bound (start (x .before) .pre .0) _ (node-lt x)))
 
 entry-of-requires : tie.Need-entry-of-requires
-entry-of-requires c κs = start (seat (asked (entered-at c)) .before) .pre .1 .0 .0
+entry-of-requires c κs = start (seat (asked (settled-at c)) .before) .pre .1 .0 .0
 
 same-length-4 : tie.Need-same-length-4
 same-length-4 c = search needs
 
 returns-4 : tie.Need-returns-4
-returns-4 c = let n = entered-at (c .before) in let y = asked n in let x = seat y in let z = start (x .before) in
+returns-4 c = let n = settled-at (c .before) in let y = asked n in let x = seat y in let z = start (x .before) in
     let a = z .args in let p = z .pre in
     let t = a .target in let g = p .1 .0 .0 in let q = x .seat-of .ensures .0 in
     let tier-is : t .order / slotBits ≡ a .u = omega (arith, x .before .before .if1 .left, x .before .if2 .left) in
     let r : Seat = x .seat-of .result in
     let none = subst (λ (e : Seat). (j : ℕ) → j < e .count → getD (a .pool .now) (slotPlace (e .node) (e .slot + j)) 0 ≡ 0) q
     (λ j lt. y .vacant .ensures .0 (not-false _ (n .before .before .if3 .left)) (r .slot + j) (omega arith) (omega arith)) in
-    let words = n .enter .ensures ∙ ap (λ (e : Seat). entered (a .pool .now) (e .node) (e .slot) (e .count)
+    let words = n .settle .ensures ∙ ap (λ (e : Seat). settled (a .pool .now) (e .node) (e .slot) (e .count)
     (t .word)) q in (
       λ s. slots-done s (t .index) (t .order) (t .word) (a .u) (a .a) (g .index-fits) (g .order-le) (p .1 .1 .1 s) tier-is
-          none (c .entry-of .ensures) words,
+          none (g .is-entry) (c .entry-of .ensures) words,
       slots-used (p .0) (t .index) (t .order) (t .word) (a .u) (a .a) (g .index-fits) (g .order-le) (p .1 .1 .1 (p .0))
           tier-is none (g .is-entry) (g .word-fits) (p .1 .0 .1) words,
     )
@@ -129,7 +156,7 @@ store-at-gap-spec =
     store-new-requires-2
     same-length-3
     returns-3
-    enter-requires
+    settle-requires
     entry-of-requires
     same-length-4
     returns-4)

@@ -1,0 +1,136 @@
+-- `run_other`: any command but a store and a reservation.
+use mathlib.Core.Path.{ap}
+use Rattle.blocks.proofs.BoolLaws.{clash}
+use Rattle.batch.specs.declared.Command.{Command}
+use Rattle.execute.specs.Contracts.{putOf}
+use Rattle.execute.proofs.ReplyLaws.{by-command, leaves-words}
+use Rattle.execute.proofs.ExecuteLaws.{load-list, find-list}
+use borrow.Author.Needs.{needs}
+use Rattle.execute.proofs.run_other.Statement.{statement}
+use Rattle.execute.proofs.run_other.Tie as tie
+
+enum-told : tie.Need-enum-told
+enum-told c = search needs
+
+nothing-requires : tie.Need-nothing-requires
+nothing-requires c κs = search needs
+
+enum-known-c : tie.Need-enum-known-c
+enum-known-c c = search needs
+
+run-load-requires : tie.Need-run-load-requires
+run-load-requires c κs = search needs
+
+enum-known-c-2 : tie.Need-enum-known-c-2
+enum-known-c-2 c = search needs
+
+run-erase-requires : tie.Need-run-erase-requires
+run-erase-requires c κs = search needs
+
+enum-known-c-3 : tie.Need-enum-known-c-3
+enum-known-c-3 c = search needs
+
+run-remark-requires : tie.Need-run-remark-requires
+run-remark-requires c κs = search needs
+
+enum-known-c-4 : tie.Need-enum-known-c-4
+enum-known-c-4 c = search needs
+
+run-remark-requires-2 : tie.Need-run-remark-requires-2
+run-remark-requires-2 c κs = search needs
+
+enum-known-c-5 : tie.Need-enum-known-c-5
+enum-known-c-5 c = search needs
+
+run-find-requires : tie.Need-run-find-requires
+run-find-requires c κs = search needs
+
+enum-told-2 : tie.Need-enum-told-2
+enum-told-2 c = search needs
+
+nothing-requires-2 : tie.Need-nothing-requires-2
+nothing-requires-2 c κs = search needs
+
+returns : tie.Need-returns
+returns c = absurd (clash (ap (λ (y : Command). putOf y .is) (c .before .enum-told .given .1)) (c .before .before .before .before .pre .1 .1))
+
+same-length : tie.Need-same-length
+same-length c = search needs
+
+returns-2 : tie.Need-returns-2
+returns-2 c = (
+  (λ s. by-command s (c .before .before .before .c .given .1)
+      (leaves-words s _ (load-list (s .n) (s .list) _) (c .run-load .ensures s))),
+  c .before .before .before .before .before .before .pre .1 .0,
+)
+
+same-length-2 : tie.Need-same-length-2
+same-length-2 c = search needs
+
+returns-3 : tie.Need-returns-3
+returns-3 c = (
+  (λ s. by-command s (c .before .before .before .before .before .c2 .given .1) (c .before .before .run-erase .ensures .0 s)),
+  c .before .before .run-erase .ensures .1,
+)
+
+same-length-3 : tie.Need-same-length-3
+same-length-3 c = search needs
+
+returns-4 : tie.Need-returns-4
+returns-4 c = (
+  (λ s. by-command s (c .before .before .before .before .before .c3 .given .1) (c .before .before .run-remark .ensures .0 s)),
+  c .before .before .run-remark .ensures .1 _ (c .before .before .before .before .before .before .before .before .pre .1 .0),
+)
+
+same-length-4 : tie.Need-same-length-4
+same-length-4 c = search needs
+
+returns-5 : tie.Need-returns-5
+returns-5 c = (
+  (λ s. by-command s (c .before .before .before .before .before .c4 .given .1) (c .before .before .run-remark2 .ensures .0 s)),
+  c .before .before .run-remark2 .ensures .1 _ (c .before .before .before .before .before .before .before .before .pre .1 .0),
+)
+
+same-length-5 : tie.Need-same-length-5
+same-length-5 c = search needs
+
+returns-6 : tie.Need-returns-6
+returns-6 c = (
+  (λ s. by-command s (c .before .before .before .c5 .given .1)
+      (leaves-words s _ (find-list (s .n) (s .list) _ _ _ _) (c .run-find .ensures s))),
+  c .before .before .before .before .before .before .pre .1 .0,
+)
+
+returns-7 : tie.Need-returns-7
+returns-7 c = absurd (clash (ap (λ (y : Command). putOf y .is) (c .before .enum-told2 .given .1)) (c .before .before .before .before .pre .1 .1))
+
+pub run-other-spec : {M : Type 1} → statement M
+run-other-spec =
+    tie.close
+    (tie.spec
+    enum-told
+    nothing-requires
+    enum-known-c
+    run-load-requires
+    enum-known-c-2
+    run-erase-requires
+    enum-known-c-3
+    run-remark-requires
+    enum-known-c-4
+    run-remark-requires-2
+    enum-known-c-5
+    run-find-requires
+    enum-told-2
+    nothing-requires-2
+    returns
+    same-length
+    returns-2
+    same-length-2
+    returns-3
+    same-length-3
+    returns-4
+    same-length-4
+    returns-5
+    same-length-5
+    returns-6
+    returns-7)
