@@ -3,7 +3,7 @@
 use crate::finds::runs;
 use crate::library::Library;
 use crate::loads::*;
-use crate::measure::{empty_pool, nanoseconds};
+use crate::measure::{empty_pool, longest_batch, nanoseconds};
 use std::hint::black_box;
 use std::time::Instant;
 use xapool_host::layout::{
@@ -146,7 +146,7 @@ fn pool(library: &dyn Library, kind: &Kind, nodes: usize) -> Result<Vec<u64>, St
     let mut pool = empty_pool(library, nodes)?;
     // Once full, no more fit; marks of what is not there are refused, and that is all.
     for part in [&kind.stores, &kind.marks] {
-        for batch in batches(part) {
+        for batch in batches(part, longest_batch(&[library])?) {
             let mut reply = vec![0; REPLY_BYTES * batch.len()];
             let result = library.run(&mut pool, batch.bytes(), &mut reply);
             if result.answer != 0 {
