@@ -1,0 +1,4 @@
+pub mod BitOneLaws
+pub mod CountLaws
+pub mod FlipLaws
+pub mod MapLaws
