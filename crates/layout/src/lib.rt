@@ -20,7 +20,7 @@ pub const ANCHOR_WORDS: u64 = 4;
 
 pub const NODE_WORDS: u64 = 70;
 
-pub const MAX_NODES: u64 = 1000;
+pub const MAX_NODES: u64 = 16384;
 
 pub const COUNT_WORD: usize = 0;
 
