@@ -1,11 +1,11 @@
 -- The map of the nodes that pass a test: a node taken or given, the lowest node, and the map of none.
-use Prim.Native.Nat.{ℕ, _+_, _-_, _*_, _/_, _%_, _^_, _≤_, _<_}
+use Prim.Native.Nat.{ℕ, zero, suc, _+_, _-_, _*_, _/_, _%_, _^_, _≤_, _<_}
 use mathlib.Core.Path.{_≡_, refl, sym, ap, ap₂, _∙_}
 use mathlib.Core.Bool.{Bool, true, false}
 use mathlib.Core.List.{List}
 use native.Mathlib.Omega.{arith}
 use lib.Dec.{eqb, ltb}
-use lib.ListN.{length, getD, set, length-set}
+use lib.ListN.{length, getD, set, replicate, length-set}
 use lib.Seq.{getD-set-same, getD-set-other}
 use borrow.Author.Tests.{eqb-true, eqb-false, eq-eqb, ne-eqb, ltb-true, ltb-false, lt-ltb, le-ltb}
 use Rattle.blocks.specs.Choice.{both}
@@ -215,6 +215,12 @@ map-none f ms l z n = record {
   tops = λ j lt. bit-zero (getD ms ((mapNodes + j) / slots) 0) ((mapNodes + j) % slots) (z ((mapNodes + j) / slots)) ∙ rw (eq-eqb _ _ (z j));
   count-is = z mapCount ∙ sym (count-none f mapNodes n);
 }
+
+-- an array of zeros
+pub zero-words : (n j : ℕ) → getD {A = ℕ} (replicate n 0) j 0 ≡ 0
+zero-words zero j = refl
+zero-words (suc n) zero = refl
+zero-words (suc n) (suc j) = zero-words n j
 
 -- THE MAP OF A POOL, node by node
 pub build-start : (ws ms : List ℕ) → length ms ≡ mapWords → ((j : ℕ) → getD ms j 0 ≡ 0) → MapOf (freeTo 0 ws) ms

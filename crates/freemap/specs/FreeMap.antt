@@ -2,11 +2,11 @@
 -- last the count of the nodes that are free. So the lowest free node and the count are a few words away in any pool.
 use Prim.Native.Nat.{ℕ, zero, suc, _+_, _/_, _%_, _≤_, _<_}
 use mathlib.Core.Path.{_≡_}
-use mathlib.Core.Bool.{Bool, true, false}
+use mathlib.Core.Bool.{Bool, true, false, not}
 use mathlib.Core.List.{List}
 use lib.Dec.{eqb, ltb}
 use lib.ListN.{length, getD}
-use Rattle.blocks.specs.Choice.{pick, both}
+use Rattle.blocks.specs.Choice.{pick, both, either}
 use Rattle.blocks.specs.Blocks.{bit}
 use Rattle.tree.specs.Tree.{slots}
 use Rattle.layout.specs.Words.{countWord, shiftPlace}
@@ -69,6 +69,16 @@ pub record FreeMap (ws ms : List ℕ) : Type 0 where
 -- as before, but node m is free, or is not
 abbrev pub put : (ℕ → Bool) → ℕ → Bool → ℕ → Bool
 put f m b x = pick (eqb x m) b (f x)
+
+-- node m was freed from one pool to another: its first word was not 0, and is 0
+abbrev pub freedBy : List ℕ → List ℕ → ℕ → Bool
+freedBy ws ws′ m = both (not (eqb (getD ws (shiftPlace m) 0) 0)) (eqb (getD ws′ (shiftPlace m) 0) 0)
+
+-- nodes were freed and nothing else befell a first word; the map has all that it had, and these nodes. What the map says
+-- of the first pool is left open: a store takes numbers from it before it frees, and writes the new nodes after that.
+pub record Follows (ws ws′ ms ms′ : List ℕ) : Type 0 where
+  pub stays : (m : ℕ) → (getD ws′ (shiftPlace m) 0 ≡ 0 → ⊥) → getD ws′ (shiftPlace m) 0 ≡ getD ws (shiftPlace m) 0
+  pub maps : (f : ℕ → Bool) → MapOf f ms → MapOf (λ m. either (f m) (freedBy ws ws′ m)) ms′
 
 -- r is the lowest node in the map, or mapNodes if there is none
 pub record Lowest (ms : List ℕ) (r : ℕ) : Type 0 where

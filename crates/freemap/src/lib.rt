@@ -3,18 +3,21 @@
 //
 // map: its words, as specs/FreeMap has them; m: the number of a node; x: a bit of the map; k: one of its words.
 use layout::SLOTS;
+use layout::clear_node;
 use layout::next_marked;
 use layout::pow2;
 use layout::shift_of;
 ghost use Prim.Native.Nat.{ℕ, _+_, _*_, _/_, _<_, _≤_};
 ghost use mathlib.Core.Path.{_≡_};
-ghost use mathlib.Core.Bool.{Bool, true, false};
+ghost use mathlib.Core.Bool.{Bool, true, false, not};
 ghost use lib.Dec.{eqb};
 ghost use lib.ListN.{getD, length};
+ghost use Rattle.blocks.specs.Choice.{either};
 ghost use Rattle.tree.specs.Tree.{slots};
-ghost use Rattle.layout.specs.Words.{countWord, poolWords};
+ghost use Rattle.layout.specs.Words.{countWord, poolWords, lastPlace};
+ghost use Rattle.layout.specs.Fill.{cleared};
 ghost use Rattle.freemap.specs.FreeMap.{mapNodes, mapTop, mapCount, mapWords, mapBit, oneOver, put};
-ghost use Rattle.freemap.specs.FreeMap.{MapOf, Sound, FreeMap, Lowest, Flips, Topped};
+ghost use Rattle.freemap.specs.FreeMap.{MapOf, Sound, FreeMap, Follows, Lowest, Flips, Topped};
 
 // The map's measures, as specs/FreeMap has them.
 pub const MAP_NODES: u64 = 16384;
@@ -117,6 +120,31 @@ pub fn give(map: &mut [u64], m: u64)
     set_bit(map, m);
     raise_word(map, k, w);
     map[MAP_COUNT] = map[MAP_COUNT] + 1;
+}
+
+// Node m, whose first word is w, is in the map from here on if it is in use now.
+fn give_used(map: &mut [u64], m: u64, w: u64)
+    requires { ⌜ Sound (now map) ⌝ }
+    requires { ⌜ m < mapNodes ⌝ }
+    ensures { λ _. ⌜ ((f : ℕ → Bool) → MapOf f (now (map .entry)) →
+        MapOf (put f m (either (f m) (not (eqb w 0)))) (now (map .exit))) ⌝ }
+{
+    if w != 0 {
+        give(map, m);
+    }
+}
+
+// Frees node n: all its words become 0, and it enters the map. A node that was free stays as it is, in the map or not: so
+// this holds of any words, and a caller need not know that it meets no node twice.
+pub fn release(pool: &mut [u64], map: &mut [u64], n: u64)
+    requires { do ⌜ lastPlace n < (← ⟦pool.len()⟧) ⌝ }
+    requires { ⌜ Sound (now map) ⌝ }
+    requires { ⌜ n < mapNodes ⌝ }
+    ensures { λ _. ⌜ now (pool .exit) ≡ cleared (now (pool .entry)) n ⌝ }
+    ensures { λ _. ⌜ Follows (now (pool .entry)) (now (pool .exit)) (now (map .entry)) (now (map .exit)) ⌝ }
+{
+    give_used(map, n, shift_of(pool, n));
+    clear_node(pool, n);
 }
 
 // Node m, whose first word is w, is in the map from here on if it is free.

@@ -120,8 +120,11 @@ module _ (os : Places) (k : ℕ) (nums ms : List ℕ) (D : Drawn os k nums ms) (
       (λ t. let ne : x ≡ r → ⊥ = eqb-false _ _ t in
       rw t (iff (leftFree os k x) (leftFree os (k + 1) x) (more ne)
       (λ y. both-i (both-l (freePlace os x) (leb (k + 1) (freeTo os x)) y)
-      (le-leb k (freeTo os x) (omega (arith, leb-true (k + 1) (freeTo os x)
-      (both-r (freePlace os x) (leb (k + 1) (freeTo os x)) y)))))))
+      (le-leb k (freeTo os x) (omega (
+        arith,
+        leb-true (k + 1) (freeTo os x)
+            (both-r (freePlace os x) (leb (k + 1) (freeTo os x)) y),
+      ))))))
     where
       more : (x ≡ r → ⊥) → leftFree os k x ≡ true → leftFree os (k + 1) x ≡ true
       more ne y = byT (ltb x r) (λ z. absurd (clash y (below x (ltb-true _ _ z))))

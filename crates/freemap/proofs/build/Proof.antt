@@ -16,36 +16,38 @@ abbrev μ-loop : tie.MeasureT-loop
 μ-loop pool map₀ n m₀ map m = n - m
 
 loop-holds : tie.Need-loop-holds Inv-loop μ-loop
-loop-holds c = let p = c .before .before .pre in (omega arith, refl, build-start (c .before .before .args .pool .now) (c .before .before .args .map .now) (p .1 .0) (p .1 .1))
+loop-holds c = let z = c .before .before in
+    (omega arith, refl, build-start (z .args .pool .now) (z .args .map .now) (z .pre .1 .0) (z .pre .1 .1))
 
 shift-of-requires : tie.Need-shift-of-requires Inv-loop μ-loop
 shift-of-requires c κs = omega (arith, c .before .before .before .before .before .pre .0 .1, c .before .loop-test .taken)
 
 enter-requires : tie.Need-enter-requires Inv-loop μ-loop
-enter-requires c κs = (
-  record { free = freeTo (c .before .before .before .loop .m) (c .before .before .before .before .before .before .args .pool .now); is = c .before .before .before .loop .inv .2 },
-  omega (arith, c .before .before .before .before .before .before .pre .0 .2, c .before .before .loop-test .taken),
+enter-requires c κs = let w = c .before .before .before in let z = w .before .before .before in (
+  record { free = freeTo (w .loop .m) (z .args .pool .now); is = w .loop .inv .2 },
+  omega (arith, z .pre .0 .2, c .before .before .loop-test .taken),
 )
 
 add-m : tie.Need-add-m Inv-loop μ-loop
-add-m c = omega (arith, c .before .before .before .before .before .before .before .before .before .pre .0 .2, c .before .before .before .before .before .loop-test .taken)
+add-m c = let t = c .before .before .before .before .before in omega (arith, t .before .before .before .before .pre .0 .2, t .loop-test .taken)
 
 loop-less : tie.Need-loop-less Inv-loop μ-loop
 loop-less c = omega (arith, c .before .before .before .before .before .loop-test .taken)
 
 loop-again : tie.Need-loop-again Inv-loop μ-loop
-loop-again c = (
-  omega (arith, c .before .before .before .before .before .loop-test .taken),
-  c .before .before .enter .kept .0 ∙ c .before .before .before .before .before .before .loop .inv .1,
-  build-step (c .before .before .before .before .before .before .before .before .before .args .pool .now) (c .before .before .before .before .before .before .loop .m) (c .before .before .before .shift-of .result) (c .before .before .before .shift-of .ensures) (c .before .before .enter .ensures) (c .before .before .before .before .before .before .loop .inv .2),
+loop-again c = let g = c .before .before in let r = g .before in let t = r .before .before in let w = t .before in (
+  omega (arith, t .loop-test .taken),
+  g .enter .kept .0 ∙ w .loop .inv .1,
+  build-step (w .before .before .before .args .pool .now) (w .loop .m) (r .shift-of .result) (r .shift-of .ensures) (g .enter .ensures) (w .loop .inv .2),
 )
 
 same-length : tie.Need-same-length Inv-loop μ-loop
 same-length c = c .before .loop .inv .1
 
 returns : tie.Need-returns Inv-loop μ-loop
-returns c = let e : c .before .loop .m ≡ getD (c .before .before .before .before .args .pool .now) countWord 0 = omega (arith, c .before .before .before .before .pre .0 .0, c .loop-test .left, c .before .loop .inv .0) in
-    record { is = subst (λ (y : ℕ). MapOf (freeTo y (c .before .before .before .before .args .pool .now)) (c .before .loop .map)) e (c .before .loop .inv .2) }
+returns c = let w = c .before in let z = w .before .before .before in
+    let e : w .loop .m ≡ getD (z .args .pool .now) countWord 0 = omega (arith, z .pre .0 .0, c .loop-test .left, w .loop .inv .0) in
+    record { is = subst (λ (y : ℕ). MapOf (freeTo y (z .args .pool .now)) (w .loop .map)) e (w .loop .inv .2) }
 
 pub build-spec : {M : Type 1} → statement M
 build-spec =

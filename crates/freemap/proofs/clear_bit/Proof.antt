@@ -1,3 +1,4 @@
+-- `clear_bit`: by taking its power away.
 use native.Mathlib.Omega.{arith}
 use Rattle.freemap.proofs.BitOneLaws.{clear-le}
 use Rattle.freemap.proofs.FlipLaws.{clear-flips}

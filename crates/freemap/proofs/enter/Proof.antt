@@ -1,3 +1,4 @@
+-- `enter`: the node is given if it is free.
 use mathlib.Core.Bool.{false}
 use borrow.Author.Tests.{eq-eqb, ne-eqb}
 use Rattle.freemap.proofs.MapLaws.{put-same}

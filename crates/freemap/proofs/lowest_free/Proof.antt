@@ -42,7 +42,8 @@ mul-next-marked-2 : tie.Need-mul-next-marked-2 Inv-loop μ-loop
 mul-next-marked-2 c = omega (arith, c .before .before .before .loop-test .taken, c .if1 .taken)
 
 shared-slice-read-next-marked-2 : tie.Need-shared-slice-read-next-marked-2 Inv-loop μ-loop
-shared-slice-read-next-marked-2 c = omega (arith, c .before .before .before .before .before .before .before .pre .is .long, c .before .before .before .before .loop-test .taken, c .before .if1 .taken)
+shared-slice-read-next-marked-2 c = let t = c .before .before .before .before in
+    omega (arith, t .before .before .before .pre .is .long, t .loop-test .taken, c .before .if1 .taken)
 
 next-marked-requires-2 : tie.Need-next-marked-requires-2 Inv-loop μ-loop
 next-marked-requires-2 c κs = omega arith
@@ -51,9 +52,9 @@ add-result : tie.Need-add-result Inv-loop μ-loop
 add-result c = omega (arith, c .before .before .before .before .before .loop-test .taken, c .before .before .if1 .taken, c .next-marked2 .ensures .most)
 
 returns : tie.Need-returns Inv-loop μ-loop
-returns c = lowest-is (c .before .before .before .before .before .before .before .before .pre .is) (c .before .before .before .before .before .before .loop .j) (c .before .before .before .next-marked .result) (c .next-marked2 .result)
-    (omega (arith, c .before .before .before .before .before .loop-test .taken)) (c .before .before .if1 .taken) (c .before .before .before .next-marked .ensures) (c .before .before .before .before .before .before .before .shared-slice-known .given _ .fits)
-    (c .next-marked2 .ensures) (c .before .before .before .before .before .before .loop .inv .1)
+returns c = let m = c .before .before .before in let t = m .before .before in let w = t .before in
+    lowest-is (w .before .before .pre .is) (w .loop .j) (m .next-marked .result) (c .next-marked2 .result) (omega (arith, t .loop-test .taken))
+    (c .before .before .if1 .taken) (m .next-marked .ensures) (w .before .shared-slice-known .given _ .fits) (c .next-marked2 .ensures) (w .loop .inv .1)
 
 add-j : tie.Need-add-j Inv-loop μ-loop
 add-j c = omega (arith, c .before .before .before .loop-test .taken)
@@ -62,10 +63,10 @@ loop-less : tie.Need-loop-less Inv-loop μ-loop
 loop-less c = omega (arith, c .before .before .before .loop-test .taken)
 
 loop-again : tie.Need-loop-again Inv-loop μ-loop
-loop-again c = (
-  omega (arith, c .before .before .before .loop-test .taken),
-  pass-words (c .before .before .before .before .before .before .pre .is) (c .before .before .before .before .loop .j) (c .before .next-marked .result) (omega (arith, c .before .before .before .loop-test .taken))
-      (c .before .next-marked .ensures) (omega (arith, c .if1 .left)) (c .before .before .before .before .loop .inv .1),
+loop-again c = let m = c .before in let t = m .before .before in let w = t .before in (
+  omega (arith, t .loop-test .taken),
+  pass-words (w .before .before .pre .is) (w .loop .j) (m .next-marked .result) (omega (arith, t .loop-test .taken)) (m .next-marked .ensures)
+      (omega (arith, c .if1 .left)) (w .loop .inv .1),
 )
 
 returns-2 : tie.Need-returns-2 Inv-loop μ-loop

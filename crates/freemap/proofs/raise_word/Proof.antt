@@ -1,3 +1,4 @@
+-- `raise_word`: the bit of a word that was 0 is set.
 use native.Mathlib.Omega.{arith}
 use mathlib.Core.Bool.{true}
 use mathlib.Core.Path.{refl, sym, _∙_}
@@ -17,7 +18,8 @@ same-length : tie.Need-same-length
 same-length c = search needs
 
 returns : tie.Need-returns
-returns c = let p = c .before .before .before .before .before .before .pre in topped-flips _ (p .0 .1) true (c .before .before .set-bit .ensures) (sym (rw (ne-eqb _ _ (p .0 .2)) refl))
+returns c = let p = c .before .before .before .before .before .before .pre in
+    topped-flips _ (p .0 .1) true (c .before .before .set-bit .ensures) (sym (rw (ne-eqb _ _ (p .0 .2)) refl))
 
 returns-2 : tie.Need-returns-2
 returns-2 c = let p = c .before .before .pre in topped-same _ (p .0 .1) (p .1 ∙ rw (ne-eqb _ _ (c .if1 .left), ne-eqb _ _ (p .0 .2)) refl)

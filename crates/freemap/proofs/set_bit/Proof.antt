@@ -1,3 +1,4 @@
+-- `set_bit`: by adding its power.
 use native.Mathlib.Omega.{arith}
 use Rattle.freemap.proofs.BitOneLaws.{set-fits}
 use Rattle.freemap.proofs.FlipLaws.{set-flips}

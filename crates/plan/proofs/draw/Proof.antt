@@ -30,20 +30,28 @@ returns : tie.Need-returns Inv-loop μ-loop
 returns c = λ os h M. draws-none os _ _ _ h M (omega (arith, c .if1 .taken, c .before .free-count .ensures))
 
 loop-holds : tie.Need-loop-holds Inv-loop μ-loop
-loop-holds c = (omega arith, refl, c .before .before .before .before .before .pre .0, omega (arith, c .if1 .left, c .before .free-count .ensures), λ os h M. drawn-none os _ _ M)
+loop-holds c = (
+  omega arith,
+  refl,
+  c .before .before .before .before .before .pre .0,
+  omega (arith, c .if1 .left, c .before .free-count .ensures),
+  λ os h M. drawn-none os _ _ M,
+)
 
 lowest-free-requires : tie.Need-lowest-free-requires Inv-loop μ-loop
 lowest-free-requires c κs = c .before .before .loop .inv .2
 
 take-requires : tie.Need-take-requires Inv-loop μ-loop
 take-requires c κs = let i = c .before .before .before .before .loop .inv in let low = c .before .lowest-free .ensures in
-    let lt = some-lowest (i .2 .is) (c .before .lowest-free .result) low (omega (arith, i .3, c .before .before .before .loop-test .taken)) in (i .2, (lt, low .on lt))
+    let lt = some-lowest (i .2 .is) (c .before .lowest-free .result) low (omega (arith, i .3, c .before .before .before .loop-test .taken)) in
+    (i .2, (lt, low .on lt))
 
 mul-nums : tie.Need-mul-nums Inv-loop μ-loop
 mul-nums c = omega (arith, c .before .before .before .before .before .before .loop-test .taken)
 
 slice-write-nums : tie.Need-slice-write-nums Inv-loop μ-loop
-slice-write-nums c = omega (arith, c .before .before .before .before .before .before .loop-test .taken, c .before .before .before .before .before .before .before .loop .inv .1, c .before .before .before .before .before .before .before .before .before .before .before .before .before .pre .1)
+slice-write-nums c = let t = c .before .before .before .before .before .before in let w = t .before in
+    omega (arith, t .loop-test .taken, w .loop .inv .1, w .before .before .before .before .before .before .pre .1)
 
 add-cnt : tie.Need-add-cnt Inv-loop μ-loop
 add-cnt c = omega (arith, c .before .before .before .before .before .before .loop-test .taken)
@@ -52,15 +60,16 @@ loop-less : tie.Need-loop-less Inv-loop μ-loop
 loop-less c = omega (arith, c .before .before .before .before .before .before .loop-test .taken)
 
 loop-again : tie.Need-loop-again Inv-loop μ-loop
-loop-again c = let w = c .before .before .before .before .before .before .before .loop in let i = w .inv in let S = i .2 in let r = c .before .before .before .before .lowest-free .result in let low = c .before .before .before .before .lowest-free .ensures in
+loop-again c = let f = c .before .before .before .before in let t = f .before .before in let w = t .before .loop in let i = w .inv in let S = i .2 in
+    let r = f .lowest-free .result in let low = f .lowest-free .ensures in
     let took = c .before .before .take .ensures in
-    let lt = some-lowest (S .is) r low (omega (arith, i .3, c .before .before .before .before .before .before .loop-test .taken)) in (
-      omega (arith, c .before .before .before .before .before .before .loop-test .taken),
+    let lt = some-lowest (S .is) r low (omega (arith, i .3, t .loop-test .taken)) in (
+      omega (arith, t .loop-test .taken),
       length-set (w .nums) (w .cnt) r ∙ i .1,
       record { free = put (S .free) r false; is = took (S .free) (S .is) },
       omega (arith, i .3, took-count S r lt (low .on lt) took),
       λ os h M. drawn-next os (w .cnt) (w .nums) (w .map) (i .4 os h M) r low lt (c .before .before .take .last .0) took
-          (omega (arith, c .before .before .before .before .before .before .loop-test .taken, i .1, c .before .before .before .before .before .before .before .before .before .before .before .before .before .pre .1)),
+          (omega (arith, t .loop-test .taken, i .1, t .before .before .before .before .before .before .before .pre .1)),
     )
 
 same-length-2 : tie.Need-same-length-2 Inv-loop μ-loop
