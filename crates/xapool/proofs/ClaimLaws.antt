@@ -37,7 +37,27 @@ use Rattle.execute.proofs.Footprint.{footprint, refused-words}
 use Rattle.execute.proofs.ReplyFits.{reply-fits}
 use Rattle.xapool.specs.Calls.{Called, run, runParsed, replies, result, done, listOver}
 use Rattle.xapool.specs.Running.{wordsOf}
-use Rattle.xapool.specs.Demand.{Call, Call.init, Call.check, Call.batch, Call.list, wordsAfterAll, executeAll, listAfterAll, Bytewise, Stands, ShortExact, Commanded, AtCommand, Ran, AtBatch, AtCall, Demand3, Starts, ReserveShort}
+use Rattle.xapool.specs.Demand.{
+  Call,
+  Call.init,
+  Call.check,
+  Call.batch,
+  Call.list,
+  wordsAfterAll,
+  executeAll,
+  listAfterAll,
+  Bytewise,
+  Stands,
+  ShortExact,
+  ReserveShort,
+  Commanded,
+  AtCommand,
+  Ran,
+  AtBatch,
+  AtCall,
+  Demand3,
+  Starts,
+}
 use Rattle.xapool.proofs.ListCallLaws.{list-checked}
 use Rattle.xapool.proofs.DemandLaws.{
   states-list,

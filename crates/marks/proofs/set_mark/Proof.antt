@@ -79,7 +79,8 @@ mark-anchor-requires : tie.Need-mark-anchor-requires
 mark-anchor-requires c κs = let z = start-from-else1 (c .before) in (omega (arith, pool-length (z .pre .0)), z .pre .1)
 
 remarked-requires : tie.Need-remarked-requires
-remarked-requires c κs = (start-from-else1 (c .before .before .before .before) .pre .1, sym (c .before .before .before .before .before .is-reserved .ensures) ∙ c .before .before .before .before .if1 .left)
+remarked-requires c κs = let x = c .before .before .before .before in
+    (start-from-else1 x .pre .1, sym (x .before .is-reserved .ensures) ∙ x .if1 .left)
 
 enum-known-k-2 : tie.Need-enum-known-k-2
 enum-known-k-2 c = search needs
@@ -105,12 +106,15 @@ climb-requires c κs = let z = start-from-else2 (c .before) in let s = z .pre .0
     formed = s;
     holds = at-spot _ _ _ (c .before .before .before .before .before .before .locate .ensures s) (c .before .before .before .before .k2 .given .1) .1;
     markable = λ t x r y. absurd (clash y (same-entry (t .list) (z .args .i)
-        (at-spot _ _ _ (c .before .before .before .before .before .before .locate .ensures t) (c .before .before .before .before .k2 .given .1) .0) r (sym (c .before .before .is-reserved2 .ensures) ∙ c .before .if2 .left)));
+        (at-spot _ _ _ (c .before .before .before .before .before .before .locate .ensures t)
+        (c .before .before .before .before .k2 .given .1) .0) r
+        (sym (c .before .before .is-reserved2 .ensures) ∙ c .before .if2 .left)));
   },
 )
 
 remarked-requires-2 : tie.Need-remarked-requires-2
-remarked-requires-2 c κs = (start-from-else2 (c .before .before .before .before) .pre .1, sym (c .before .before .before .before .before .is-reserved2 .ensures) ∙ c .before .before .before .before .if2 .left)
+remarked-requires-2 c κs = let x = c .before .before .before .before in
+    (start-from-else2 x .pre .1, sym (x .before .is-reserved2 .ensures) ∙ x .if2 .left)
 
 same-length-3 : tie.Need-same-length-3
 same-length-3 c = search needs

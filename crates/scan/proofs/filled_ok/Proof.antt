@@ -75,8 +75,13 @@ returns-2 c = let g = tallied-past _ _ _ _ _ (filled-slots-from-then2 c .filled-
 step-requires : tie.Need-step-requires Inv-loop μ-loop
 step-requires c κs = let g = tallied-past _ _ _ _ _ (filled-slots-from-else2 c .filled-slots .ensures)
     (all-marks-from-else2 c .all-marks .ensures) _ _ _ (c .before .before .before .loop .inv)
-    (among-clear _ _ (omega arith) (else1-from-else2 c .if1 .left)) (c .before .next-marked .ensures) in
-    (start-from-else1 (else1-from-else2 c) .pre .0, ((omega (arith, g .gone .inside), omega arith), (all-marks-from-else2 c .all-marks .ensures, g .gone .past)))
+    (among-clear _ _ (omega arith) (else1-from-else2 c .if1 .left)) (c .before .next-marked .ensures) in (
+      start-from-else1 (else1-from-else2 c) .pre .0,
+      (
+        (omega (arith, g .gone .inside), omega arith),
+        (all-marks-from-else2 c .all-marks .ensures, g .gone .past),
+      ),
+    )
 
 returns-3 : tie.Need-returns-3 Inv-loop μ-loop
 returns-3 c = no! (λ s. c .before .step .ensures .bad (c .if3 .taken) (s .slots-ok))
