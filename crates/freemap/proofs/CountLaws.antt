@@ -1,55 +1,40 @@
 -- How many numbers pass a test.
-use Prim.Native.Nat.{ℕ, zero, suc, _+_, _≤_, _<_}
-use mathlib.Core.Path.{_≡_, refl, ap₂}
+use Prim.Native.Nat.{ℕ, suc, _+_, _≤_, _<_}
+use mathlib.Core.Path.{_≡_, refl, ap, _∙_}
 use mathlib.Core.Bool.{Bool, true, false}
 use native.Mathlib.Omega.{arith}
-use native.Mathlib.Nat.{le-refl}
 use lib.Dec.{eqb}
-use borrow.Author.Tests.{eqb-true, eqb-false, ne-eqb}
-use Rattle.blocks.proofs.BoolLaws.{byT}
-use Rattle.freemap.specs.FreeMap.{oneIf, countTo, put}
-
-one-le : (b : Bool) → oneIf b ≤ 1
-one-le true = omega arith
-one-le false = omega arith
+use borrow.Author.Tests.{eq-eqb, ne-eqb}
+use Rattle.blocks.proofs.CountLaws as C
+use Rattle.freemap.specs.FreeMap.{oneIf, tally, put}
 
 module _ (f : ℕ → Bool) where
-  pub count-zero : countTo f 0 ≡ 0
-  unfolding countTo
+  pub count-zero : tally f 0 ≡ 0
+  unfolding tally
   count-zero = refl
 
-  pub count-suc : (m : ℕ) → countTo f (suc m) ≡ countTo f m + oneIf (f m)
-  unfolding countTo
+  pub count-suc : (m : ℕ) → tally f (suc m) ≡ tally f m + oneIf (f m)
+  unfolding tally
   count-suc m = refl
 
-  pub count-le : (m : ℕ) → countTo f m ≤ m
-  count-le zero = omega (arith, count-zero)
-  count-le (suc m) = omega (arith, count-suc m, count-le m, one-le (f m))
+  pub count-le : (m : ℕ) → tally f m ≤ m
+  unfolding tally
+  count-le m = C.count-le f m
 
   -- none passes
-  pub count-none : (m : ℕ) → ((x : ℕ) → x < m → f x ≡ false) → countTo f m ≡ 0
-  count-none zero z = count-zero
-  count-none (suc m) z =
-      let e : oneIf (f m) ≡ 0 = rw (z m (le-refl _)) in
-      omega (arith, count-suc m, count-none m (λ x l. z x (omega arith)))
+  pub count-none : (m : ℕ) → ((x : ℕ) → x < m → f x ≡ false) → tally f m ≡ 0
+  unfolding tally
+  count-none m z = C.count-none f m z
 
-  pub count-same : (g : ℕ → Bool) (m : ℕ) → ((x : ℕ) → x < m → f x ≡ g x) → countTo f m ≡ countTo g m
-  unfolding countTo
-  count-same g zero s = refl
-  count-same g (suc m) s = ap₂ (λ (a : ℕ) (b : Bool). a + oneIf b) (count-same g m (λ x l. s x (omega arith))) (s m (le-refl _))
+  pub count-same : (g : ℕ → Bool) (m : ℕ) → ((x : ℕ) → x < m → f x ≡ g x) → tally f m ≡ tally g m
+  unfolding tally
+  count-same g m s = C.count-same f g m s
 
 -- one number changes
 pub count-put : (f : ℕ → Bool) (m : ℕ) (b : Bool) (k : ℕ) → m < k →
-    countTo (put f m b) k + oneIf (f m) ≡ countTo f k + oneIf b
-count-put f m b zero h = absurd (omega arith)
-count-put f m b (suc k) h =
-    byT (eqb k m)
-    (λ t. let q : k ≡ m = eqb-true _ _ t in
-    let here : oneIf (put f m b k) ≡ oneIf b = rw t in
-    let old : oneIf (f k) ≡ oneIf (f m) = rw q in
-    let below : countTo (put f m b) k ≡ countTo f k = count-same (put f m b) f k
-    (λ x l. let ne : x ≡ m → ⊥ = λ e. omega arith in rw (ne-eqb x m ne)) in
-    omega (arith, count-suc (put f m b) k, count-suc f k))
-    (λ t. let ne : k ≡ m → ⊥ = eqb-false _ _ t in
-    let here : oneIf (put f m b k) ≡ oneIf (f k) = rw t in
-    omega (arith, count-suc (put f m b) k, count-suc f k, count-put f m b k (omega arith)))
+    tally (put f m b) k + oneIf (f m) ≡ tally f k + oneIf b
+unfolding tally
+count-put f m b k h =
+    let here : put f m b m ≡ b = rw (eq-eqb m m refl) in
+    C.count-change f (put f m b) m k h (λ x l ne. rw (ne-eqb x m ne))
+    ∙ ap (λ (c : Bool). tally f k + oneIf c) here

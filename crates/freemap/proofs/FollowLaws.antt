@@ -12,7 +12,7 @@ use Rattle.blocks.proofs.BoolLaws.{byT, clash, either-no, both-yes}
 use Rattle.layout.specs.Words.{countWord, shiftPlace, lastPlace}
 use Rattle.layout.specs.Fill.{cleared}
 use Rattle.layout.proofs.FillLaws.{cleared-before, cleared-after, cleared-in}
-use Rattle.freemap.specs.FreeMap.{freeIn, freedBy, put, MapOf, FreeMap, Follows}
+use Rattle.freemap.specs.FreeMap.{freeIn, freedBy, put, MapOf, Sound, FreeMap, Follows}
 use Rattle.freemap.proofs.MapLaws.{map-as}
 
 -- THE MAP OF A POOL as its words change
@@ -45,6 +45,13 @@ follows-same ws ms = record {
   stays = λ m f. refl;
   maps = λ f M. map-as M (λ m. either (f m) (freedBy ws ws m))
       (λ m _. sym (rw (not-both (eqb (getD ws (shiftPlace m) 0) 0)) (either-no (f m))));
+}
+
+-- what follows a map is one
+pub follows-sound : {ws ws′ ms ms′ : List ℕ} → Follows ws ws′ ms ms′ → Sound ms → Sound ms′
+follows-sound {ws} {ws′} a S = record {
+  free = λ m. either (S .free m) (freedBy ws ws′ m);
+  is = a .maps (S .free) (S .is);
 }
 
 -- freed by the first step or by the second

@@ -5,7 +5,7 @@ use mathlib.Core.Bool.{Bool, true, false}
 use mathlib.Core.List.{List}
 use native.Mathlib.Omega.{arith}
 use lib.Dec.{eqb, ltb}
-use lib.ListN.{length, getD, set, replicate, length-set}
+use lib.ListN.{length, getD, set, replicate, length-set, length-replicate}
 use lib.Seq.{getD-set-same, getD-set-other}
 use borrow.Author.Tests.{eqb-true, eqb-false, eq-eqb, ne-eqb, ltb-true, ltb-false, lt-ltb, le-ltb}
 use Rattle.blocks.specs.Choice.{both}
@@ -13,8 +13,8 @@ use Rattle.blocks.specs.Blocks.{bit, NextBit}
 use Rattle.blocks.proofs.BoolLaws.{byT, iff}
 use Rattle.tree.specs.Tree.{slots}
 use Rattle.layout.specs.Words.{shiftPlace}
-use Rattle.freemap.specs.FreeMap.{mapNodes, mapTop, mapCount, mapWords, mapBit, oneIf, oneOver, freeTo, put}
-use Rattle.freemap.specs.FreeMap.{MapOf, Lowest, Flips, Topped}
+use Rattle.freemap.specs.FreeMap.{mapNodes, mapTop, mapCount, mapWords, mapBit, oneIf, oneOver, freeTo, freeIn, put}
+use Rattle.freemap.specs.FreeMap.{BlankMap, MapOf, Sound, FreeMap, Lowest, Flips, Topped}
 use Rattle.freemap.proofs.BitOneLaws.{bit-zero, bits-zero}
 use Rattle.freemap.proofs.CountLaws.{count-none, count-same, count-put, count-le}
 
@@ -217,14 +217,21 @@ map-none f ms l z n = record {
 }
 
 -- an array of zeros
-pub zero-words : (n j : ℕ) → getD {A = ℕ} (replicate n 0) j 0 ≡ 0
+zero-words : (n j : ℕ) → getD {A = ℕ} (replicate n 0) j 0 ≡ 0
 zero-words zero j = refl
 zero-words (suc n) zero = refl
 zero-words (suc n) (suc j) = zero-words n j
 
+pub blank-map : BlankMap (replicate mapWords 0)
+blank-map = record { long = length-replicate {A = ℕ} mapWords 0; zeros = zero-words mapWords }
+
+-- the map of a pool is a map
+pub free-sound : {ws ms : List ℕ} → FreeMap ws ms → Sound ms
+free-sound {ws} F = record { free = freeIn ws; is = F .is }
+
 -- THE MAP OF A POOL, node by node
-pub build-start : (ws ms : List ℕ) → length ms ≡ mapWords → ((j : ℕ) → getD ms j 0 ≡ 0) → MapOf (freeTo 0 ws) ms
-build-start ws ms l z = map-none (freeTo 0 ws) ms l z (λ x _. rw (le-ltb x 0 (omega arith)))
+pub build-start : (ws ms : List ℕ) → BlankMap ms → MapOf (freeTo 0 ws) ms
+build-start ws ms b = map-none (freeTo 0 ws) ms (b .long) (b .zeros) (λ x _. rw (le-ltb x 0 (omega arith)))
 
 pub build-step : (ws : List ℕ) {ms ms′ : List ℕ} (m w : ℕ) → w ≡ getD ws (shiftPlace m) 0 →
     ((f : ℕ → Bool) → f m ≡ false → MapOf f ms → MapOf (put f m (eqb w 0)) ms′) → MapOf (freeTo m ws) ms →

@@ -1,13 +1,13 @@
 -- A map of the free nodes: a bit for each node, 64 to a word; then a second level, a bit for each of these words; and
 -- last the count of the nodes that are free. So the lowest free node and the count are a few words away in any pool.
-use Prim.Native.Nat.{ℕ, zero, suc, _+_, _/_, _%_, _≤_, _<_}
+use Prim.Native.Nat.{ℕ, _+_, _/_, _%_, _≤_, _<_}
 use mathlib.Core.Path.{_≡_}
 use mathlib.Core.Bool.{Bool, true, false, not}
 use mathlib.Core.List.{List}
 use lib.Dec.{eqb, ltb}
 use lib.ListN.{length, getD}
 use Rattle.blocks.specs.Choice.{pick, both, either}
-use Rattle.blocks.specs.Blocks.{bit}
+use Rattle.blocks.specs.Blocks.{bit, countTo}
 use Rattle.tree.specs.Tree.{slots}
 use Rattle.layout.specs.Words.{countWord, shiftPlace}
 
@@ -37,17 +37,21 @@ oneIf b = pick b 1 0
 abbrev pub oneOver : ℕ → ℕ
 oneOver w = pick (eqb w 0) 0 1
 
--- how many numbers below m pass
-unfoldable pub countTo : (ℕ → Bool) → ℕ → ℕ
-countTo f zero = 0
-countTo f (suc m) = countTo f m + oneIf (f m)
+-- how many numbers below m pass: shut, as mapNodes is a numeral
+unfoldable pub tally : (ℕ → Bool) → ℕ → ℕ
+tally f m = countTo f m
 
 -- the map of the nodes that pass
 pub record MapOf (free : ℕ → Bool) (ms : List ℕ) : Type 0 where
   pub long : length ms ≡ mapWords
   pub bits : (m : ℕ) → m < mapNodes → mapBit ms m ≡ oneIf (free m)
   pub tops : (j : ℕ) → j < mapTop → mapBit ms (mapNodes + j) ≡ oneOver (getD ms j 0)
-  pub count-is : getD ms mapCount 0 ≡ countTo free mapNodes
+  pub count-is : getD ms mapCount 0 ≡ tally free mapNodes
+
+-- words for a map, in which nothing stands yet
+pub record BlankMap (ms : List ℕ) : Type 0 where
+  pub long : length ms ≡ mapWords
+  pub zeros : (j : ℕ) → getD ms j 0 ≡ 0
 
 -- a map of some nodes
 pub record Sound (ms : List ℕ) : Type 0 where

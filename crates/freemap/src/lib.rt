@@ -14,10 +14,10 @@ ghost use lib.Dec.{eqb};
 ghost use lib.ListN.{getD, length};
 ghost use Rattle.blocks.specs.Choice.{either};
 ghost use Rattle.tree.specs.Tree.{slots};
-ghost use Rattle.layout.specs.Words.{countWord, poolWords, lastPlace};
+ghost use Rattle.layout.specs.Words.{lastPlace};
 ghost use Rattle.layout.specs.Fill.{cleared};
 ghost use Rattle.freemap.specs.FreeMap.{mapNodes, mapTop, mapCount, mapWords, mapBit, oneOver, put};
-ghost use Rattle.freemap.specs.FreeMap.{MapOf, Sound, FreeMap, Follows, Lowest, Flips, Topped};
+ghost use Rattle.freemap.specs.FreeMap.{MapOf, Sound, Follows, Lowest, Flips, Topped};
 
 // The map's measures, as specs/FreeMap has them.
 pub const MAP_NODES: u64 = 16384;
@@ -148,25 +148,12 @@ pub fn release(pool: &mut [u64], map: &mut [u64], n: u64)
 }
 
 // Node m, whose first word is w, is in the map from here on if it is free.
-fn enter(map: &mut [u64], m: u64, w: u64)
+pub fn enter(map: &mut [u64], m: u64, w: u64)
     requires { ⌜ Sound (now map) ⌝ }
     requires { ⌜ m < mapNodes ⌝ }
     ensures { λ _. ⌜ ((f : ℕ → Bool) → f m ≡ false → MapOf f (now (map .entry)) → MapOf (put f m (eqb w 0)) (now (map .exit))) ⌝ }
 {
     if w == 0 {
         give(map, m);
-    }
-}
-
-// The map of a pool of n nodes, made in words that are 0.
-pub fn build(pool: &[u64], map: &mut [u64], n: u64)
-    requires { ⌜ (n ≡ getD (now pool) countWord 0) × (poolWords n ≤ length (now pool)) × (n ≤ mapNodes) ⌝ }
-    requires { ⌜ (length (now map) ≡ mapWords) × ((j : ℕ) → getD (now map) j 0 ≡ 0) ⌝ }
-    ensures { λ _. ⌜ FreeMap (now (pool .entry)) (now (map .exit)) ⌝ }
-{
-    let mut m = 0;
-    while m < n {
-        enter(map, m, shift_of(pool, m));
-        m = m + 1;
     }
 }

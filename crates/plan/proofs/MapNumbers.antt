@@ -22,7 +22,7 @@ use Rattle.freemap.specs.FreeMap.{
   mapCount,
   mapBit,
   oneIf,
-  countTo,
+  tally,
   freeIn,
   put,
   MapOf,
@@ -75,7 +75,7 @@ to-all (some p ∷ os) zero h = absurd (omega arith)
 to-all (none ∷ os) (suc m) h = ap suc (to-all os m (omega arith))
 to-all (some p ∷ os) (suc m) h = to-all os m (omega arith)
 
-to-count : (os : Places) (m : ℕ) → countTo (freePlace os) m ≡ freeTo os m
+to-count : (os : Places) (m : ℕ) → tally (freePlace os) m ≡ freeTo os m
 to-count os zero = count-zero (freePlace os)
 to-count os (suc m) = omega (arith, count-suc (freePlace os) m, to-count os m, to-suc os m)
 
