@@ -72,11 +72,11 @@ same-commands : {p : Parsed} {xs ys : List Command} → p ≡ Parsed.commands xs
 same-commands e f = cc
 
 -- THE START
-pub running-start : {pool reply batch : List ℕ} → WellFormed pool → Ahead batch 0 (length reply) 0 →
-    Running pool reply batch pool reply 0 0 0
-running-start {pool} {reply} s a = record {
+pub running-start : {pool map reply batch : List ℕ} → WellFormed pool → FreeMap pool map → Ahead batch 0 (length reply) 0 →
+    Running pool reply batch pool map reply 0 0
+running-start {reply = reply} s f a = record {
   formed = s;
-  used = record { at-most = omega arith; used = λ m h. absurd (omega arith) };
+  mapped = f;
   ahead = a;
   same-length = refl;
   leads = λ s₀ cs e ws′ reply′ r. subst (λ (x : List Command). Ends s₀ x 0 reply ws′ reply′)

@@ -14,11 +14,11 @@ use Rattle.xapool.proofs.run_all.Statement.{statement}
 use Rattle.xapool.proofs.run_all.Tie as tie
 
 abbrev Inv-loop : tie.InvT-loop
-Inv-loop pool₀ batch reply₀ at₀ out₀ low₀ pool reply at out low =
-    (length pool ≡ length pool₀) × Running pool₀ reply₀ batch pool reply at out low
+Inv-loop pool₀ map₀ batch reply₀ at₀ out₀ pool map reply at out =
+    (length pool ≡ length pool₀) × (length map ≡ length map₀) × Running pool₀ reply₀ batch pool map reply at out
 
 abbrev μ-loop : tie.MeasureT-loop
-μ-loop pool₀ batch reply₀ at₀ out₀ low₀ pool reply at out low = length batch - at
+μ-loop pool₀ map₀ batch reply₀ at₀ out₀ pool map reply at out = length batch - at
 
 -- the record that was read
 was : (c : tie.After-r Inv-loop μ-loop) →
