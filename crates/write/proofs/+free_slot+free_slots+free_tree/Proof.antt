@@ -121,7 +121,8 @@ free-slot-free-tree-requires : (t : ℕ) → free-slot-lts.Need-free-tree-requir
   free-tree-below t,
   free-tree.Post,
 ) (free-slot-at t) free-slot.Post
-free-slot-free-tree-requires t c κs = (omega arith, (omega arith, (c .before .before .before .before .before .before .before .before .before .pre .1 .1 .0, (omega arith, omega arith))))
+free-slot-free-tree-requires t c κs = let z = c .before .before .before .before .before .before .before .before .before in
+    (omega arith, (omega arith, (z .pre .1 .1 .0, (omega arith, omega arith))))
 
 free-slot-enum-told : (t : ℕ) → free-slot-lts.Need-enum-told (
   read-slot-reads.Asked,
@@ -161,7 +162,7 @@ free-slot-same-length : (t : ℕ) → free-slot-lts.Need-same-length (
   free-tree-below t,
   free-tree.Post,
 ) (free-slot-at t) free-slot.Post
-free-slot-same-length t c = c .before .before .before .before .free-tree .kept .0
+free-slot-same-length t c = omega arith
 
 free-slot-same-length-2 : (t : ℕ) → free-slot-lts.Need-same-length-2 (
   read-slot-reads.Asked,
@@ -169,7 +170,7 @@ free-slot-same-length-2 : (t : ℕ) → free-slot-lts.Need-same-length-2 (
   free-tree-below t,
   free-tree.Post,
 ) (free-slot-at t) free-slot.Post
-free-slot-same-length-2 t c = c .before .before .before .before .free-tree .kept .1 .0
+free-slot-same-length-2 t c = omega arith
 
 free-slot-returns : (t : ℕ) → free-slot-lts.Need-returns (
   read-slot-reads.Asked,
@@ -177,9 +178,9 @@ free-slot-returns : (t : ℕ) → free-slot-lts.Need-returns (
   free-tree-below t,
   free-tree.Post,
 ) (free-slot-at t) free-slot.Post
-free-slot-returns t c = (
-  c .before .before .before .before .free-tree .ensures .0 ∙ on _ _ _ _ (c .before .before .before .before .before .before .before .before .before .before .before .read-slot .ensures) _ (c .before .before .before .before .before .before .before .before .before .s .given .1) (c .before .before .before .before .before .before .before .if1 .taken),
-  c .before .before .before .before .free-tree .ensures .1,
+free-slot-returns t c = let f = c .before .before .before .before in let i = f .before .before .before in let k = i .before .before in (
+  f .free-tree .ensures .0 ∙ on _ _ _ _ (k .before .before .read-slot .ensures) _ (k .s .given .1) (i .if1 .taken),
+  f .free-tree .ensures .1,
 )
 
 free-slot-returns-2 : (t : ℕ) → free-slot-lts.Need-returns-2 (
@@ -262,7 +263,8 @@ free-slots-free-slot-requires : (t : ℕ) → free-slots-lts.Need-free-slot-requ
   free-slot-below t,
   free-slot.Post,
 ) (free-slots-at t) free-slots.Post free-slots-Inv-loop free-slots-μ-loop
-free-slots-free-slot-requires t c κs = (omega arith, (omega arith, (follows-sound (c .before .before .before .before .before .loop .inv .4) (c .before .before .before .before .before .before .before .before .pre .1 .1 .0), omega arith)))
+free-slots-free-slot-requires t c κs = let l = c .before .before .before .before .before in
+    (omega arith, (omega arith, (follows-sound (l .loop .inv .4) (l .before .before .before .pre .1 .1 .0), omega arith)))
 
 free-slots-add-j : (t : ℕ) → free-slots-lts.Need-add-j (
   slot-word-reads.Asked,
@@ -286,13 +288,14 @@ free-slots-loop-again : (t : ℕ) → free-slots-lts.Need-loop-again (
   free-slot-below t,
   free-slot.Post,
 ) (free-slots-at t) free-slots.Post free-slots-Inv-loop free-slots-μ-loop
-free-slots-loop-again t c = let s = c .before .before .before .before in let k = c .before .before .before .before .before .before .before .before .before .before .loop .inv in (
-  omega arith,
-  s .free-slot .kept .0 ∙ k .1,
-  s .free-slot .kept .1 .0 ∙ k .2,
-  s .free-slot .ensures .0 ∙ rw (c .before .before .before .before .before .before .before .slot-word .ensures) (slots-step _ _ _ _ _ _ _ (k .3)),
-  follows-then (k .4) (s .free-slot .ensures .1),
-)
+free-slots-loop-again t c = let s = c .before .before .before .before in let w = s .before .before .before in
+    let k = w .before .before .before .loop .inv in (
+      omega arith,
+      s .free-slot .kept .0 ∙ k .1,
+      s .free-slot .kept .1 .0 ∙ k .2,
+      s .free-slot .ensures .0 ∙ rw (w .slot-word .ensures) (slots-step _ _ _ _ _ _ _ (k .3)),
+      follows-then (k .4) (s .free-slot .ensures .1),
+    )
 
 free-slots-same-length : (t : ℕ) → free-slots-lts.Need-same-length (
   slot-word-reads.Asked,
@@ -300,7 +303,7 @@ free-slots-same-length : (t : ℕ) → free-slots-lts.Need-same-length (
   free-slot-below t,
   free-slot.Post,
 ) (free-slots-at t) free-slots.Post free-slots-Inv-loop free-slots-μ-loop
-free-slots-same-length t c = c .before .loop .inv .1
+free-slots-same-length t c = omega arith
 
 free-slots-same-length-2 : (t : ℕ) → free-slots-lts.Need-same-length-2 (
   slot-word-reads.Asked,
@@ -308,7 +311,7 @@ free-slots-same-length-2 : (t : ℕ) → free-slots-lts.Need-same-length-2 (
   free-slot-below t,
   free-slot.Post,
 ) (free-slots-at t) free-slots.Post free-slots-Inv-loop free-slots-μ-loop
-free-slots-same-length-2 t c = c .before .loop .inv .2
+free-slots-same-length-2 t c = omega arith
 
 free-slots-returns : (t : ℕ) → free-slots-lts.Need-returns (
   slot-word-reads.Asked,
@@ -341,7 +344,8 @@ free-tree-free-slots-requires : (t : ℕ) → free-tree-lts.Need-free-slots-requ
   release-reads.Asked,
   release-reads.Learnt,
 ) (free-tree-at t) free-tree.Post
-free-tree-free-slots-requires t c κs = (omega arith, (omega arith, (c .before .before .before .before .before .pre .1 .1 .0, (omega arith, omega arith, omega arith))))
+free-tree-free-slots-requires t c κs = let z = c .before .before .before .before .before in
+    (omega arith, (omega arith, (z .pre .1 .1 .0, (omega arith, omega arith, omega arith))))
 
 free-tree-release-requires : (t : ℕ) → free-tree-lts.Need-release-requires (
   free-slots-below t,
@@ -349,7 +353,9 @@ free-tree-release-requires : (t : ℕ) → free-tree-lts.Need-release-requires (
   release-reads.Asked,
   release-reads.Learnt,
 ) (free-tree-at t) free-tree.Post
-free-tree-release-requires t c κs = (omega arith, (follows-sound (c .before .before .before .before .before .before .free-slots .ensures .1) (c .before .before .before .before .before .before .before .before .before .before .before .before .pre .1 .1 .0), omega arith))
+free-tree-release-requires t c κs = let s = c .before .before .before .before .before .before in
+    let z = s .before .before .before .before .before .before in
+    (omega arith, (follows-sound (s .free-slots .ensures .1) (z .pre .1 .1 .0), omega arith))
 
 free-tree-same-length : (t : ℕ) → free-tree-lts.Need-same-length (
   free-slots-below t,
@@ -357,7 +363,7 @@ free-tree-same-length : (t : ℕ) → free-tree-lts.Need-same-length (
   release-reads.Asked,
   release-reads.Learnt,
 ) (free-tree-at t) free-tree.Post
-free-tree-same-length t c = c .before .before .before .before .release .kept .0 ∙ c .before .before .before .before .before .before .before .before .before .before .before .free-slots .kept .0
+free-tree-same-length t c = omega arith
 
 free-tree-same-length-2 : (t : ℕ) → free-tree-lts.Need-same-length-2 (
   free-slots-below t,
@@ -365,7 +371,7 @@ free-tree-same-length-2 : (t : ℕ) → free-tree-lts.Need-same-length-2 (
   release-reads.Asked,
   release-reads.Learnt,
 ) (free-tree-at t) free-tree.Post
-free-tree-same-length-2 t c = c .before .before .before .before .release .kept .1 .0 ∙ c .before .before .before .before .before .before .before .before .before .before .before .free-slots .kept .1 .0
+free-tree-same-length-2 t c = omega arith
 
 free-tree-returns-2 : (t : ℕ) → free-tree-lts.Need-returns-2 (
   free-slots-below t,
@@ -373,7 +379,7 @@ free-tree-returns-2 : (t : ℕ) → free-tree-lts.Need-returns-2 (
   release-reads.Asked,
   release-reads.Learnt,
 ) (free-tree-at t) free-tree.Post
-free-tree-returns-2 t c = let r = c .before .before .before .before in let s = c .before .before .before .before .before .before .before .before .before .before .before in (
+free-tree-returns-2 t c = let r = c .before .before .before .before in let s = r .before .before .before .before .before .before .before in (
   r .release .ensures .0 ∙ whole _ _ _ _ _ (omega arith) (s .free-slots .ensures .0),
   follows-then (s .free-slots .ensures .1) (r .release .ensures .1),
 )
