@@ -16,6 +16,9 @@ use Rattle.freemap.specs.FreeMap.{freeIn, freedBy, put, MapOf, Sound, Fr
 use Rattle.freemap.proofs.MapLaws.{map-as}
 
 -- THE MAP OF A POOL as its words change
+pub map-stays : {ws ws′ ms : List ℕ} → ws′ ≡ ws → FreeMap ws ms → FreeMap ws′ ms
+map-stays {ms = ms} e F = subst (λ (x : List ℕ). FreeMap x ms) (sym e) F
+
 module _ {ws ws′ ms : List ℕ} (F : FreeMap ws ms) (count : getD ws′ countWord 0 ≡ getD ws countWord 0) where
   -- no first word changes
   pub free-same : ((m : ℕ) → getD ws′ (shiftPlace m) 0 ≡ getD ws (shiftPlace m) 0) → FreeMap ws′ ms

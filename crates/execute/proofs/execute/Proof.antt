@@ -1,4 +1,4 @@
--- `execute`: one command: its reply, and the number below which every node is in use.
+-- `execute`: one command: its reply, and the map after it.
 use Rattle.execute.proofs.ReplyLaws.{by-command, put-is, put-bare}
 use borrow.Author.Needs.{needs}
 use Rattle.execute.proofs.execute.Statement.{statement}

@@ -2,9 +2,10 @@
 use mathlib.Core.Path.{sym, _∙_}
 use Rattle.batch.specs.declared.Command.the-variants.{Store}
 use Rattle.blocks.proofs.BoolLaws.{byT, not-true, not-false}
-use Rattle.execute.proofs.ReplyLaws.{leaves, store-order, store-index, store-word, store-formed, store-in-use, stores, reserves}
+use Rattle.execute.proofs.ReplyLaws.{leaves, store-order, store-index, store-word, store-formed, store-mapped, stores, reserves}
 use Rattle.execute.proofs.ReplyLaws.{put-store, put-reserve, put-order, put-index, put-word, put-enters, put-storable}
-use Rattle.execute.proofs.ReplyLaws.{words-stay, use-stays}
+use Rattle.freemap.proofs.FollowLaws.{map-stays}
+use Rattle.execute.proofs.ReplyLaws.{words-stay}
 use borrow.Author.Needs.{needs}
 use Rattle.execute.proofs.run_store.Statement.{statement}
 use Rattle.execute.proofs.run_store.Tie as tie
@@ -109,9 +110,9 @@ returns-4 c =
           (reserves s i (r .store .ensures .0 s .reserves (z .pre .1 .1 t .1)) (p .0 t .0))))
           (λ f. let st = put-storable i k w e f in put-store i k w s f
           (stores s i k w i< w< k≤ st (r .store .ensures .0 s .stores st) (p .1 f) al))),
-      byT (a .reserve) (λ t. use-stays (p .0 t .1) (r .store .ensures .1))
+      byT (a .reserve) (λ t. map-stays (p .0 t .1) (r .store .ensures .1))
           (λ f. let st = put-storable i k w e f in
-          store-in-use (z .pre .0) i k w i< w< k≤ st (r .store .ensures .0 (z .pre .0) .stores st) (p .1 f)
+          store-mapped (z .pre .0) i k w i< w< k≤ st (r .store .ensures .0 (z .pre .0) .stores st) (p .1 f)
           (r .store .ensures .1)),
     )
 
