@@ -22,12 +22,6 @@ use Rattle.plan.specs.Plan.{freePlace}
 use Rattle.plan.proofs.FreeNumbers.{size-is}
 use Rattle.plan.proofs.MapNumbers.{place-is, is-place, places-map}
 
--- no word stands after the last
-pub getD-out : (xs : List ℕ) (i : ℕ) → length xs ≤ i → getD xs i 0 ≡ 0
-getD-out [] i h = refl
-getD-out (x ∷ xs) zero h = absurd (omega arith)
-getD-out (x ∷ xs) (suc i) h = getD-out xs i (omega arith)
-
 module _ {ws : List ℕ} (s : WellFormed ws) (l′ : List Entry) (enough : needed (s .list) l′ ≤ freeCount (s .places)) where
   abbrev os : Places
   os = s .places

@@ -71,9 +71,9 @@ same-length-3 : tie.Need-same-length-3
 same-length-3 c = search needs
 
 returns-3 : tie.Need-returns-3
-returns-3 c = (
-  (λ s. by-command s (c .before .before .before .before .before .before .before .before .c2 .given .1) (c .before .before .before .before .run-erase .ensures .0 s)),
-  c .before .before .before .before .run-erase .ensures .1,
+returns-3 c = let e = c .before .before .before .before in (
+  (λ s. by-command s (e .before .before .before .before .c2 .given .1) (e .run-erase .ensures .0 s)),
+  e .run-erase .ensures .1,
 )
 
 same-length-4 : tie.Need-same-length-4

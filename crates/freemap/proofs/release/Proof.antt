@@ -20,11 +20,12 @@ same-length-2 : tie.Need-same-length-2
 same-length-2 c = search needs
 
 returns : tie.Need-returns
-returns c = let r = c .before .before in let g = r .before .before .before .before in let t = g .before in let z = t .before .before .before .before .before in (
-  r .clear-node .ensures,
-  follows-cleared (z .args .n) (t .shift-of .result) (z .pre .0) (t .shift-of .ensures) (r .clear-node .ensures)
-      (g .give-used .ensures),
-)
+returns c = let r = c .before .before in let g = r .before .before .before .before in let t = g .before in
+    let z = t .before .before .before .before .before in (
+      r .clear-node .ensures,
+      follows-cleared (z .args .n) (t .shift-of .result) (z .pre .0) (t .shift-of .ensures) (r .clear-node .ensures)
+          (g .give-used .ensures),
+    )
 
 pub release-spec : {M : Type 1} → statement M
 release-spec =
