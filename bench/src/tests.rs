@@ -184,7 +184,7 @@ fn builds_of_which_one_has_no_lists_are_measured_without() -> Result<(), String>
 #[test]
 fn pools_for_the_check_are_good_and_bad() -> Result<(), String> {
     let mut trials = checks::trials(&[&Linked])?;
-    assert_eq!(trials.len(), 18);
+    assert_eq!(trials.len(), 27);
     trials.iter_mut().try_for_each(|trial| trial.round(&[&Linked], 0))
 }
 
