@@ -49,15 +49,16 @@ extern "C" {
 
 /* ---- Limits ---- */
 
-#define XAPOOL_ANCHOR_WORDS 4  /* word 0: N; 1: the head; 2: the marks; 3: zero */
-#define XAPOOL_NODE_WORDS 70   /* the words of a node, below */
+#define XAPOOL_ANCHOR_WORDS 4     /* word 0: N; 1: the head; 2: the marks; 3: zero */
+#define XAPOOL_NODE_WORDS 70      /* the words of a node, below */
 #define XAPOOL_MIN_NODES 1
-#define XAPOOL_MAX_NODES 1000
-#define XAPOOL_BATCH_BYTES 8192 /* a batch has at most so many bytes */
-#define XAPOOL_REPLY_BYTES 24   /* each command's reply has exactly so many */
-#define XAPOOL_LISTED_BYTES 21  /* each entry of a list has exactly so many */
-#define XAPOOL_REFUSAL_BYTES 6  /* a refused call, as the program tamburish writes it */
-#define XAPOOL_MAX_COMMANDS 744 /* no batch has more: the shortest record has 11 bytes */
+#define XAPOOL_MAX_NODES 16384
+#define XAPOOL_BATCH_BYTES 32768  /* a batch has at most so many bytes */
+#define XAPOOL_PROGRAM_BYTES 8192 /* and so many if it is for the program tamburish */
+#define XAPOOL_REPLY_BYTES 24     /* each command's reply has exactly so many */
+#define XAPOOL_LISTED_BYTES 21    /* each entry of a list has exactly so many */
+#define XAPOOL_REFUSAL_BYTES 6    /* a refused call, as the program tamburish writes it */
+#define XAPOOL_MAX_COMMANDS 2978  /* no batch has more: the shortest record has 11 bytes */
 #define XAPOOL_MAX_ORDER 63
 #define XAPOOL_MARKS 3
 
@@ -99,7 +100,7 @@ enum xapool_answer {
     XAPOOL_POOL_LENGTH = 1,      /* pool_words is not XAPOOL_WORDS(N) with N from 1 to XAPOOL_MAX_NODES; number 0 */
     XAPOOL_NOT_WELL_FORMED = 2,  /* the words are not those of a pool (never initialised, or damaged); number 0 */
     XAPOOL_BAD_BATCH = 3,        /* a record is cut off, or its tag or length is none; number: the place of
-                                    its first byte. Over 8,192 bytes: number 8,192 */
+                                    its first byte. Over XAPOOL_BATCH_BYTES: that many */
     XAPOOL_REPLY_SPACE = 4,      /* run: reply_bytes is under 24 a command; number: commands.
                                     list: buffer_bytes is under 21 an entry; number: entries */
     XAPOOL_BAD_ORDER = 5,        /* store: the order is above 63 */
@@ -274,11 +275,11 @@ xapool_comparison xapool_compare(const uint8_t *old_region, size_t old_bytes,
 typedef struct xapool_batch {
     uint8_t *bytes;
     size_t used;     /* bytes */
-    size_t room;     /* bytes in all, at most 8,192 */
+    size_t room;     /* bytes in all, at most XAPOOL_BATCH_BYTES */
     size_t commands; /* so many replies of 24 bytes a run will write */
 } xapool_batch;
 
-/* An empty batch in these bytes; more than 8,192 of them are not used. */
+/* An empty batch in these bytes; more than XAPOOL_BATCH_BYTES of them are not used. */
 static inline xapool_batch xapool_batch_over(uint8_t *bytes, size_t room)
 {
     xapool_batch batch;

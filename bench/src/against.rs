@@ -3,14 +3,14 @@
 use crate::checks;
 use crate::library::{Library, Loaded};
 use crate::loads::{dense, marked_finds, sparse, Load};
-use crate::measure::{Cost, Trial};
-use crate::{finds, lists, stores};
+use crate::measure::{empty_pool, Cost, Trial};
+use crate::{finds, free, lists, stores};
 
 pub const USAGE: &str = "\
-usage: bench against BEFORE AFTER [--only find|store|check|list] [--rounds N] [--indices N]
+usage: bench against BEFORE AFTER [--only find|store|free|check|list] [--rounds N] [--indices N]
   BEFORE, AFTER   shared objects, made of two builds of libxapool.a by scripts/bench-against
-  --only      finds, or stores and all else that writes or loads, or the check, or lists (where both
-              builds have them); all if not named
+  --only      finds, or stores and all else that writes or loads, or stores where few nodes are free, or
+              the check, or lists (where both builds have them); all if not named
   --rounds    of all loads by each build, in turns; of each batch the shortest time counts; 20 if not named
   --indices   of the dense loads; 60,000 if not named
 A build from before P7, whose nodes have a word less, is compared by its replies alone, and only
@@ -37,7 +37,7 @@ fn options(mut words: impl Iterator<Item = String>) -> Option<Options> {
         let value = words.next()?;
         match name.as_str() {
             "--only" => {
-                let known = ["find", "store", "check", "list"].contains(&value.as_str());
+                let known = ["find", "store", "free", "check", "list"].contains(&value.as_str());
                 options.only = Some(known.then_some(value)?)
             }
             "--rounds" => options.rounds = value.parse().ok().filter(|n| *n > 0)?,
@@ -59,17 +59,19 @@ pub fn run(words: impl Iterator<Item = String>) -> Option<Result<(), String>> {
 struct Loads {
     find: Vec<Load>,
     store: Vec<Load>,
+    free: Vec<Load>,
     full: Vec<Load>,
 }
 
 impl Loads {
-    fn wanted(options: &Options) -> Loads {
+    fn wanted(options: &Options, most_nodes: usize) -> Loads {
         let wanted = |name: &str| options.wants(name);
         let count = options.indices;
         let full = || vec![dense(count), sparse(count / 2), marked_finds(count, count / 2)];
         Loads {
             find: if wanted("find") { finds::loads(count) } else { Vec::new() },
             store: if wanted("store") { stores::loads(count) } else { Vec::new() },
+            free: if wanted("free") { free_loads(most_nodes) } else { Vec::new() },
             full: if wanted("check") { full() } else { Vec::new() },
         }
     }
@@ -79,9 +81,11 @@ fn measure(options: &Options) -> Result<(), String> {
     let [before, after] = [&options.builds[0], &options.builds[1]].map(|path| Loaded::open(path));
     let (before, after) = (before?, after?);
     let libraries: [&dyn Library; 2] = [&before, &after];
-    let loads = Loads::wanted(options);
+    let most_nodes = free::NODES.into_iter().filter(|nodes| all_take(&libraries, *nodes)).max();
+    let loads = Loads::wanted(options, most_nodes.unwrap_or(0));
     let trials = |loads| trials(&libraries, loads);
-    let mut sets = [trials(&loads.find)?, trials(&loads.store)?, trials(&loads.full)?];
+    let [find, store, free] = [trials(&loads.find)?, trials(&loads.store)?, trials(&loads.free)?];
+    let mut sets = [find, store, free, trials(&loads.full)?];
     let checks = !loads.full.is_empty();
     let mut checks = if checks { checks::trials(&libraries)? } else { Vec::new() };
     let mut lists = match options.wants("list") {
@@ -94,10 +98,23 @@ fn measure(options: &Options) -> Result<(), String> {
         checks.iter_mut().try_for_each(|trial| trial.round(&libraries, round))?;
         lists.iter_mut().try_for_each(|trial| trial.round(&libraries, round))?;
     }
-    let [find, store, full] = sets;
-    print!("{}{}{}", load_table(&find), load_table(&store), list_table(&lists));
+    let [find, store, free, full] = sets;
+    print!("{}{}{}", load_table(&find), load_table(&store), load_table(&free));
+    print!("{}", list_table(&lists));
     print!("{}{}{}", check_table(&checks), bad_table(&checks), share_table(&full));
     Ok(())
+}
+
+/// Whether every build takes a pool of so many nodes: an older one takes fewer.
+fn all_take(libraries: &[&dyn Library], nodes: usize) -> bool {
+    libraries.iter().all(|library| empty_pool(*library, nodes).is_ok())
+}
+
+/// At each size up to this; the name does not say it, so the text does.
+fn free_loads(most_nodes: usize) -> Vec<Load> {
+    let sizes = free::NODES.into_iter().filter(|nodes| *nodes <= most_nodes);
+    let named = |load: Load| Load { about: format!("N = {}, {}", load.nodes, load.about), ..load };
+    sizes.flat_map(free::loads).map(named).collect()
 }
 
 fn trials<'a>(libraries: &[&dyn Library], loads: &'a [Load]) -> Result<Vec<Trial<'a>>, String> {

@@ -3,7 +3,7 @@
 use crate::finds::runs;
 use crate::library::Library;
 use crate::loads::*;
-use crate::measure::{empty_pool, nanoseconds};
+use crate::measure::{empty_pool, longest_batch, nanoseconds};
 use std::hint::black_box;
 use std::time::Instant;
 use xapool_host::layout::{
@@ -11,9 +11,9 @@ use xapool_host::layout::{
 };
 use xapool_host::{node_count, Command, REPLY_BYTES};
 
-const NODES: [usize; 2] = [40, 1000];
+const NODES: [usize; 3] = [40, 1000, 16_384];
 /// Room for more entries side by side than any pool has.
-const MOST_INDICES: u64 = 64 * 1000;
+const MOST_INDICES: u64 = 64 * 16_384;
 const TOO_FEW_NODES: u8 = 11;
 /// Checks of one pool by one build in a turn, and turns in a round: more where each takes less.
 const IN_A_TURN: u32 = 5;
@@ -52,10 +52,12 @@ pub const WRONG: [&str; 4] = [
     "filled count of the last node in use",
 ];
 
-/// All kinds at both sizes.
+/// All kinds at all sizes that every build takes.
 pub fn trials(libraries: &[&dyn Library]) -> Result<Vec<Trial>, String> {
     let kinds = kinds();
-    let all = NODES.iter().flat_map(|nodes| kinds.iter().map(move |kind| (*nodes, kind)));
+    let taken = |nodes: &&usize| libraries.iter().all(|by| empty_pool(*by, **nodes).is_ok());
+    let sizes = NODES.iter().filter(taken);
+    let all = sizes.flat_map(|nodes| kinds.iter().map(move |kind| (*nodes, kind)));
     all.map(|(nodes, kind)| Trial::new(libraries, kind, nodes)).collect()
 }
 
@@ -146,7 +148,7 @@ fn pool(library: &dyn Library, kind: &Kind, nodes: usize) -> Result<Vec<u64>, St
     let mut pool = empty_pool(library, nodes)?;
     // Once full, no more fit; marks of what is not there are refused, and that is all.
     for part in [&kind.stores, &kind.marks] {
-        for batch in batches(part) {
+        for batch in batches(part, longest_batch(&[library])?) {
             let mut reply = vec![0; REPLY_BYTES * batch.len()];
             let result = library.run(&mut pool, batch.bytes(), &mut reply);
             if result.answer != 0 {

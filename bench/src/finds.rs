@@ -58,10 +58,10 @@ fn over_gaps(indices: u64, finds: u64) -> Load {
 
 fn over_sparse(finds: u64) -> Load {
     let mut random = Random(6);
-    let indices: Vec<u64> = (0..STORES_A_BATCH).map(|_| random.below(1 << 24)).collect();
+    let indices: Vec<u64> = (0..STORES_A_POOL).map(|_| random.below(1 << 24)).collect();
     let most = indices.iter().max().map_or(1, |last| last + 1);
     let timed = (0..finds).map(|_| find(random.below(most), FIND_ANY)).collect();
     let setup = indices.into_iter().map(store).collect();
-    let about = format!("filter 3, {STORES_A_BATCH} entries at random below 2^24");
+    let about = format!("filter 3, {STORES_A_POOL} entries at random below 2^24");
     Load::new("finds, sparse", about, vec![Work { setup, timed }])
 }

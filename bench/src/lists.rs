@@ -3,11 +3,11 @@
 use crate::finds::runs;
 use crate::library::Library;
 use crate::loads::*;
-use crate::measure::{empty_pool, nanoseconds, Time};
+use crate::measure::{empty_pool, longest_batch, nanoseconds, Time};
 use std::collections::BTreeMap;
 use std::hint::black_box;
 use std::time::Instant;
-use xapool_host::{Command, Entry, Marks, Word, LISTED_BYTES, MOST_NODES, REPLY_BYTES};
+use xapool_host::{Command, Entry, Marks, Word, LISTED_BYTES, REPLY_BYTES};
 
 /// A range of a pool, the bytes that its list must have, and the shortest times by each library.
 pub struct Trial {
@@ -125,9 +125,10 @@ fn entry((base, order): (u64, u8)) -> Entry {
 }
 
 fn filled(library: &dyn Library, entries: &[Entry]) -> Result<Vec<u64>, String> {
-    let mut pool = empty_pool(library, MOST_NODES)?;
+    let mut pool = empty_pool(library, USUAL_NODES)?;
     let store = |e: &Entry| Command::Store { index: e.base, order: e.order, word: e.word };
-    for batch in batches(&entries.iter().map(store).collect::<Vec<_>>()) {
+    let stores: Vec<Command> = entries.iter().map(store).collect();
+    for batch in batches(&stores, longest_batch(&[library])?) {
         let mut reply = vec![0; REPLY_BYTES * batch.len()];
         let ran = library.run(&mut pool, batch.bytes(), &mut reply);
         if ran.answer != 0 || reply.chunks(REPLY_BYTES).any(|reply| reply[3] != 0) {

@@ -1,7 +1,7 @@
 //! What a load is, and the three loads of docs/BENCHMARKS.md: dense stores, sparse stores at random,
 //! marked finds. finds.rs and stores.rs have more, for the comparison of two builds.
 
-use xapool_host::{BatchBuilder, Command, Word, MOST_NODES};
+use xapool_host::{BatchBuilder, Command, Word};
 
 /// The work on one pool: what is run before the clock starts, and what is timed.
 pub struct Work {
@@ -21,7 +21,7 @@ pub struct Load {
 
 impl Load {
     pub fn new(name: &'static str, about: impl Into<String>, pools: Vec<Work>) -> Load {
-        Load { name, about: about.into(), pools, nodes: MOST_NODES, answer: 0 }
+        Load { name, about: about.into(), pools, nodes: USUAL_NODES, answer: 0 }
     }
 }
 
@@ -29,8 +29,11 @@ impl Load {
 pub const MARKED_EVERY: u64 = 97;
 pub const MARK: u8 = 0;
 
-/// So many stores fill a batch.
-pub const STORES_A_BATCH: usize = 409;
+/// The nodes of a pool, where a load does not say.
+pub const USUAL_NODES: usize = 1000;
+
+/// So many stores at random below 2^24 take about 860 nodes.
+pub const STORES_A_POOL: usize = 409;
 
 /// A small generator (splitmix64), the same numbers in every run.
 pub struct Random(pub u64);
@@ -82,12 +85,12 @@ pub fn stores_by_pool(stores: &[Command], a_pool: usize) -> Vec<Work> {
     stores.chunks(a_pool).map(work).collect()
 }
 
-/// One full batch to a pool: each takes about 860 nodes.
 pub fn sparse(stores: u64) -> Load {
     let mut random = Random(1);
     let stores: Vec<Command> = (0..stores).map(|_| store(random.below(1 << 24))).collect();
-    let pools = stores_by_pool(&stores, STORES_A_BATCH);
-    let about = format!("order 0 at random below 2^24, {} pools of one full batch", pools.len());
+    let pools = stores_by_pool(&stores, STORES_A_POOL);
+    let about =
+        format!("order 0 at random below 2^24, {} pools of {STORES_A_POOL} each", pools.len());
     Load::new("sparse stores", about, pools)
 }
 
@@ -117,7 +120,7 @@ fn sparse_in_few_blocks() -> Load {
     let mut random = Random(3);
     let blocks: Vec<u64> = (0..12).map(|_| 64 * random.below(1 << 18)).collect();
     let mut index = || blocks[random.below(12) as usize] + random.below(64);
-    let timed = (0..STORES_A_BATCH).map(|_| store(index())).collect();
+    let timed = (0..STORES_A_POOL).map(|_| store(index())).collect();
     let pools = vec![Work { setup: Vec::new(), timed }];
     Load::new("sparse stores", "at random in 12 blocks of 64", pools)
 }
@@ -127,12 +130,14 @@ pub fn small() -> Vec<Load> {
     vec![dense(2000), sparse_in_few_blocks(), marked_finds(2000, 2000)]
 }
 
-/// The commands as full batches.
-pub fn batches(commands: &[Command]) -> Vec<BatchBuilder> {
+/// The commands as batches that are full, each of at most so many bytes.
+pub fn batches(commands: &[Command], bytes: usize) -> Vec<BatchBuilder> {
     let mut all = vec![BatchBuilder::new()];
     for command in commands {
-        let full = all.last_mut().is_none_or(|batch| batch.push(*command).is_err());
-        if full {
+        let fits =
+            |batch: &BatchBuilder| batch.bytes().len() + command.tag().record_bytes() <= bytes;
+        let last = all.last_mut().filter(|batch| fits(batch));
+        if last.is_none_or(|batch| batch.push(*command).is_err()) {
             let mut batch = BatchBuilder::new();
             // An empty batch has room for any command.
             let _ = batch.push(*command);

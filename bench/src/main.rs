@@ -1,9 +1,10 @@
-//! bench: three loads through xapool_run and lists, the same over a BTreeMap, the cost by nodes, and
-//! digests and comparisons. With `against`, two builds of the library in one run.
+//! bench: three loads through xapool_run and lists, the same over a BTreeMap, the cost by nodes, that
+//! of free nodes, and digests and comparisons. With `against`, two builds of the library in one run.
 
 mod against;
 mod checks;
 mod finds;
+mod free;
 mod library;
 mod lists;
 mod loads;
@@ -91,13 +92,21 @@ fn measure_all(options: &Options) -> Result<(), String> {
     for load in loads::small() {
         by_nodes.push(costs_by_nodes(&load, options.small_repeats)?);
     }
+    let free = free_nodes(options)?;
     let lists = lists(count, options.small_repeats)?;
-    let [rows_text, nodes_text] = [table::loads(&rows), table::by_nodes(&by_nodes)];
+    let nodes_text = table::by_nodes("the same commands", NODES, &by_nodes);
+    let free_text = table::by_nodes("where few nodes are free", free::NODES, &free);
     // A small run has small regions alone.
     let largest = if count < MOST_INDICES { 1 << 20 } else { usize::MAX };
     let regions = regions::rows(largest, options.repeats)?;
-    let [lists_text, regions_text] = [table::lists(&lists), table::regions(&regions)];
-    let tables = format!("{rows_text}\n{nodes_text}\n{lists_text}\n{regions_text}");
+    let texts = [
+        table::loads(&rows),
+        nodes_text,
+        free_text,
+        table::lists(&lists),
+        table::regions(&regions),
+    ];
+    let tables = texts.join("\n");
     println!("{tables}");
     match &options.write {
         Some(folder) => write(folder, &tables, &plot::svg(&rows, &by_nodes)),
@@ -136,6 +145,21 @@ fn costs_by_nodes(load: &Load, repeats: u32) -> Result<ByNodes, String> {
     Ok(ByNodes { name: load.name, costs })
 }
 
+/// Each of its loads at each size; fewer repeats where the pool is larger.
+fn free_nodes(options: &Options) -> Result<Vec<ByNodes>, String> {
+    let mut rows: Vec<ByNodes> = Vec::new();
+    for (at, nodes) in free::NODES.into_iter().enumerate() {
+        let fewer = options.small_repeats * free::NODES[0] as u32 / nodes as u32;
+        for (number, load) in free::loads(nodes).iter().enumerate() {
+            if at == 0 {
+                rows.push(ByNodes { name: load.name, costs: [measure::Cost::default(); 3] });
+            }
+            rows[number].costs[at] = cost(load, nodes, fewer.max(options.repeats))?;
+        }
+    }
+    Ok(rows)
+}
+
 fn processor() -> String {
     let all = fs::read_to_string("/proc/cpuinfo").unwrap_or_default();
     let named = all.lines().find_map(|line| line.strip_prefix("model name")?.split(": ").nth(1));
@@ -148,6 +172,8 @@ fn write(folder: &str, tables: &str, svg: &str) -> Result<(), String> {
         "# What a command costs\n\n\
          Made by `cd bench && cargo run --release -- {}`, on {}. Do not edit.\n\n\
          {tables}\n\
+         Where few nodes are free: an entry erased and another stored at random with nine tenths of the nodes in use (churn); a \
+         store that needs three nodes and its erase, with one low and the last two free; stores that end in answer 11. \
          A run and a list check their pool first, whose time grows with N and not with the commands; it is timed by itself on \
          the same pool just before each, and taken off. Of each batch the shortest time of all repeats counts. \
          The library reads records and writes replies as bytes; the BTreeMap takes its commands from memory, knows \

@@ -4,7 +4,7 @@ use crate::library::Library;
 use crate::loads::{batches, Load, Work};
 use std::time::Instant;
 use xapool_host::raw::RawResult;
-use xapool_host::{pool_words, BatchBuilder, REPLY_BYTES};
+use xapool_host::{pool_words, BatchBuilder, Command, MOST_BATCH_BYTES, REPLY_BYTES};
 
 /// Nanoseconds for all commands of a load.
 #[derive(Clone, Copy, Debug, Default)]
@@ -124,11 +124,12 @@ fn ready(
     for library in libraries {
         pools.push(empty_pool(*library, nodes)?);
     }
-    for batch in batches(&work.setup) {
+    let bytes = longest_batch(libraries)?;
+    for batch in batches(&work.setup, bytes) {
         all_gave(&run_by_each(libraries, &mut pools, &batch)?, 0)?;
     }
     let words = (!work.setup.is_empty()).then(|| pools.clone());
-    let batches = batches(&work.timed);
+    let batches = batches(&work.timed, bytes);
     let mut replies = Vec::new();
     for batch in &batches {
         let reply = run_by_each(libraries, &mut pools, batch)?;
@@ -138,6 +139,22 @@ fn ready(
     let sizes = pools.iter().map(Vec::len).collect();
     let ends = pools.iter().map(|pool| digest(pool)).collect();
     Ok(Ready { batches, replies, sizes, words, ends })
+}
+
+/// What a batch could have before it could have more.
+const OLDER_BATCH_BYTES: usize = 8192;
+
+/// The longest batches that every build takes, so that an older one can be measured beside this.
+pub fn longest_batch(libraries: &[&dyn Library]) -> Result<usize, String> {
+    let loads = batches(&[Command::Load { index: 0 }; OLDER_BATCH_BYTES / 10], MOST_BATCH_BYTES);
+    let mut reply = vec![0; REPLY_BYTES * loads[0].len()];
+    for library in libraries {
+        let mut pool = empty_pool(*library, 1)?;
+        if library.run(&mut pool, loads[0].bytes(), &mut reply).answer != 0 {
+            return Ok(OLDER_BATCH_BYTES);
+        }
+    }
+    Ok(MOST_BATCH_BYTES)
 }
 
 pub fn empty_pool(library: &dyn Library, nodes: usize) -> Result<Vec<u64>, String> {
@@ -202,7 +219,7 @@ fn times(
     all: &[Ready],
     pool: &mut [u64],
 ) -> Result<Vec<Time>, String> {
-    let mut times = Vec::new();
+    let (mut times, mut space) = (Vec::new(), Vec::new());
     for ready in all {
         let pool = &mut pool[..ready.sizes[at]];
         match &ready.words {
@@ -210,8 +227,8 @@ fn times(
             None => done(library.init(pool))?,
         }
         for (batch, expected) in ready.batches.iter().zip(&ready.replies) {
-            let mut reply = vec![0; expected.len()];
-            times.push(timed_run(library, pool, batch, &mut reply)?);
+            let reply = blank(&mut space, expected.len());
+            times.push(timed_run(library, pool, batch, reply)?);
             if reply != *expected {
                 return Err("a build replies differently from round to round".into());
             }
@@ -221,6 +238,14 @@ fn times(
         }
     }
     Ok(times)
+}
+
+/// So many bytes of reply space, all 0. One space for all runs: of a new one the first touch of its
+/// pages would be timed too.
+pub fn blank(space: &mut Vec<u8>, bytes: usize) -> &mut [u8] {
+    space.clear();
+    space.resize(bytes, 0);
+    space
 }
 
 pub fn nanoseconds(since: Instant) -> f64 {
@@ -233,6 +258,8 @@ fn timed_run(
     batch: &BatchBuilder,
     reply: &mut [u8],
 ) -> Result<Time, String> {
+    // Not timed: so the words are as near for the check as for the run after it.
+    done(library.check(pool))?;
     let start = Instant::now();
     let checked = library.check(pool);
     let check = nanoseconds(start);

@@ -5,7 +5,7 @@ use crate::loads::{batches, Load, Work};
 use std::collections::BTreeMap;
 use std::hint::black_box;
 use std::time::Instant;
-use xapool_host::{BatchBuilder, Command, Word};
+use xapool_host::{BatchBuilder, Command, Word, MOST_BATCH_BYTES};
 
 #[derive(Clone, Copy)]
 struct Entry {
@@ -75,7 +75,7 @@ fn times(work: &Work) -> Vec<f64> {
     for command in &work.setup {
         map.execute(*command);
     }
-    let batches = batches(&work.timed);
+    let batches = batches(&work.timed, MOST_BATCH_BYTES);
     batches.iter().map(|batch| timed_run(&mut map, batch)).collect()
 }
 

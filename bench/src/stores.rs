@@ -12,7 +12,7 @@ pub fn loads(indices: u64) -> Vec<Load> {
     vec![
         dense(indices),
         shuffled(indices),
-        sparse_below("sparse stores below 2^20", 20, STORES_A_BATCH, indices / 2),
+        sparse_below("sparse stores below 2^20", 20, STORES_A_POOL, indices / 2),
         sparse(indices / 2),
         sparse_below("sparse stores below 2^64", 64, WIDE_STORES, indices / 4),
         mixed_orders(indices / 2),
@@ -56,8 +56,8 @@ fn mixed_orders(stores: u64) -> Load {
         store_order(index >> order << order, order)
     };
     let stores: Vec<Command> = (0..stores).map(|_| one()).collect();
-    let pools = stores_by_pool(&stores, STORES_A_BATCH);
-    let about = format!("at random below 2^20, a full batch to a pool, pools: {}", pools.len());
+    let pools = stores_by_pool(&stores, STORES_A_POOL);
+    let about = format!("at random below 2^20, {STORES_A_POOL} to a pool, pools: {}", pools.len());
     Load::new("stores of orders 0 to 12", about, pools)
 }
 
@@ -95,7 +95,7 @@ fn growing() -> Load {
 fn growing_and_shrinking() -> Load {
     let mut once: Vec<Command> = growing_indices().map(store).collect();
     once.extend(growing_indices().rev().map(|index| Command::Erase { index }));
-    // 24 times fill a batch.
+    // One batch.
     let work = |_| Work { setup: Vec::new(), timed: once.repeat(24) };
     let about = "the same, then erases from the highest, again and again";
     Load::new("the head grows and shrinks", about, (0..10).map(work).collect())
@@ -120,12 +120,12 @@ fn different(random: &mut Random, count: usize) -> Vec<u64> {
 fn sparse_erases(erases: u64) -> Load {
     let mut random = Random(12);
     let mut work = |_| {
-        let indices = different(&mut random, STORES_A_BATCH);
+        let indices = different(&mut random, STORES_A_POOL);
         let timed = indices.iter().map(|index| Command::Erase { index: *index }).collect();
         Work { setup: random.shuffled(indices.into_iter().map(store).collect()), timed }
     };
-    let pools: Vec<Work> = (0..=erases / STORES_A_BATCH as u64).map(&mut work).collect();
-    let about = format!("{STORES_A_BATCH} at random below 2^24 to a pool, pools: {}", pools.len());
+    let pools: Vec<Work> = (0..=erases / STORES_A_POOL as u64).map(&mut work).collect();
+    let about = format!("{STORES_A_POOL} at random below 2^24 to a pool, pools: {}", pools.len());
     Load::new("erases, sparse", about, pools)
 }
 

@@ -13,14 +13,14 @@ pub struct Row {
     pub map: f64,
 }
 
-/// The same commands on pools of 40, 200 and 1,000 nodes.
+/// A load on pools of three sizes.
 pub struct ByNodes {
     pub name: &'static str,
     pub costs: [Cost; 3],
 }
 
 impl ByNodes {
-    /// How much more a command costs at 1,000 nodes than at 40.
+    /// How much more a command costs in the largest pool than in the smallest.
     pub fn growth(&self) -> f64 {
         self.costs[2].run_less_check() / self.costs[0].run_less_check()
     }
@@ -81,9 +81,19 @@ pub fn loads(rows: &[Row]) -> String {
     text
 }
 
-pub fn by_nodes(rows: &[ByNodes]) -> String {
-    let mut text = String::from(
-        "| the same commands, ns a command without the check | N = 40 | N = 200 | N = 1,000 | 1,000 against 40 | check a batch at 40, 200, 1,000 |\n\
+/// A number with its thousands told apart.
+fn grouped(number: usize) -> String {
+    match (number / 1000, number % 1000) {
+        (0, rest) => rest.to_string(),
+        (thousands, rest) => format!("{},{rest:03}", grouped(thousands)),
+    }
+}
+
+pub fn by_nodes(what: &str, nodes: [usize; 3], rows: &[ByNodes]) -> String {
+    let [small, middle, large] = nodes.map(grouped);
+    let mut text = format!(
+        "| {what}, ns a command without the check | N = {small} | N = {middle} | N = {large} \
+         | {large} against {small} | check a batch at {small}, {middle}, {large} |\n\
          |---|---|---|---|---|---|\n",
     );
     for row in rows {

@@ -2,11 +2,13 @@
 
 use crate::library::{Library, Linked};
 use crate::loads::{batches, dense, marked_finds, small, sparse, Load, Work};
-use crate::measure::Trial;
-use crate::{checks, finds, lists, regions, stores};
+use crate::measure::{Cost, Trial};
+use crate::table::{self, ByNodes};
+use crate::{checks, finds, free, lists, regions, stores};
 use std::collections::BTreeSet;
+use xapool_host::layout::node_place;
 use xapool_host::raw::RawResult;
-use xapool_host::Command;
+use xapool_host::{Command, Pool, MOST_BATCH_BYTES};
 
 /// The nodes that stores of order 0 below 2^24 take, at most: a node of each shift over each.
 fn most_nodes(work: &Work) -> usize {
@@ -43,9 +45,14 @@ fn small_loads_fit_40_nodes() {
 
 #[test]
 fn batches_are_full_and_lose_nothing() {
-    let work = &dense(1000).pools[0];
-    let all = batches(&work.timed);
-    assert_eq!(all.iter().map(|batch| batch.len()).collect::<Vec<_>>(), [409, 409, 182]);
+    let work = &dense(4000).pools[0];
+    let lengths = |bytes: usize| {
+        batches(&work.timed, bytes).iter().map(|batch| batch.len()).collect::<Vec<_>>()
+    };
+    // A store has 20 bytes.
+    assert_eq!(lengths(MOST_BATCH_BYTES), [1638, 1638, 724]);
+    assert_eq!(lengths(8192)[..2], [409, 409]);
+    let all = batches(&work.timed, MOST_BATCH_BYTES);
     let again: Vec<Command> = all.iter().flat_map(|batch| batch.commands().flatten()).collect();
     assert_eq!(again, work.timed);
 }
@@ -58,6 +65,70 @@ fn loads_for_two_builds_run() -> Result<(), String> {
         trial.round(&[&Linked, &Linked], 0)?;
         assert!(trial.costs().iter().all(|cost| cost.commands > 0 && cost.run < 1e12));
     }
+    Ok(())
+}
+
+/// The nodes that these entries of order 0 take, one of them in the last block of a head of shift 18.
+fn nodes_over(indices: &BTreeSet<u64>) -> usize {
+    let nodes =
+        |bits: u32| indices.iter().map(|index| index >> bits).collect::<BTreeSet<_>>().len();
+    assert_eq!(indices.last().map(|last| last >> 18), Some(63));
+    [6, 12, 18, 24].into_iter().map(nodes).sum()
+}
+
+fn apply(there: &mut BTreeSet<u64>, command: &Command) {
+    match command {
+        Command::Store { index, .. } => assert!(there.insert(*index)),
+        Command::Erase { index } => assert!(there.remove(index)),
+        other => panic!("{other}"),
+    }
+}
+
+/// The nodes in use after the setup, and the most and fewest during the first commands.
+fn in_use(load: &Load) -> (usize, usize, usize) {
+    let (work, mut there) = (&load.pools[0], BTreeSet::new());
+    work.setup.iter().for_each(|command| apply(&mut there, command));
+    let before = nodes_over(&there);
+    let (mut most, mut fewest) = (before, before);
+    for command in work.timed.iter().take(200) {
+        apply(&mut there, command);
+        most = most.max(nodes_over(&there));
+        fewest = fewest.min(nodes_over(&there));
+    }
+    (before, most, fewest)
+}
+
+#[test]
+fn few_nodes_are_free_where_it_is_said() {
+    for nodes in [40, 1000] {
+        let [churn, three, none] = &free::loads(nodes)[..] else { panic!("three loads") };
+        let (before, most, fewest) = in_use(churn);
+        assert!(before <= nodes * 9 / 10 && before + 3 > nodes * 9 / 10, "{before} of {nodes}");
+        assert!(most <= nodes && fewest + nodes / 20 > before, "{most}, {fewest} of {nodes}");
+        assert_eq!(in_use(three), (nodes - 3, nodes, nodes - 3));
+        assert_eq!(in_use(none).0, nodes);
+    }
+    let largest: BTreeSet<u64> = free::filling(16_384).into_iter().collect();
+    assert_eq!(nodes_over(&largest), 16_384);
+}
+
+/// In the smallest pool, by the library: which nodes are free before the clock starts.
+#[test]
+fn loads_for_free_nodes_run() -> Result<(), String> {
+    let loads = free::loads(40);
+    for load in &loads {
+        let mut trial = Trial::new(&[&Linked], load, 40)?;
+        trial.round(&[&Linked], 0)?;
+        assert!(trial.costs().iter().all(|cost| cost.commands > 0 && cost.run < 1e12));
+    }
+    let mut pool = Pool::new(40).map_err(|refusal| refusal.to_string())?;
+    let replies = pool.run_all(loads[1].pools[0].setup.iter().copied());
+    assert!(replies
+        .map_err(|refusal| refusal.to_string())?
+        .iter()
+        .all(|reply| reply.done().is_ok()));
+    let is_free = |node: &usize| pool.words()[node_place(*node)] == 0;
+    assert_eq!((0..40).filter(is_free).collect::<Vec<_>>(), [7, 38, 39]);
     Ok(())
 }
 
@@ -113,6 +184,17 @@ fn builds_of_which_one_has_no_lists_are_measured_without() -> Result<(), String>
 #[test]
 fn pools_for_the_check_are_good_and_bad() -> Result<(), String> {
     let mut trials = checks::trials(&[&Linked])?;
-    assert_eq!(trials.len(), 18);
+    assert_eq!(trials.len(), 27);
     trials.iter_mut().try_for_each(|trial| trial.round(&[&Linked], 0))
+}
+
+#[test]
+fn a_table_of_three_sizes() {
+    let costs =
+        [100.0, 200.0, 400.0].map(|run| Cost { commands: 10, batches: 1, run, check: 50.0 });
+    let text = table::by_nodes("where", [40, 1000, 16_384], &[ByNodes { name: "one", costs }]);
+    let heading = "| where, ns a command without the check | N = 40 | N = 1,000 | N = 16,384 \
+                   | 16,384 against 40 | check a batch at 40, 1,000, 16,384 |";
+    let row = "| one | 5.0 | 15.0 | 35.0 | 7.00 times | 50, 50, 50 ns |";
+    assert_eq!(text, format!("{heading}\n|---|---|---|---|---|---|\n{row}\n"));
 }

@@ -3,7 +3,8 @@
 use reference::awkward::Commands as Source;
 use reference::batch::Command as Plain;
 use reference::random::Random;
-use xapool_host::{Command, Commands, Word, MOST_BATCH_BYTES};
+use std::iter;
+use xapool_host::{Command, Commands, Word};
 
 /// The same command as the wrapper knows it; its record is written by the wrapper, so that
 /// reference's reader is tried against an encoder that is not its own.
@@ -27,11 +28,13 @@ pub fn record(command: Plain) -> Vec<u8> {
     bytes
 }
 
-pub fn random_batch(random: &mut Random, source: &mut Source) -> Vec<u8> {
+/// A batch for what takes batches of at most so many bytes. Full ones are rare: reference works on
+/// each of their commands afresh.
+pub fn random_batch(random: &mut Random, source: &mut Source, most: usize) -> Vec<u8> {
     match random.below(64) {
         0 | 1 => Vec::new(),
-        2 => full(random, source),
-        3 => too_long(random, source),
+        2 if random.one_in((most / 8192) as u64) => full(random, source, most),
+        3 => too_long(random, most),
         4 => (0..random.below(60)).map(|_| random.word() as u8).collect(),
         5..=18 => {
             let mut batch = some(random, source);
@@ -55,25 +58,31 @@ fn some(random: &mut Random, source: &mut Source) -> Vec<u8> {
     batch
 }
 
-/// Exactly 8,192 bytes in whole records.
-fn full(random: &mut Random, source: &mut Source) -> Vec<u8> {
+/// Exactly so many bytes in whole records.
+fn full(random: &mut Random, source: &mut Source, most: usize) -> Vec<u8> {
     let mut batch = some(random, source);
-    while batch.len() + 150 < MOST_BATCH_BYTES {
+    while batch.len() + 150 < most {
         let command = if random.one_in(4) { source.command() } else { Plain::Load { index: 0 } };
         typed(command).write(&mut batch);
     }
-    // Records of 12 bytes until records of 11 fill the rest.
-    while !(MOST_BATCH_BYTES - batch.len()).is_multiple_of(11) {
-        Command::Mark { index: random.below(100), mark: 1 }.write(&mut batch);
-    }
-    while batch.len() < MOST_BATCH_BYTES {
-        Command::Load { index: random.below(100) }.write(&mut batch);
-    }
+    fill(random, &mut batch, most);
     batch
 }
 
-fn too_long(random: &mut Random, source: &mut Source) -> Vec<u8> {
-    let mut batch = full(random, source);
+/// Up to exactly so many bytes: records of 12 bytes until records of 11 fill the rest.
+fn fill(random: &mut Random, batch: &mut Vec<u8>, most: usize) {
+    while !(most - batch.len()).is_multiple_of(11) {
+        Command::Mark { index: random.below(100), mark: 1 }.write(batch);
+    }
+    while batch.len() < most {
+        Command::Load { index: random.below(100) }.write(batch);
+    }
+}
+
+/// Whole records and then the byte that is too much, or some more.
+fn too_long(random: &mut Random, most: usize) -> Vec<u8> {
+    let mut batch = Vec::new();
+    fill(random, &mut batch, most);
     let more = if random.one_in(2) { 1 } else { 1 + random.below(3000) };
     batch.extend((0..more).map(|at| if at == 0 { 2 } else { 0 }));
     batch
@@ -116,6 +125,13 @@ pub fn parts(batch: &[u8]) -> Vec<Vec<u8>> {
     let last = places.last().copied().unwrap_or(0);
     let records = places.windows(2).map(|ends| batch[ends[0]..ends[1]].to_vec());
     records.chain((last < batch.len()).then(|| batch[last..].to_vec())).collect()
+}
+
+/// From where to where to leave parts out: all of so many, then halves, and so on to single ones.
+pub fn cuts(count: usize) -> impl Iterator<Item = (usize, usize)> {
+    let sizes = iter::successors(Some(count), |size| Some(size / 2)).take_while(|size| *size > 0);
+    let cut = move |size: usize, from: usize| (from, (from + size).min(count));
+    sizes.flat_map(move |size| (0..count).step_by(size).map(move |from| cut(size, from)))
 }
 
 /// A batch as hex and as text commands, each line indented.

@@ -1,12 +1,13 @@
-//! Cases 13 to 15 (R118 to R120), the empty batch, and batches of 8,192 and 8,193 bytes, with the
-//! rules' own figures; unaligned stores (P4), stores over mark 2 (P5), the listings of
-//! listing_cases.rs, the reservations of reserve_cases.rs and the filled counts of count_cases.rs; and
-//! cases 2 to 13 command by command against reference, all words and replies (their figures are
-//! computed by the proved table and tested in host/). A case that fails says which commands it ran
-//! and the first word or byte that differs.
+//! Cases 13 to 15 (R118 to R120, R231), the empty batch, and batches of 32,768 and 32,769 bytes, with
+//! the rules' own figures; unaligned stores (P4), stores over mark 2 (P5), the listings of
+//! listing_cases.rs, the reservations of reserve_cases.rs, the filled counts of count_cases.rs and the
+//! largest pool of large_cases.rs; and cases 2 to 13 command by command against reference, all words
+//! and replies (their figures are computed by the proved table and tested in host/). A case that fails
+//! says which commands it ran and the first word or byte that differs.
 
 use crate::batches::{hex, show};
 use crate::count_cases::count_cases;
+use crate::large_cases::large_cases;
 use crate::lend::{Call, Given, Lender};
 use crate::list::CallList;
 use crate::listing_cases::listing_cases;
@@ -32,11 +33,16 @@ pub fn store_order(index: u64, order: u8, word: u64) -> Command {
     Command::Store { index, order, word: Word(word) }
 }
 
-/// 736 records of 11 bytes and 8 of 12: 8,192 bytes, 744 commands.
-fn full() -> Vec<u8> {
+/// Records of 11 bytes and of 12.
+fn loads_and_marks(loads: usize, marks: usize) -> Vec<u8> {
     let load = records(&[Command::Load { index: 0 }]);
     let mark = records(&[Command::Mark { index: 0, mark: 0 }]);
-    [load.repeat(736), mark.repeat(8)].concat()
+    [load.repeat(loads), mark.repeat(marks)].concat()
+}
+
+/// 32,768 bytes, 2,978 commands.
+fn full() -> Vec<u8> {
+    loads_and_marks(2968, 10)
 }
 
 /// A call on a pool of these words, which is initialised before.
@@ -153,15 +159,20 @@ fn case_14() -> Vec<Case> {
 fn case_15() -> Vec<Case> {
     let init = |words, answer| answers(words, Call::Init, answer, 0);
     let long = [full(), vec![2]].concat();
-    assert_eq!(full().len(), 8192);
+    assert_eq!(full().len(), 32_768);
     vec![
         ("case 15: 74 words", init(74, 0)),
-        ("case 15: 70,004 words", init(70_004, 0)),
+        ("case 15: 1,146,884 words, 16,384 nodes", init(1_146_884, 0)),
         ("case 15: 73 words", init(73, 1)),
-        ("case 15: 70,074 words", init(70_074, 1)),
+        ("case 15: 1,146,954 words, 16,385 nodes", init(1_146_954, 1)),
+        ("case 15: 1,146,885 words", init(1_146_885, 1)),
         ("case 15: check of 73 words", answers(73, Call::Check, 1, 0)),
-        ("case 15: 8,192 bytes", runs(full(), 17_856, 0, 744)),
-        ("case 15: 8,193 bytes", runs(long, 17_856, 3, 8192)),
+        ("case 15: check of 1,146,884 words", answers(1_146_884, Call::Check, 0, 0)),
+        ("case 15: check of 1,146,954 words", answers(1_146_954, Call::Check, 1, 0)),
+        ("case 15: 8,193 bytes", runs(loads_and_marks(735, 9), 17_856, 0, 744)),
+        ("case 15: 32,768 bytes", runs(full(), 71_472, 0, 2978)),
+        ("case 15: 32,768 bytes, a byte of reply space less", runs(full(), 71_471, 4, 2978)),
+        ("case 15: 32,769 bytes", runs(long, 71_472, 3, 32_768)),
     ]
 }
 
@@ -233,9 +244,12 @@ fn programs(with_program: bool) -> Vec<Case> {
         ("program: case 14 in pieces", gives(pieces)),
         ("program: case 14", same(case_14)),
         ("program: the empty batch", same(Vec::new())),
-        ("program: 8,192 bytes", same(full())),
-        ("program: 8,193 bytes", same([full(), vec![2]].concat())),
-        ("program: 30,000 bytes", same(vec![0; 30_000])),
+        ("program: 8,192 bytes", same(loads_and_marks(736, 8))),
+        ("program: 8,193 bytes", same([loads_and_marks(736, 8), vec![2]].concat())),
+        ("program: 8,193 bytes of whole records", same(loads_and_marks(735, 9))),
+        ("program: 32,768 bytes", same(full())),
+        ("program: 32,769 bytes", same([full(), vec![2]].concat())),
+        ("program: 100,000 bytes", same(vec![0; 100_000])),
     ]
 }
 
@@ -251,6 +265,7 @@ pub fn run_all(with_program: bool) -> (usize, Vec<(&'static str, String)>) {
         listing_cases(),
         reserve_cases(),
         count_cases(),
+        large_cases(),
     ]
     .concat();
     let all = [starred(), figures, programs(with_program)].concat();

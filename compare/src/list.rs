@@ -1,14 +1,15 @@
 //! A list of calls on one pool.
 
-use crate::batches::{parts, random_batch, show};
+use crate::batches::{cuts, parts, random_batch, show};
 use crate::figures::{Figures, Of};
 use crate::lend::{by_reference, Call, Given, Lender};
 use crate::listings::random_listing;
 use crate::pools::{random_words, recount};
 use reference::awkward::Commands as Source;
-use reference::batch::read;
+use reference::batch::{read, MOST_BATCH_BYTES};
 use reference::pool::{node_count, pool_length, State};
 use reference::random::Random;
+use std::iter;
 
 /// Reference's pool, which lags behind the calls until a listing asks where its entries are.
 struct Followed {
@@ -98,114 +99,77 @@ impl CallList {
         })
     }
 
-    /// Smaller lists, the much smaller ones first.
-    pub fn smaller(&self) -> Vec<CallList> {
-        let mut all = self.fewer_calls();
-        all.extend(self.smaller_pools());
-        for number in 0..self.calls.len() {
-            all.extend(self.fewer_commands(number));
-            all.extend(self.narrower(number));
-        }
-        all.extend(self.fewer_words());
-        all
+    /// Smaller lists, the much smaller ones first. Each is made when it is asked for: all those of a
+    /// large pool would not fit into memory.
+    pub fn smaller(&self) -> impl Iterator<Item = CallList> + '_ {
+        let commands = (0..self.calls.len())
+            .flat_map(|number| self.fewer_commands(number).chain(self.narrower(number)));
+        self.fewer_calls().chain(self.smaller_pools()).chain(commands).chain(self.fewer_words())
     }
 
-    fn fewer_calls(&self) -> Vec<CallList> {
+    fn fewer_calls(&self) -> impl Iterator<Item = CallList> + '_ {
         let without = |number: usize| {
             let mut list = self.clone();
             list.calls.remove(number);
             list
         };
-        (0..self.calls.len()).rev().map(without).collect()
+        (0..self.calls.len()).rev().map(without)
     }
 
     fn with_words(&self, words: Vec<u64>) -> CallList {
         CallList { words, calls: self.calls.clone() }
     }
 
+    fn with_call(&self, number: usize, call: Call) -> CallList {
+        let mut list = self.clone();
+        list.calls[number] = call;
+        list
+    }
+
     /// An initialised pool, or fewer nodes.
-    fn smaller_pools(&self) -> Vec<CallList> {
-        let Some(nodes) = node_count(self.words.len()) else {
-            return Vec::new();
-        };
-        let mut all = Vec::new();
-        let empty = State::empty(nodes).words();
-        if self.words != empty {
-            all.push(self.with_words(empty));
-        }
-        for fewer in
-            [1, nodes / 2, nodes - 1].into_iter().filter(|fewer| (1..nodes).contains(fewer))
-        {
+    fn smaller_pools(&self) -> impl Iterator<Item = CallList> + '_ {
+        let nodes = node_count(self.words.len()).unwrap_or(0);
+        let empty = iter::once_with(move || State::empty(nodes).words());
+        let empty = empty.filter(move |words| nodes > 0 && *words != self.words);
+        let fewer = [1, nodes / 2, nodes.saturating_sub(1)].into_iter();
+        let fewer = fewer.filter(move |fewer| (1..nodes).contains(fewer)).map(move |fewer| {
             let mut words = self.words[..pool_length(fewer)].to_vec();
             words[0] = if words[0] == nodes as u64 { fewer as u64 } else { words[0] };
-            all.push(self.with_words(words));
-        }
-        all
+            words
+        });
+        empty.chain(fewer).map(|words| self.with_words(words))
     }
 
-    /// One call's batch without some of its records, its reply space as long or short as before.
-    fn fewer_commands(&self, number: usize) -> Vec<CallList> {
-        let Call::Run { batch, reply } = &self.calls[number] else {
-            return Vec::new();
+    /// One call with as much reply space as it needs, if it has more; then its batch without some of
+    /// its records, its reply space as long or short as before.
+    fn fewer_commands(&self, number: usize) -> impl Iterator<Item = CallList> + '_ {
+        let (parts, reply) = match &self.calls[number] {
+            Call::Run { batch, reply } => (parts(batch), *reply),
+            _ => (Vec::new(), 0),
         };
-        let parts = parts(batch);
-        let mut all = self.exact_reply(number);
-        let mut size = parts.len();
-        while size > 0 {
-            for from in (0..parts.len()).step_by(size) {
-                let to = (from + size).min(parts.len());
-                let fewer = [&parts[..from], &parts[to..]].concat().concat();
-                let less = reply.saturating_sub(24 * (to - from));
-                let mut list = self.clone();
-                list.calls[number] = Call::Run { batch: fewer, reply: less };
-                all.push(list);
-            }
-            size /= 2;
-        }
-        all
-    }
-
-    /// One call with as much reply space as it needs, if it has more.
-    fn exact_reply(&self, number: usize) -> Vec<CallList> {
-        let mut list = self.clone();
-        if let Call::Run { batch, reply } = &mut list.calls[number] {
-            *reply = (*reply).min(24 * parts(batch).len());
-        }
-        if list == *self {
-            Vec::new()
-        } else {
-            vec![list]
-        }
+        let (count, batch) = (parts.len(), parts.concat());
+        let exact = (24 * count < reply).then(|| Call::Run { batch, reply: 24 * count });
+        let fewer = move |(from, to): (usize, usize)| {
+            let batch = [&parts[..from], &parts[to..]].concat().concat();
+            Call::Run { batch, reply: reply.saturating_sub(24 * (to - from)) }
+        };
+        let cuts = cuts(count).map(fewer);
+        exact.into_iter().chain(cuts).map(move |call| self.with_call(number, call))
     }
 
     /// One listing with a smaller range or buffer.
-    fn narrower(&self, number: usize) -> Vec<CallList> {
-        let Call::List { first, last, buffer } = self.calls[number] else {
-            return Vec::new();
+    fn narrower(&self, number: usize) -> impl Iterator<Item = CallList> + '_ {
+        let calls = match self.calls[number] {
+            Call::List { first, last, buffer } => narrower_calls(first, last, buffer),
+            _ => Vec::new(),
         };
-        let middle = first + last.saturating_sub(first) / 2;
-        let ranges =
-            [(first, first), (last, last), (first, middle), (middle.saturating_add(1), last)];
-        let ranges = ranges.into_iter().filter(|(a, b)| first <= *a && a <= b && *b <= last);
-        let mut all: Vec<Call> =
-            ranges.map(|(first, last)| Call::List { first, last, buffer }).collect();
-        if first > last {
-            all.push(Call::List { first: 1, last: 0, buffer });
-        }
-        let buffers = [0, buffer / 2, buffer.saturating_sub(21), buffer.saturating_sub(1)];
-        all.extend(buffers.map(|buffer| Call::List { first, last, buffer }));
-        all.retain(|call| *call != self.calls[number]);
-        let with = |call| {
-            let mut list = self.clone();
-            list.calls[number] = call;
-            list
-        };
-        all.into_iter().map(with).collect()
+        let other = calls.into_iter().filter(move |call| *call != self.calls[number]);
+        other.map(move |call| self.with_call(number, call))
     }
 
     /// One word 0 that was not, also with the filled counts set right after it, but for small pools
     /// only.
-    fn fewer_words(&self) -> Vec<CallList> {
+    fn fewer_words(&self) -> impl Iterator<Item = CallList> + '_ {
         let filled = (1..self.words.len()).filter(|place| self.words[*place] != 0);
         let without = |place: usize| {
             let mut words = self.words.clone();
@@ -214,7 +178,7 @@ impl CallList {
             recount(&mut counted);
             [words, counted].map(|words| self.with_words(words))
         };
-        filled.take(150).flat_map(without).filter(|list| list.words != self.words).collect()
+        filled.take(150).flat_map(without).filter(|list| list.words != self.words)
     }
 
     pub fn show(&self) -> String {
@@ -245,12 +209,27 @@ impl CallList {
     }
 }
 
+/// The listing with a smaller range or buffer.
+fn narrower_calls(first: u64, last: u64, buffer: usize) -> Vec<Call> {
+    let middle = first + last.saturating_sub(first) / 2;
+    let ranges = [(first, first), (last, last), (first, middle), (middle.saturating_add(1), last)];
+    let ranges = ranges.into_iter().filter(|(a, b)| first <= *a && a <= b && *b <= last);
+    let mut all: Vec<Call> =
+        ranges.map(|(first, last)| Call::List { first, last, buffer }).collect();
+    if first > last {
+        all.push(Call::List { first: 1, last: 0, buffer });
+    }
+    let buffers = [0, buffer / 2, buffer.saturating_sub(21), buffer.saturating_sub(1)];
+    all.extend(buffers.map(|buffer| Call::List { first, last, buffer }));
+    all
+}
+
 fn random_call(random: &mut Random, source: &mut Source) -> Call {
     match random.below(12) {
         0 => Call::Init,
         1 | 2 => Call::Check,
         _ => {
-            let batch = random_batch(random, source);
+            let batch = random_batch(random, source, MOST_BATCH_BYTES);
             let reply = reply_space(random, &batch);
             Call::Run { batch, reply }
         }

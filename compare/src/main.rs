@@ -10,6 +10,7 @@ mod exhaustive;
 mod figures;
 mod finds;
 mod indices;
+mod large_cases;
 mod lend;
 mod list;
 mod listing_cases;

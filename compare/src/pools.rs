@@ -10,13 +10,15 @@ use xapool_host::layout::{
     SLOT_FIELD,
 };
 
-/// Mostly a few nodes, so that stores fall on both sides of answer 11; up to the most there may be.
+/// Mostly a few nodes, so that stores fall on both sides of answer 11. The largest pools are rare: each
+/// call on one takes reference and the comparison milliseconds.
 fn random_nodes(random: &mut Random) -> usize {
-    let most = match random.below(64) {
-        0 => return MOST_NODES,
-        1 => MOST_NODES as u64,
-        2..=4 => 200,
-        5..=20 => 45,
+    let most = match random.below(LARGEST_ONCE_IN) {
+        0 | 1 => return MOST_NODES,
+        2 => MOST_NODES as u64,
+        3..=30 => 1000,
+        31..=80 => 200,
+        81..=340 => 45,
         _ => 14,
     };
     1 + random.below(most) as usize
@@ -45,7 +47,7 @@ fn odd_length(random: &mut Random, nodes: usize) -> usize {
         0 => 0,
         1 => 4,
         2 => pool_length(1) - 1,
-        3 => pool_length(MOST_NODES + 1),
+        3 if random.one_in(8) => pool_length(MOST_NODES + 1),
         4 => pool_length(nodes) + 1,
         _ => random.below(300) as usize,
     }
@@ -85,6 +87,8 @@ pub fn shuffle<T>(random: &mut Random, all: &mut [T]) {
         all.swap(last, random.below(last as u64 + 1) as usize);
     }
 }
+
+const LARGEST_ONCE_IN: u64 = 1024;
 
 /// The nodes that these words have room for.
 fn nodes_of(words: &[u64]) -> usize {

@@ -1,6 +1,6 @@
 //! The program tamburish on a batch by standard input, against reference's program.
 
-use crate::batches::{hex, parts, random_batch, show};
+use crate::batches::{cuts, hex, parts, random_batch, show};
 use crate::figures::{Figures, Of};
 use crate::os::unread;
 use reference::awkward::Commands as Source;
@@ -10,6 +10,7 @@ use std::path::PathBuf;
 use std::process::{Child, ChildStdin, Command as Process, ExitStatus, Stdio};
 use std::time::{Duration, Instant};
 use std::{env, io, thread};
+use xapool_host::{MOST_BATCH_BYTES, PROGRAM_BATCH_BYTES};
 
 /// A program takes milliseconds; one that takes so long does not end.
 const LONGEST: Duration = Duration::from_secs(20);
@@ -58,11 +59,22 @@ fn wait_for_end(process: &mut Child) -> io::Result<ExitStatus> {
     Err(io::Error::other(format!("no end in {} seconds", LONGEST.as_secs())))
 }
 
+/// Mostly the most that the program takes; at times the most that a pool's run takes, which is too
+/// long for the program.
+fn longest(random: &mut Random) -> usize {
+    if random.one_in(4) {
+        MOST_BATCH_BYTES
+    } else {
+        PROGRAM_BATCH_BYTES
+    }
+}
+
 impl Input {
     pub fn random(seed: u64) -> Input {
         let mut random = Random::new(seed);
         let mut source = Source::new(Random::new(random.word()));
-        let batch = random_batch(&mut random, &mut source);
+        let most = longest(&mut random);
+        let batch = random_batch(&mut random, &mut source, most);
         let most = [2, 24, 600, 5000][random.below(4) as usize];
         let count = if random.one_in(2) { 0 } else { 1 + random.below(5) };
         let pieces = (0..count).map(|_| 1 + random.below(most) as usize).collect();
@@ -114,22 +126,14 @@ impl Input {
         None
     }
 
-    pub fn smaller(&self) -> Vec<Input> {
-        let mut all = Vec::new();
-        if !self.pieces.is_empty() {
-            all.push(Input { batch: self.batch.clone(), pieces: Vec::new() });
-        }
+    pub fn smaller(&self) -> impl Iterator<Item = Input> + '_ {
+        let whole = Input { batch: self.batch.clone(), pieces: Vec::new() };
         let parts = parts(&self.batch);
-        let mut size = parts.len();
-        while size > 0 {
-            for from in (0..parts.len()).step_by(size) {
-                let to = (from + size).min(parts.len());
-                let batch = [&parts[..from], &parts[to..]].concat().concat();
-                all.push(Input { batch, pieces: self.pieces.clone() });
-            }
-            size /= 2;
-        }
-        all
+        let fewer = cuts(parts.len()).map(move |(from, to)| {
+            let batch = [&parts[..from], &parts[to..]].concat().concat();
+            Input { batch, pieces: self.pieces.clone() }
+        });
+        (!self.pieces.is_empty()).then_some(whole).into_iter().chain(fewer)
     }
 
     pub fn show(&self) -> String {

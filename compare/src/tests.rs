@@ -8,13 +8,13 @@ use crate::pools::recount;
 use crate::program::Input;
 use crate::reserves;
 use crate::stretch::{counts, FindCounts};
-use reference::batch::{read, Command};
+use reference::batch::{read, Command, MOST_BATCH_BYTES};
 use reference::calls::{self, check, init, run};
 use reference::command::{execute, needed, needed_to_reserve, Done};
 use reference::model::{
     self, beginning_in, covering, is_aligned, is_entry_word, marks_of, Entry, RESERVED,
 };
-use reference::pool::{node_count, State};
+use reference::pool::{node_count, State, MOST_NODES};
 use reference::recover::recover;
 use reference::tree::Node;
 use std::collections::BTreeMap;
@@ -22,6 +22,7 @@ use std::sync::OnceLock;
 use xapool_host::layout::{
     count_place, ANCHOR_WORDS, COUNT_FIELD, MARK_FIELD, NODE_WORDS, SLOT_FIELD,
 };
+use xapool_host::PROGRAM_BATCH_BYTES;
 
 type Counts<T> = BTreeMap<T, usize>;
 
@@ -211,7 +212,37 @@ fn every_answer_and_both_sides_of_11_are_met() {
     let replies = [0].into_iter().chain(5..=15);
     assert!(replies.into_iter().all(|answer| many(met.replies.get(&answer))), "{:?}", met.replies);
     assert!([-1, 0].iter().all(|spare| many(met.spare.get(spare))), "{:?}", met.spare);
-    assert!(many(met.places.get(&8192)) && met.places.len() > 50, "{:?}", met.places);
+    let too_long = met.places.get(&(MOST_BATCH_BYTES as u64));
+    assert!(many(too_long) && met.places.len() > 50, "{:?}", met.places);
+}
+
+/// The largest pools and the longest batches are rare, since they take long, but they are met.
+#[test]
+fn the_largest_pools_and_full_batches_are_met() {
+    let (mut largest, mut larger, mut full) = (0, 0, 0);
+    for list in (0..3000).map(CallList::random) {
+        let nodes = node_count(list.words.len()).unwrap_or(0);
+        largest += usize::from(nodes == MOST_NODES);
+        larger += usize::from(nodes > 1000);
+        let is_full = |call: &&Call| matches!(call, Call::Run { batch, .. } if batch.len() == MOST_BATCH_BYTES);
+        full += list.calls.iter().filter(is_full).count();
+    }
+    let rare = largest >= 1 && (3..=20).contains(&larger);
+    assert!(rare && full >= 10, "{largest} and {larger} large pools, {full} full batches");
+}
+
+/// The program's inputs lie on both sides of what it takes, also as whole records.
+#[test]
+fn inputs_of_the_program_are_on_both_sides_of_its_limit() {
+    let lengths: Vec<usize> = (0..2000).map(|seed| Input::random(seed).batch.len()).collect();
+    let count = |of: &dyn Fn(usize) -> bool| lengths.iter().filter(|length| of(**length)).count();
+    let (most, too_many) = (PROGRAM_BATCH_BYTES, PROGRAM_BATCH_BYTES + 1);
+    let sides = [count(&|bytes| bytes == most), count(&|bytes| bytes == too_many)];
+    let beyond =
+        [count(&|bytes| bytes == MOST_BATCH_BYTES), count(&|bytes| bytes > MOST_BATCH_BYTES)];
+    let met =
+        sides.into_iter().all(|count| count >= 5) && beyond.into_iter().all(|count| count >= 1);
+    assert!(met, "{sides:?}, {beyond:?}");
 }
 
 /// Where the word 1,030 stands in a pool that is not well-formed, by the words alone.
@@ -302,7 +333,7 @@ fn commands_meet_reservations_in_every_way() {
     };
     use reserves::Kind::*;
     once_in(4, &[Done]);
-    once_in(20, &[TooFew, ByLarger, StoreOver, StoreWider, Erased]);
+    once_in(25, &[TooFew, ByLarger, StoreOver, StoreWider, Erased]);
     once_in(40, &[ByEntry, ByReservation, StoreMixed, Loaded, Marked, PassedAny]);
     once_in(150, &[AsHead, BesideHead, StoreShort]);
     once_in(800, &reserves::KINDS.map(|(kind, _)| kind));
@@ -407,6 +438,7 @@ fn a_seed_gives_the_same_list_again() {
 fn what_is_smaller_differs() {
     for seed in 0..50 {
         let list = CallList::random(seed);
-        assert!(list.smaller().iter().all(|smaller| *smaller != list || list.calls.is_empty()));
+        let mut some = list.smaller().take(200);
+        assert!(some.all(|smaller| smaller != list || list.calls.is_empty()), "seed {seed}");
     }
 }

@@ -52,11 +52,11 @@ impl Trial {
         }
     }
 
-    fn smaller(&self) -> Vec<Trial> {
+    fn smaller(&self) -> Box<dyn Iterator<Item = Trial> + '_> {
         match self {
-            Trial::Calls(list) => list.smaller().into_iter().map(Trial::Calls).collect(),
-            Trial::Finds(list) => list.smaller().into_iter().map(Trial::Finds).collect(),
-            Trial::Program(input) => input.smaller().into_iter().map(Trial::Program).collect(),
+            Trial::Calls(list) => Box::new(list.smaller().map(Trial::Calls)),
+            Trial::Finds(list) => Box::new(list.smaller().map(Trial::Finds)),
+            Trial::Program(input) => Box::new(input.smaller().map(Trial::Program)),
         }
     }
 
@@ -82,8 +82,10 @@ impl Trial {
         let mut least = self;
         while started.elapsed() < SHRINK_TIME {
             let in_time = |_: &Trial| started.elapsed() < SHRINK_TIME;
-            let smaller = least.smaller().into_iter().take_while(in_time);
-            match smaller.filter(|smaller| *smaller != least).find(Trial::differs) {
+            let mut smaller = least.smaller().take_while(in_time);
+            let found = smaller.find(|smaller| *smaller != least && smaller.differs());
+            drop(smaller);
+            match found {
                 Some(smaller) => least = smaller,
                 None => break,
             }

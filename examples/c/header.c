@@ -224,6 +224,28 @@ static void finds_go_on_after_the_run(void)
     next(XAPOOL_BAD_MARK, 0, 0, UINT64_MAX, 0, 0);
 }
 
+/* The largest pool and one node more; the longest batch and one byte more. */
+static void limits(void)
+{
+    static uint64_t pool[XAPOOL_WORDS(XAPOOL_MAX_NODES + 1)];
+    static uint8_t bytes[XAPOOL_BATCH_BYTES + 1], replies[XAPOOL_REPLIES(XAPOOL_MAX_COMMANDS)];
+    xapool_batch b = xapool_batch_over(bytes, sizeof bytes);
+    while (b.room - b.used > 10 * XAPOOL_MARK_BYTES)
+        xapool_put_load(&b, 0);
+    while (xapool_put_mark(&b, 0, 0)) {
+    }
+    CHECK(XAPOOL_WORDS(XAPOOL_MAX_NODES) == 1146884 && b.used == 32768 && b.commands == XAPOOL_MAX_COMMANDS);
+    CHECK(xapool_init(pool, XAPOOL_WORDS(XAPOOL_MAX_NODES + 1)).answer == XAPOOL_POOL_LENGTH);
+    CHECK(xapool_init(pool, XAPOOL_WORDS(XAPOOL_MAX_NODES)).answer == XAPOOL_DONE);
+    xapool_result r = xapool_run(pool, XAPOOL_WORDS(1), bytes, b.used, replies, sizeof replies);
+    CHECK(r.answer == XAPOOL_NOT_WELL_FORMED);
+    xapool_init(pool, XAPOOL_WORDS(1));
+    r = xapool_run(pool, XAPOOL_WORDS(1), bytes, b.used, replies, sizeof replies);
+    CHECK(r.answer == XAPOOL_DONE && r.number == XAPOOL_MAX_COMMANDS);
+    r = xapool_run(pool, XAPOOL_WORDS(1), bytes, b.used + 1, replies, sizeof replies);
+    CHECK(r.answer == XAPOOL_BAD_BATCH && r.number == 32768);
+}
+
 /* The words of case 3, and a count that is one too large. */
 static void nodes_count_their_slots(void)
 {
@@ -252,7 +274,7 @@ static void answers_have_texts(void)
     for (unsigned a = XAPOOL_DONE; a <= XAPOOL_COVERED; a++)
         CHECK(strcmp(xapool_answer_text(a), xapool_answer_text(16)) != 0);
     CHECK(strcmp(xapool_answer_text(XAPOOL_TOO_FEW_NODES), "too few free nodes") == 0);
-    CHECK(strcmp(xapool_answer_text(XAPOOL_POOL_LENGTH), "pool length is not 4 + 70 N words, N from 1 to 1000") == 0);
+    CHECK(strcmp(xapool_answer_text(XAPOOL_POOL_LENGTH), "pool length is not 4 + 70 N words, N from 1 to 16384") == 0);
     CHECK(strcmp(xapool_answer_text(UINT64_MAX), xapool_answer_text(16)) == 0);
     char version[32];
     sprintf(version, "%d.%d.%d", XAPOOL_VERSION_MAJOR, XAPOOL_VERSION_MINOR, XAPOOL_VERSION_PATCH);
@@ -323,6 +345,7 @@ int main(void)
     a_reserved_index_is_held_and_absent();
     finds_go_on_after_the_run();
     nodes_count_their_slots();
+    limits();
     answers_have_texts();
     verdicts_have_texts();
     null_with_length_0_is_fine();

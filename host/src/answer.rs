@@ -124,7 +124,7 @@ pub enum Refusal {
     /// The words are not those of a pool: never initialised, or damaged.
     NotWellFormed,
     /// The first record that is cut, of unknown tag or of wrong length begins at this place;
-    /// 8,192 if the batch is too long.
+    /// [`MOST_BATCH_BYTES`](crate::MOST_BATCH_BYTES) if the batch is too long.
     BadBatch {
         /// The place of its first byte, from 0.
         place: u64,

@@ -6,7 +6,11 @@ use crate::raw;
 use std::fmt;
 
 /// A batch has at most so many bytes.
-pub const MOST_BATCH_BYTES: usize = 8192;
+pub const MOST_BATCH_BYTES: usize = 32_768;
+
+/// The program tamburish takes no longer batch than this; it is refused as the library refuses one that is
+/// too long.
+pub const PROGRAM_BATCH_BYTES: usize = 8192;
 
 /// Gathers commands into the bytes of one batch, and refuses what would make it too long;
 /// [`Batches`] takes any number.

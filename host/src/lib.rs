@@ -42,7 +42,7 @@ mod word;
 pub use answer::{Answer, Error, Refusal};
 pub use batch::{
     count_commands, split_batches, BadBatch, BatchBuilder, BatchFull, Batches, Commands,
-    MOST_BATCH_BYTES,
+    MOST_BATCH_BYTES, PROGRAM_BATCH_BYTES,
 };
 pub use command::{Command, Tag, FIND_ANY, MOST_ORDER};
 pub use find::{Finds, MOST_FINDS};

@@ -11,7 +11,7 @@ use crate::reply::{Replies, REPLY_BYTES};
 use std::ops::RangeBounds;
 
 /// A pool has at most so many nodes.
-pub const MOST_NODES: usize = 1000;
+pub const MOST_NODES: usize = 16_384;
 
 /// The words of a pool of this many nodes; none unless they are 1 to [`MOST_NODES`].
 #[must_use]

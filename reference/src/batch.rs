@@ -1,6 +1,6 @@
 //! A batch (document 01: a sheet) read into commands, and the 24 bytes of a reply.
 
-pub const MOST_BATCH_BYTES: usize = 8192;
+pub const MOST_BATCH_BYTES: usize = 32_768;
 pub const REPLY_BYTES: usize = 24;
 
 #[derive(Clone, Copy, Debug, PartialEq, Eq)]
@@ -56,7 +56,7 @@ impl Reply {
 }
 
 /// The commands of a batch, or where its first bad record begins (cut off, a tag that is none, not
-/// its tag's length); 8,192 if the batch is too long.
+/// its tag's length); the most bytes that a batch may have if it has more.
 pub fn read(batch: &[u8]) -> Result<Vec<Command>, usize> {
     if batch.len() > MOST_BATCH_BYTES {
         return Err(MOST_BATCH_BYTES);

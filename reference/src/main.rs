@@ -1,7 +1,7 @@
 //! The program: one batch from standard input on a fresh pool of 40 nodes; also `lists`.
 
-use reference::answers::DONE;
-use reference::batch::{MOST_BATCH_BYTES, REPLY_BYTES};
+use reference::answers::{BAD_BATCH, DONE};
+use reference::batch::REPLY_BYTES;
 use reference::calls::{init, run, Outcome};
 use reference::lists;
 use reference::pool::pool_length;
@@ -10,8 +10,11 @@ use std::process::ExitCode;
 
 const NODES: usize = 40;
 
+/// The program takes no longer batches, and says so itself (request P8).
+const MOST_INPUT_BYTES: usize = 8192;
+
 /// The shortest record has 11 bytes, so a batch has no more commands than this.
-const MOST_COMMANDS: usize = MOST_BATCH_BYTES / 11;
+const MOST_COMMANDS: usize = MOST_INPUT_BYTES / 11;
 
 fn main() -> ExitCode {
     let arguments: Vec<String> = std::env::args().skip(1).collect();
@@ -29,17 +32,21 @@ fn main() -> ExitCode {
     }
 }
 
-/// Standard input to its end. Only one byte more than a batch may have is kept: with it the batch
-/// is too long, whatever follows.
+/// Standard input to its end. Only one byte more than the program takes is kept: with it the batch is
+/// too long, whatever follows.
 fn read_batch() -> io::Result<Vec<u8>> {
     let mut batch = Vec::new();
-    io::stdin().take(MOST_BATCH_BYTES as u64 + 1).read_to_end(&mut batch)?;
+    io::stdin().take(MOST_INPUT_BYTES as u64 + 1).read_to_end(&mut batch)?;
     io::copy(&mut io::stdin(), &mut io::sink())?;
     Ok(batch)
 }
 
 fn run_program() -> io::Result<()> {
     let batch = read_batch()?;
+    if batch.len() > MOST_INPUT_BYTES {
+        let outcome = Outcome { answer: BAD_BATCH.into(), number: MOST_INPUT_BYTES as u64 };
+        return io::stdout().write_all(&refusal(outcome));
+    }
     let mut pool = vec![0; pool_length(NODES)];
     init(&mut pool);
     let mut reply = vec![0; REPLY_BYTES * MOST_COMMANDS];

@@ -6,7 +6,7 @@ use std::cmp::Reverse;
 use std::collections::{BTreeMap, BTreeSet};
 
 pub const ANCHOR_WORDS: usize = 4;
-pub const MOST_NODES: usize = 1000;
+pub const MOST_NODES: usize = 16_384;
 pub const NODE_OFFSET: u64 = 1024;
 
 /// Fields of a node, counted from its first word; the count of filled slots is of request P7.
@@ -19,7 +19,8 @@ pub const NODE_WORDS: usize = SLOT_FIELDS + SLOTS;
 
 /// N, if a pool of N nodes has this length and N is allowed.
 pub fn node_count(length: usize) -> Option<usize> {
-    (1..=MOST_NODES).find(|count| pool_length(*count) == length)
+    let count = length.checked_sub(ANCHOR_WORDS)? / NODE_WORDS;
+    ((1..=MOST_NODES).contains(&count) && pool_length(count) == length).then_some(count)
 }
 
 pub fn pool_length(count: usize) -> usize {

@@ -11,7 +11,7 @@ usage: xabatch encode [--long | --split PREFIX] [FILE]     text to a batch
        xabatch decode [--batch BATCHFILE] [FILE]           replies, a refused call, a batch or a list to text
        xabatch show [OPTIONS] POOLFILE                     a pool as a tree, and what is wrong with it
        xabatch list [--bytes] POOLFILE [FIRST..LAST]       the entries of a pool, as evidence
-       xabatch new NODES [POOLFILE]                        an empty pool of 1 to 1,000 nodes
+       xabatch new NODES [POOLFILE]                        an empty pool of 1 to 16,384 nodes
        xabatch run [--no-wait] POOLFILE [FILE]             a batch on a pool file; replies to standard output
        xabatch crc [FILE..]                                the digest CRC-32C of each file
        xabatch compare OLD NEW                             whether two files match: before you erase one
@@ -42,7 +42,7 @@ max is 2^64 - 1.
   find 1..max any budget 100       any entry
   reserve 64                       holds index 64 until something is stored there
 
-A batch has at most 8,192 bytes; a text that needs more is refused, unless:
+A batch has at most 32,768 bytes; a text that needs more is refused, unless:
 
   --long           writes all records in a row; 'xabatch run' takes them apart again
   --split PREFIX   writes the batches to PREFIX1, PREFIX2, .. and their names to standard output;
@@ -103,7 +103,7 @@ what is wrong.
 const NEW: &str = "\
 usage: xabatch new NODES [POOLFILE]
 
-Writes an empty pool of 1 to 1,000 nodes to a new file, or to standard output. A file that is there
+Writes an empty pool of 1 to 16,384 nodes to a new file, or to standard output. A file that is there
 already is not touched. A pool file has the pool's 64-bit words in order, each as 8 bytes, lowest
 byte first.
 ";
@@ -119,7 +119,7 @@ killed leaves the old pool or the new one, whole, and runs at the same time go o
 
   --no-wait   where another run has the lock, fail in place of waiting
 
-A row of records longer than a batch (8,192 bytes) is run as several batches; all or none reach the
+A row of records longer than a batch (32,768 bytes) is run as several batches; all or none reach the
 file. The new file has the owner and mode of the old one; a symbolic link stays and the file that it
 leads to is replaced; another hard link of the old file keeps the old pool. A batch that changes
 nothing writes nothing. If the replies cannot be written, the exit status is 1 and the pool is

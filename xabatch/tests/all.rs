@@ -97,8 +97,8 @@ fn errors_have_their_place() {
 
 #[test]
 fn a_text_too_long_for_a_batch() {
-    let error = text::batch_of(&"load 1\n".repeat(745)).expect_err("too long");
-    assert_eq!((error.line, error.column), (745, 1));
+    let error = text::batch_of(&"load 1\n".repeat(2979)).expect_err("too long");
+    assert_eq!((error.line, error.column), (2979, 1));
 }
 
 /// Findings there are exactly where the library's check says no.
@@ -128,7 +128,7 @@ fn show_agrees_with_the_check_on_good_and_damaged_pools() {
             agree(&words, &format!("seed {seed}, counts set right"));
         }
     }
-    for length in [0, 1, 4, 73, 75, 70_074] {
+    for length in [0, 1, 4, 73, 75, 1_146_954] {
         agree(&vec![0; length], "length");
     }
 }
@@ -259,7 +259,7 @@ fn the_tool_names_what_is_wrong() {
     assert_eq!(tool(&["show", "/no/such/file"], &[]).0, 1);
     assert_eq!(tool(&["shwo"], &[]).0, 2);
     assert_eq!(tool(&[], &[]).0, 2);
-    assert_eq!(tool(&["new", "1001"], &[]).0, 2);
+    assert_eq!(tool(&["new", "16385"], &[]).0, 2);
     assert_eq!(tool(&["--help"], &[]).0, 0);
 }
 
@@ -416,17 +416,17 @@ fn version_help_and_the_man_page() {
 #[test]
 fn a_long_text_is_split_into_batches() {
     let folder = tool::Folder::new();
-    let text: String = (0..2000).map(|at| format!("load {at}\n")).collect();
+    let text: String = (0..8000).map(|at| format!("load {at}\n")).collect();
     let (status, out, errors) = tool(&["encode"], text.as_bytes());
     assert_eq!((status, out.len()), (2, 0));
-    assert!(errors.contains("<stdin>:745:1: batch is full"), "{errors}");
+    assert!(errors.contains("<stdin>:2979:1: batch is full"), "{errors}");
     assert!(errors.contains("--split"), "{errors}");
     let prefix = folder.name("part");
     let (status, out, _) = tool(&["encode", "--split", &prefix], text.as_bytes());
     assert_eq!((status, out), (0, format!("{prefix}1\n{prefix}2\n{prefix}3\n").into_bytes()));
     let parts =
         ["part1", "part2", "part3"].map(|name| std::fs::read(folder.path(name)).expect(name));
-    assert_eq!(parts.each_ref().map(Vec::len), [8184, 8184, 22_000 - 2 * 8184]);
+    assert_eq!(parts.each_ref().map(Vec::len), [32_758, 32_758, 88_000 - 2 * 32_758]);
     assert_eq!(parts.concat(), tool(&["encode", "--long"], text.as_bytes()).1);
     // No file is overwritten, and none is left where one cannot be written.
     std::fs::remove_file(folder.path("part1")).expect("removed");

@@ -9,7 +9,7 @@ use std::path::{Path, PathBuf};
 use std::process::Command;
 use tool::{output_of, tool, Folder, TOOL};
 use xapool_host::layout::{ANCHOR_WORDS, NODE_WORDS};
-use xapool_host::{MOST_BATCH_BYTES, MOST_NODES};
+use xapool_host::{MOST_BATCH_BYTES, MOST_NODES, PROGRAM_BATCH_BYTES};
 
 fn root() -> PathBuf {
     Path::new(env!("CARGO_MANIFEST_DIR")).join("..")
@@ -117,7 +117,9 @@ fn the_pages_name_the_limits() {
         (help("encode"), format!("at most {bytes} bytes")),
         (help("run"), format!("longer than a batch ({bytes} bytes)")),
         (host.clone(), format!("lend {words}, N from 1 to {nodes}")),
-        (host, format!("{bytes}: the batch is too long")),
+        (host.clone(), format!("{bytes}: the batch is too long")),
+        (host, format!("It takes {} bytes", grouped(PROGRAM_BATCH_BYTES))),
+        (page("README.md"), format!("a batch of at most {} bytes", grouped(PROGRAM_BATCH_BYTES))),
     ];
     for (page, text) in named {
         assert!(page.contains(&text), "{text}");

@@ -78,7 +78,7 @@ fn what_cannot_be_listed_is_told() {
     words[24] = 1;
     let not_well_formed = "xabatch: <stdin>: pool is not well-formed\n";
     assert_eq!(refused(&words), (1, Vec::new(), not_well_formed.into()));
-    let length = "xabatch: <stdin>: pool length is not 4 + 70 N words, N from 1 to 1000\n";
+    let length = "xabatch: <stdin>: pool length is not 4 + 70 N words, N from 1 to 16384\n";
     assert_eq!(refused(&words[..16]), (1, Vec::new(), length.into()));
     assert_eq!(refused(&[]), (1, Vec::new(), length.into()));
     assert_eq!(refused(&words[..17]).2, "xabatch: <stdin>: 1 bytes after the last whole word\n");

@@ -44,6 +44,17 @@ fn a_refused_call_has_6_bytes_that_begin_with_ff() {
     assert_eq!(bash(&folder, "$X decode replies > text").0, 1);
 }
 
+/// 745 loads are 8,195 bytes: a batch, but not one for the program.
+#[test]
+fn the_program_takes_fewer_bytes_than_a_pool() {
+    let folder = folder_with(&"load 1\n".repeat(745));
+    assert_eq!(bash(&folder, "$X new 1 pool; $X run pool batch > replies").0, 0);
+    assert_eq!(replies(&folder), 745 * 24);
+    assert_eq!(bash(&folder, "$T < batch > replies").0, 0);
+    assert_eq!(fs::read(folder.path("replies")).expect("a file"), [255, 0, 3, 3, 0x20, 0]);
+    assert_eq!(bash(&folder, "$X decode --batch batch replies > text").0, 1);
+}
+
 #[test]
 fn output_that_was_cut_has_less() {
     let folder = folder_with(&"load 1\n".repeat(744));

@@ -16,7 +16,7 @@ pub use Rattle.batch.specs.declared.Counted.the-variants.{Commands, Refu
 
 -- R43
 abbrev pub maxBatch : ℕ
-maxBatch = 8192
+maxBatch = 32768
 
 -- R42: tag and length
 abbrev pub headBytes : ℕ

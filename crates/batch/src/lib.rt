@@ -13,7 +13,7 @@ ghost use Rattle.blocks.specs.Choice.{pick};
 ghost use Rattle.batch.specs.Reply.{replyBytes, encode, replyTag};
 
 // The longest batch, the bytes of a record before its fields, and the bytes of a reply.
-pub const MAX_BATCH: usize = 8192;
+pub const MAX_BATCH: usize = 32768;
 
 const HEAD_BYTES: usize = 3;
 

@@ -1,11 +1,12 @@
--- Laws of searches in lists.
-use Prim.Native.Nat.{ℕ}
+-- Laws of lists and of searches in them.
+use Prim.Native.Nat.{ℕ, zero, suc, _≤_}
 use mathlib.Core.Path.{_≡_, refl, subst}
 use mathlib.Core.Bool.{Bool, true, false}
 use mathlib.Core.List.{List, [], _∷_, _++_}
 use mathlib.Core.Option.{none, some}
 use mathlib.Core.Logic.{_⊎_, inl, inr}
 use native.Mathlib.Omega.{arith}
+use lib.ListN.{length, getD}
 use Rattle.blocks.specs.Choice.{both, either}
 use Rattle.blocks.specs.Lists.{any, keep, without, first, In, All, end, also, here, there, Distinct, d-end, d-more}
 use Rattle.blocks.proofs.BoolLaws.{clash, byT, either-swap, either-yes, is-false, either-e}
@@ -162,3 +163,9 @@ module _ {A : Type 0} where
   distinct-without q (d-more {p} {ps} n d) =
       byT (q p) (λ t. rw t (distinct-without q d))
       (λ t. rw t (d-more (λ m. n (without-in q m)) (distinct-without q d)))
+
+-- no word stands after the last
+pub getD-out : (xs : List ℕ) (i : ℕ) → length xs ≤ i → getD xs i 0 ≡ 0
+getD-out [] i h = refl
+getD-out (x ∷ xs) zero h = absurd (omega arith)
+getD-out (x ∷ xs) (suc i) h = getD-out xs i (omega arith)

@@ -20,7 +20,7 @@ use Rattle.tree.specs.Tree.{height, Node}
 use Rattle.tree.proofs.RelabelLaws.{mapO, covering-map, height-map}
 use Rattle.layout.specs.Words.{fieldAt, place, marksWord, headWord, shiftPlace}
 use Rattle.layout.specs.Places.{render, prune}
-use Rattle.layout.specs.WellFormed.{WellFormed, num, InUse}
+use Rattle.layout.specs.WellFormed.{WellFormed, num}
 use Rattle.layout.proofs.NumberLaws.{prune-same}
 use Rattle.lookup.proofs.HeadLaws.{flat-entry}
 use Rattle.marks.proofs.RemarkLaws.{erase-remark}
@@ -28,7 +28,8 @@ use Rattle.erase.specs.Tall.{tallAt, Tall}
 use Rattle.erase.specs.Leaving.{Unmarked}
 use Rattle.erase.proofs.LowerLaws.{tall-none, slot-nil}
 use Rattle.tree.proofs.NodeListLaws.{has-tier}
-use Rattle.layout.proofs.SparesLaws.{in-use-spares}
+use Rattle.freemap.specs.FreeMap.{FreeMap}
+use Rattle.freemap.proofs.FollowLaws.{free-same}
 use Rattle.layout.proofs.RenderWordLaws.{pool-length, pool-anchor, pool-node, place-of}
 use Rattle.model.proofs.WordLaws.{reserved-bare}
 
@@ -125,10 +126,8 @@ words-head {ws} s i e q z = rw (erase-flat s i e q z) (tall-none flat)
           (pool-node s m f p lt ∙ no-node m f (getD (s .places) m none) refl);
     }
 
-pub in-use-head : {ws : List ℕ} {low : ℕ} → InUse low ws → InUse low (set (set ws headWord 0) marksWord 0)
-in-use-head {ws} u = in-use-spares u (le-refl _) (record {
-  count-is = getD-set-other (set ws headWord 0) 2 0 0 0 (omega arith) ∙ getD-set-other ws 1 0 0 0 (omega arith);
-  shifts-are = λ m lt.
-      getD-set-other (set ws headWord 0) 2 (shiftPlace m) 0 0 (omega arith) ∙
-      getD-set-other ws 1 (shiftPlace m) 0 0 (omega arith);
-})
+pub map-head : {ws ms : List ℕ} → FreeMap ws ms → FreeMap (set (set ws headWord 0) marksWord 0) ms
+map-head {ws} F = free-same F
+    (getD-set-other (set ws headWord 0) 2 0 0 0 (omega arith) ∙ getD-set-other ws 1 0 0 0 (omega arith))
+    (λ m. getD-set-other (set ws headWord 0) 2 (shiftPlace m) 0 0 (omega arith) ∙
+    getD-set-other ws 1 (shiftPlace m) 0 0 (omega arith))

@@ -1,27 +1,30 @@
--- A node freed: which words changed, and that the nodes below a lower number are still in use.
+-- A node freed: which words changed, and that the map of the free nodes follows.
 use Prim.Native.Nat.{ℕ, _+_, _≤_, _<_}
-use mathlib.Core.Path.{_≡_, refl, sym, ap, _∙_}
+use mathlib.Core.Path.{_≡_, refl, sym, ap, ap₂, _∙_}
 use mathlib.Core.Logic.{_≢_}
-use mathlib.Core.Bool.{Bool}
+use mathlib.Core.Bool.{Bool, true, false}
 use mathlib.Core.List.{List}
 use mathlib.Core.Option.{Option, none, some}
 use native.Mathlib.Omega.{arith}
-use lib.Dec.{ltb}
+use lib.Dec.{eqb, ltb}
 use lib.ListN.{length, getD, set, length-set}
 use lib.Seq.{getD-set-same, getD-set-other}
-use borrow.Author.Tests.{ltb-true, ltb-false}
-use Rattle.blocks.proofs.BoolLaws.{byT}
+use borrow.Author.Tests.{ltb-true, ltb-false, eqb-true, eqb-false}
+use Rattle.blocks.specs.Choice.{both}
+use Rattle.blocks.proofs.BoolLaws.{byT, clash}
 use Rattle.model.specs.Model.{remark, markCount}
 use Rattle.tree.specs.Tree.{slots, Node}
 use Rattle.layout.specs.Words.{poolWords, nodeEnd, headWord, countWord, fieldAt, shiftField, shiftPlace, ownerPlace, filledPlace, lastPlace, slotPlace}
 use Rattle.layout.specs.Places.{render}
-use Rattle.layout.specs.WellFormed.{WellFormed, InUse, num}
+use Rattle.layout.specs.WellFormed.{WellFormed, num}
 use Rattle.layout.specs.Fill.{filled, cleared}
 use Rattle.layout.proofs.FillLaws.{filled-before, filled-after, filled-in, length-cleared, cleared-before, cleared-after, cleared-in}
 use Rattle.layout.proofs.FieldLaws.{at-shift}
 use Rattle.marks.proofs.RemarkLaws.{formed-remark}
-use Rattle.erase.specs.Freed.{Gone, Outside, Freed, Raised, Unlinked}
-use Rattle.layout.specs.Spares.{Spares}
+use Rattle.freemap.specs.FreeMap.{freeIn, put, MapOf, FreeMap}
+use Rattle.freemap.proofs.MapLaws.{map-as}
+use Rattle.freemap.proofs.FollowLaws.{free-same, free-given}
+use Rattle.erase.specs.Freed.{Gone, Outside, Freed, Raised, Unlinked, Sheds}
 use Rattle.layout.proofs.RenderWordLaws.{pool-anchor, pool-node}
 
 -- THE WORDS OF ONE NODE
@@ -95,44 +98,73 @@ taken {ws} n o c x e₁ e₂ lt le less = rw (e₂, e₁) (record {
       getD-set-other ws (filledPlace n) j x 0 (omega arith);
 })
 
--- NODES IN USE
-pub count-spares : {ws ws′ : List ℕ} (n x : ℕ) → ws′ ≡ set ws (filledPlace n) x → (low : ℕ) → Spares low ws ws′
-count-spares {ws} n x e low = rw e (record {
-  count-is = getD-set-other ws (filledPlace n) countWord x 0 (omega arith);
-  shifts-are = λ m lt. getD-set-other ws (filledPlace n) (shiftPlace m) x 0 (omega arith);
-})
+-- a run of slots holds no first word
+pub taken-map : {ws ws′ ms : List ℕ} (n o c : ℕ) → o + c ≤ slots → Taken ws ws′ n o c → FreeMap ws ms → FreeMap ws′ ms
+taken-map n o c le t F =
+    free-same F (t .before countWord (omega arith) (omega arith))
+    (λ m. byT (ltb (shiftPlace m) (slotPlace n o))
+    (λ b. t .before (shiftPlace m) (ltb-true _ _ b) (omega arith))
+    (λ b. t .after (shiftPlace m) (omega (arith, ltb-false, b))))
+
+-- FIRST WORDS, and with them the map of the free nodes
+pub sheds-none : (n : ℕ) (ws : List ℕ) → Sheds false n ws ws
+sheds-none n ws = record {
+  count-is = refl;
+  rest = λ m ne. refl;
+  freed = λ e. absurd (clash e refl);
+  kept = λ _. refl;
+}
 
 module _ {ws ws′ : List ℕ} {n : ℕ} where
-  pub freed-spares : {x : ℕ} → Freed ws ws′ n x → (low : ℕ) → low ≤ n → Spares low ws ws′
-  freed-spares f low le = record {
+  pub freed-sheds : {x : ℕ} → Freed ws ws′ n x → Sheds true n ws ws′
+  freed-sheds f = record {
     count-is = f .rest countWord (λ p q. omega arith) (omega arith);
-    shifts-are = λ m lt. f .rest (shiftPlace m) (λ p q. omega arith) (omega arith);
+    rest = λ m ne. f .rest (shiftPlace m) (λ p q. ne (omega arith)) (omega arith);
+    freed = λ _. f .gone (shiftPlace n) (omega arith) (omega arith);
+    kept = λ e. absurd (clash refl e);
   }
 
-  pub raised-spares : {m x : ℕ} → Raised ws ws′ n m x → (low : ℕ) → low ≤ n → Spares low ws ws′
-  raised-spares f low le = record {
+  pub raised-sheds : {m x : ℕ} → Raised ws ws′ n m x → Sheds true n ws ws′
+  raised-sheds f = record {
     count-is = f .rest countWord (λ p q. omega arith) (omega arith) (omega arith);
-    shifts-are = λ m lt. f .rest (shiftPlace m) (λ p q. omega arith) (omega arith) (omega arith);
+    rest = λ m ne. f .rest (shiftPlace m) (λ p q. ne (omega arith)) (omega arith) (omega arith);
+    freed = λ _. f .gone (shiftPlace n) (omega arith) (omega arith);
+    kept = λ e. absurd (clash refl e);
   }
 
-  pub unlinked-spares : {m o : ℕ} → o < slots → Unlinked ws ws′ n m o → (low : ℕ) → low ≤ n → Spares low ws ws′
-  unlinked-spares o< f low le = record {
+  pub unlinked-sheds : {m o : ℕ} → o < slots → Unlinked ws ws′ n m o → Sheds true n ws ws′
+  unlinked-sheds o< f = record {
     count-is = f .rest countWord (λ p q. omega arith) (omega arith) (omega arith);
-    shifts-are = λ m lt. f .rest (shiftPlace m) (λ p q. omega arith) (omega arith) (omega arith);
+    rest = λ m ne. f .rest (shiftPlace m) (λ p q. ne (omega arith)) (omega arith) (omega arith);
+    freed = λ _. f .gone (shiftPlace n) (omega arith) (omega arith);
+    kept = λ e. absurd (clash refl e);
   }
 
-pub in-use-remark : {ws ws′ : List ℕ} (s : WellFormed ws) (i m : ℕ) (b : Bool) → m < markCount →
-    ws′ ≡ render (remark (s .list) i m b) (s .places) (s .n) → {low : ℕ} → InUse low ws → InUse low ws′
-in-use-remark {ws} {ws′} s i m b lt e {low} u = record {
-  at-most = omega (
-    arith,
-    u .at-most,
-    pool-anchor s countWord (omega arith),
-    pool-anchor (formed-remark i m b lt s e) countWord (omega arith),
-  );
-  used = λ k k< z. u .used k k< (same k (omega (arith, u .at-most, pool-anchor s countWord (omega arith))) ∙ z);
+  module _ {r : Bool} (d : Sheds r n ws ws′) {ms : List ℕ} (F : FreeMap ws ms) where
+    pub sheds-given : r ≡ true → n < getD ws countWord 0 → {ms′ : List ℕ} →
+        ((f : ℕ → Bool) → MapOf f ms → MapOf (put f n true) ms′) → FreeMap ws′ ms′
+    sheds-given e lt gave = free-given F (d .count-is) n lt (d .freed e) (d .rest) gave
+
+    pub sheds-kept : r ≡ false → FreeMap ws′ ms
+    sheds-kept e =
+        free-same F (d .count-is)
+        (λ m. byT (eqb m n) (λ t. let q : m ≡ n = eqb-true _ _ t in rw q (d .kept e)) (λ t. d .rest m (eqb-false _ _ t)))
+
+-- marks are no first words
+pub map-remark : {ws ws′ : List ℕ} (s : WellFormed ws) (i m : ℕ) (b : Bool) → m < markCount →
+    ws′ ≡ render (remark (s .list) i m b) (s .places) (s .n) → {ms : List ℕ} → FreeMap ws ms → FreeMap ws′ ms
+map-remark {ws} {ws′} s i m b lt e F = record {
+  is = map-as (F .is) (freeIn ws′) (λ k _. byT (ltb k (s .n))
+      (λ t. ap₂ (λ (x y : ℕ). both (ltb k x) (eqb y 0)) (count ∙ sym count′) (same k (ltb-true _ _ t)))
+      (λ t. rw (count, count′, t)));
 }
   where
+    count : getD ws countWord 0 ≡ s .n
+    count = pool-anchor s countWord (omega arith)
+
+    count′ : getD ws′ countWord 0 ≡ s .n
+    count′ = pool-anchor (formed-remark i m b lt s e) countWord (omega arith)
+
     go : (o : Option Node) → fieldAt (s .list) (num s) o shiftField ≡ fieldAt (remark (s .list) i m b) (num s) o
         shiftField
     go none = refl

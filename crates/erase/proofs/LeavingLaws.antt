@@ -254,12 +254,12 @@ module _ {ws₀ : List ℕ} (s : WellFormed ws₀) {i v n : ℕ} {ws : List ℕ}
   abbrev N : Numbering
   N = num s
 
-  pub cut-fits : (lastPlace n < length ws) × (n < maxNodes) × (v < topTier) × (length ws ≡ length ws₀)
+  pub cut-fits : (lastPlace n < length ws) × (n < maxNodes) × (v < topTier) × (n < getD ws countWord 0)
   cut-fits =
       let h : n < s .n = node-at s (c .at-node) .0 in
       let t : suc v ≤ topTier = has-low (s .list) (suc v) (block (tierOrder (suc v)) i) (c .at-node .there)
       in
-      (omega (arith, c .size), omega (arith, s .most), omega arith, c .size ∙ sym (pool-length s))
+      (omega (arith, c .size), omega (arith, s .most), omega arith, omega (arith, c .anchor countWord (omega arith)))
 
   cut-field : (f : ℕ) → IsField f → getD ws (place n f) 0 ≡ fieldUnder (erase (s .list) i) (num s)
       (height (s .list)) (suc v) (block (tierOrder (suc v)) i) f

@@ -347,9 +347,9 @@ module _ {k h : ℕ} {l : List Entry} {os : Places} {ws : List ℕ} (w₀ : Tall
   num₁ : n ≡ numberIn os (suc (h - 1)) 0
   num₁ = num₀ ∙ ap (λ (x : ℕ). numberIn os x 0) up
 
-  pub under-fits : (lastPlace n < length ws) × (n < maxNodes)
+  pub under-fits : (lastPlace n < length ws) × (n < maxNodes) × (n < getD ws countWord 0)
   under-fits = let a : numberIn os h 0 < k = tall-at w₀ h 0 (le-refl h) there₀ .0 in
-      (omega (arith, w₀ .size), omega (arith, w₀ .small))
+      (omega (arith, w₀ .size), omega (arith, w₀ .small), omega (arith, w₀ .first))
 
   under-slot : (o : ℕ) → o < slots → getD ws (slotPlace n o) 0 ≡ slot l (numberIn os) (h - 1) o
   under-slot o lt = rw num₁ (tall-slot wide (h - 1) 0 o (le-refl (suc (h - 1))) there₁ lt ∙ ap

@@ -2,9 +2,10 @@
 use Prim.Native.Nat.{ℕ, _+_, _≤_, _<_}
 use mathlib.Core.Path.{_≡_}
 use mathlib.Core.Logic.{_≢_}
+use mathlib.Core.Bool.{Bool, true, false}
 use mathlib.Core.List.{List}
 use lib.ListN.{getD}
-use Rattle.layout.specs.Words.{poolWords, nodeEnd, headWord, ownerPlace, filledPlace, slotPlace}
+use Rattle.layout.specs.Words.{poolWords, nodeEnd, countWord, headWord, shiftPlace, ownerPlace, filledPlace, slotPlace}
 
 -- the words from ws to ws′: those of node n became 0
 abbrev pub Gone : List ℕ → ℕ → Type 0
@@ -33,3 +34,10 @@ pub record Unlinked (ws ws′ : List ℕ) (n m o : ℕ) : Type 0 where
   pub cleared : m ≢ n → getD ws′ (slotPlace m o) 0 ≡ 0
   pub counted : m ≢ n → getD ws′ (filledPlace m) 0 + 1 ≡ getD ws (filledPlace m) 0
   pub rest : (j : ℕ) → Outside n j → j ≢ slotPlace m o → j ≢ filledPlace m → getD ws′ j 0 ≡ getD ws j 0
+
+-- of the first words only that of node n changed, and it became 0 if r
+pub record Sheds (r : Bool) (n : ℕ) (ws ws′ : List ℕ) : Type 0 where
+  pub count-is : getD ws′ countWord 0 ≡ getD ws countWord 0
+  pub rest : (m : ℕ) → (m ≡ n → ⊥) → getD ws′ (shiftPlace m) 0 ≡ getD ws (shiftPlace m) 0
+  pub freed : r ≡ true → getD ws′ (shiftPlace n) 0 ≡ 0
+  pub kept : r ≡ false → getD ws′ (shiftPlace n) 0 ≡ getD ws (shiftPlace n) 0

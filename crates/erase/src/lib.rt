@@ -1,7 +1,8 @@
 // Erasing the entry that covers an index: its marks off, its slots to 0, empty nodes freed, the head shrunk.
 //
 // pool: the borrowed words; i: the index; n, m: numbers of nodes; v: the tier of a node's slots; o: the offset of a
-// slot; h: the tier of the head; low: every node below it is in use.
+// slot; h: the tier of the head; map: the map of the free nodes.
+use freemap::give;
 use layout::HEAD_WORD;
 use layout::MARKS_WORD;
 use layout::SLOTS;
@@ -9,7 +10,6 @@ use layout::Slot;
 use layout::clear_node;
 use layout::fill_slots;
 use layout::filled_of;
-use layout::lesser;
 use layout::owner_of;
 use layout::pow2;
 use layout::put_filled;
@@ -36,18 +36,12 @@ ghost use Rattle.tree.specs.Tree.{slots, tierOrder, height};
 ghost use Rattle.layout.specs.Words.{lastPlace, filledPlace, slotPlace};
 ghost use Rattle.layout.specs.Places.{Places, numberIn, prune, render};
 ghost use Rattle.layout.specs.Fill.{filled};
-ghost use Rattle.layout.specs.WellFormed.{WellFormed, InUse, num};
+ghost use Rattle.layout.specs.WellFormed.{WellFormed, num};
 ghost use Rattle.lookup.specs.Views.{Holds};
-ghost use Rattle.layout.specs.Spares.{Spares};
-ghost use Rattle.erase.specs.Freed.{Freed, Raised, Unlinked};
+ghost use Rattle.freemap.specs.FreeMap.{FreeMap};
+ghost use Rattle.erase.specs.Freed.{Freed, Raised, Unlinked, Sheds};
 ghost use Rattle.erase.specs.Tall.{Tall, Tower, Headed, Dropped};
 ghost use Rattle.erase.specs.Leaving.{Unmarked, Cut, Cutting, Leaves, Erasing};
-
-// What an erase took out, with its marks as they were; and the number below which every node is in use.
-pub struct Erased {
-    pub entry: Covered,
-    pub low: u64,
-}
 
 // FREEING A NODE
 
@@ -101,7 +95,7 @@ fn drop_head(pool: &mut [u64], n: u64, h: u64) -> bool
     requires { ⌜ Headed h n (now pool) ⌝ }
     ensures { λ r. ⌜ ((k : ℕ) (l : List Entry) (os : Places) → Tall k h l os (now (pool .entry)) →
         any (within (tierOrder h) 0) l ≡ true → n ≡ numberIn os h 0 → Dropped r k h l os (now (pool .exit))) ⌝ }
-    ensures { λ r. ⌜ ((low : ℕ) → (r ≡ true → low ≤ n) → Spares low (now (pool .entry)) (now (pool .exit))) ⌝ }
+    ensures { λ r. ⌜ Sheds r n (now (pool .entry)) (now (pool .exit)) ⌝ }
 {
     if filled_of(pool, n) != 1 {
         return false;
@@ -132,41 +126,39 @@ fn drop_head(pool: &mut [u64], n: u64, h: u64) -> bool
     }
 }
 
-// Shrinks the head, of tier top, to what the list needs; the number below which every node is in use.
-fn shrink(pool: &mut [u64], top: u64, low: u64) -> u64
+// Shrinks the head, of tier top, to what the list needs.
+fn shrink(pool: &mut [u64], map: &mut [u64], top: u64)
     requires { ⌜ Tower top (now pool) ⌝ }
-    ensures { λ r. ⌜ r ≤ low ⌝ }
-    ensures { λ r. ⌜ Spares r (now (pool .entry)) (now (pool .exit)) ⌝ }
+    requires { ⌜ FreeMap (now pool) (now map) ⌝ }
+    ensures { λ _. ⌜ FreeMap (now (pool .exit)) (now (map .exit)) ⌝ }
     ensures { λ _. ⌜ ((k : ℕ) (l : List Entry) (os : Places) → Tall k top l os (now (pool .entry)) →
         now (pool .exit) ≡ render l (prune l os) k) ⌝ }
 {
     let mut h = top;
-    let mut floor = low;
     while h > 0 {
         let k = read_slot(pool[HEAD_WORD]);
         match k {
             Slot::Child(n) => {
                 if !drop_head(pool, n, h) {
-                    return floor;
+                    return;
                 }
-                floor = lesser(floor, n);
+                give(map, n);
                 h = h - 1;
             }
             Slot::Held => {
-                return floor;
+                return;
             }
             Slot::Empty => {
-                return floor;
+                return;
             }
             Slot::Sibling(_) => {
-                return floor;
+                return;
             }
             Slot::Reserved => {
-                return floor;
+                return;
             }
         }
     }
-    floor
 }
 
 // TAKING THE ENTRY OUT
@@ -190,7 +182,7 @@ fn cut_run(pool: &mut [u64], i: u64, at: Spot)
     ensures { λ _. ⌜ ((s : WellFormed (now (pool .entry))) →
         Holds (s .list) (num s) i (at .node) (at .tier) (at .slot) → Unmarked (s .list) i →
         Cut s i (at .tier) (at .node) (now (pool .exit))) ⌝ }
-    ensures { λ _. ⌜ ((low : ℕ) → Spares low (now (pool .entry)) (now (pool .exit))) ⌝ }
+    ensures { λ _. ⌜ ((ms : List ℕ) → FreeMap (now (pool .entry)) ms → FreeMap (now (pool .exit)) ms) ⌝ }
 {
     let n = at.node;
     let o = at.slot;
@@ -200,27 +192,25 @@ fn cut_run(pool: &mut [u64], i: u64, at: Spot)
     empty_slots(pool, n, o, c);
 }
 
-// Frees node first, which lost the entry that covered i, and those over it, as far as they are empty; the number below
-// which every node is in use.
-fn prune_up(pool: &mut [u64], i: u64, first: u64, tier: u64, low: u64) -> u64
+// Frees node first, which lost the entry that covered i, and those over it, as far as they are empty.
+fn prune_up(pool: &mut [u64], map: &mut [u64], i: u64, first: u64, tier: u64)
     requires { ⌜ Cutting i tier first (now pool) ⌝ }
-    ensures { λ r. ⌜ r ≤ low ⌝ }
-    ensures { λ r. ⌜ Spares r (now (pool .entry)) (now (pool .exit)) ⌝ }
+    requires { ⌜ FreeMap (now pool) (now map) ⌝ }
+    ensures { λ _. ⌜ FreeMap (now (pool .exit)) (now (map .exit)) ⌝ }
     ensures { λ _. ⌜ ((ws : List ℕ) (s : WellFormed ws) → Cut s i tier first (now (pool .entry)) →
         Tall (s .n) (height (s .list)) (Model.erase (s .list) i) (s .places) (now (pool .exit))) ⌝ }
 {
     let mut n = first;
     let mut v = tier;
-    let mut floor = low;
     loop {
         if filled_of(pool, n) != 0 {
-            return floor;
+            return;
         }
-        floor = lesser(floor, n);
+        give(map, n);
         let p = owner_of(pool, n);
         if p == 0 {
             free_head(pool, n, 0);
-            return floor;
+            return;
         }
         let m = (p - 1) / SLOTS;
         unlink(pool, n, m, (p - 1) % SLOTS);
@@ -230,10 +220,10 @@ fn prune_up(pool: &mut [u64], i: u64, first: u64, tier: u64, low: u64) -> u64
 }
 
 // Takes out the entry that covers i, which has no marks.
-fn cut(pool: &mut [u64], i: u64, at: Spot, low: u64) -> u64
+fn cut(pool: &mut [u64], map: &mut [u64], i: u64, at: Spot)
     requires { ⌜ Leaves i (at .node) (at .tier) (at .slot) (at .top) (now pool) ⌝ }
-    ensures { λ r. ⌜ r ≤ low ⌝ }
-    ensures { λ r. ⌜ Spares r (now (pool .entry)) (now (pool .exit)) ⌝ }
+    requires { ⌜ FreeMap (now pool) (now map) ⌝ }
+    ensures { λ _. ⌜ FreeMap (now (pool .exit)) (now (map .exit)) ⌝ }
     ensures { λ _. ⌜ ((s : WellFormed (now (pool .entry))) →
         Holds (s .list) (num s) i (at .node) (at .tier) (at .slot) → Unmarked (s .list) i →
         height (s .list) ≡ at .top →
@@ -243,15 +233,15 @@ fn cut(pool: &mut [u64], i: u64, at: Spot, low: u64) -> u64
     let n = at.node;
     let v = at.tier;
     let top = at.top;
-    let floor = prune_up(pool, i, n, v, low);
-    shrink(pool, top, floor)
+    prune_up(pool, map, i, n, v);
+    shrink(pool, map, top);
 }
 
 // Takes out the entry that covers i and stands at a spot: its marks off first, so that then no mark word changes.
-fn remove(pool: &mut [u64], i: u64, at: Spot, low: u64) -> u64
-    requires { ⌜ InUse low (now pool) ⌝ }
+fn remove(pool: &mut [u64], map: &mut [u64], i: u64, at: Spot)
+    requires { ⌜ FreeMap (now pool) (now map) ⌝ }
     requires { ⌜ Erasing i (at .node) (at .tier) (at .slot) (at .top) (now pool) ⌝ }
-    ensures { λ r. ⌜ InUse r (now (pool .exit)) ⌝ }
+    ensures { λ _. ⌜ FreeMap (now (pool .exit)) (now (map .exit)) ⌝ }
     ensures { λ _. ⌜ ((s : WellFormed (now (pool .entry))) →
         Holds (s .list) (num s) i (at .node) (at .tier) (at .slot) → height (s .list) ≡ at .top →
         now (pool .exit) ≡ render (Model.erase (s .list) i) (prune (Model.erase (s .list) i) (s .places)) (s .n)) ⌝ }
@@ -259,42 +249,30 @@ fn remove(pool: &mut [u64], i: u64, at: Spot, low: u64) -> u64
     climb(pool, i, at, 0, false);
     climb(pool, i, at, 1, false);
     climb(pool, i, at, 2, false);
-    cut(pool, i, at, low)
+    cut(pool, map, i, at);
 }
 
-// Takes out the entry that covers i; what it was, and the number below which every node is in use.
-pub fn erase(pool: &mut [u64], i: u64, low: u64) -> Erased
+// Takes out the entry that covers i; what it was. The nodes that it frees enter the map.
+pub fn erase(pool: &mut [u64], map: &mut [u64], i: u64) -> Covered
     requires { ⌜ WellFormed (now pool) ⌝ }
-    requires { ⌜ InUse low (now pool) ⌝ }
-    ensures { λ r. ⌜ ((s : WellFormed (now (pool .entry))) → r .entry ≡ covered (covering (s .list) i)) ⌝ }
+    requires { ⌜ FreeMap (now pool) (now map) ⌝ }
+    ensures { λ r. ⌜ ((s : WellFormed (now (pool .entry))) → r ≡ covered (covering (s .list) i)) ⌝ }
     ensures { λ _. ⌜ ((s : WellFormed (now (pool .entry))) →
         now (pool .exit) ≡ render (Model.erase (s .list) i) (prune (Model.erase (s .list) i) (s .places)) (s .n)) ⌝ }
-    ensures { λ r. ⌜ InUse (r .low) (now (pool .exit)) ⌝ }
+    ensures { λ _. ⌜ FreeMap (now (pool .exit)) (now (map .exit)) ⌝ }
 {
     let k = locate(pool, i);
     match k {
-        Located::Apart => Erased {
-            entry: Covered::Nothing,
-            low: low,
-        },
-        Located::Vacant(_, _, _) => Erased {
-            entry: Covered::Nothing,
-            low: low,
-        },
+        Located::Apart => Covered::Nothing,
+        Located::Vacant(_, _, _) => Covered::Nothing,
         Located::AtHead(e) => {
             pool[HEAD_WORD] = 0;
             pool[MARKS_WORD] = 0;
-            Erased {
-                entry: Covered::By(e),
-                low: low,
-            }
+            Covered::By(e)
         }
         Located::InNode(e, at, _) => {
-            let floor = remove(pool, i, at, low);
-            Erased {
-                entry: Covered::By(e),
-                low: floor,
-            }
+            remove(pool, map, i, at);
+            Covered::By(e)
         }
     }
 }

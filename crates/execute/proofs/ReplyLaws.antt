@@ -34,7 +34,8 @@ use Rattle.model.proofs.ValidLaws.{storable-enters}
 use Rattle.tree.specs.Tree.{nodes, needed}
 use Rattle.marks.proofs.RemarkLaws.{new-nodes-remark, places-remark, places-then-remark}
 use Rattle.layout.specs.Places.{Places, newPlaces, prune, freeCount, render}
-use Rattle.layout.specs.WellFormed.{WellFormed, InUse}
+use Rattle.layout.specs.WellFormed.{WellFormed}
+use Rattle.freemap.specs.FreeMap.{FreeMap}
 use Rattle.layout.proofs.PlacesLaws.{free-places}
 use Rattle.layout.proofs.StayLaws.{same-places, places-prune}
 use Rattle.lookup.specs.Load.{load, loaded, depth}
@@ -43,7 +44,8 @@ use Rattle.store.specs.declared.Stored.{Stored}
 use Rattle.store.specs.declared.Stored.the-variants.{Done, Short, Taken}
 use Rattle.store.specs.Stored.{Holding, Stores, Reserves, taken, tried}
 use Rattle.store.proofs.AfterLaws.{after-done}
-use Rattle.erase.proofs.FreedLaws.{in-use-remark}
+use Rattle.freemap.proofs.FollowLaws.{map-stays}
+use Rattle.erase.proofs.FreedLaws.{map-remark}
 use Rattle.batch.specs.declared.Command.{Command}
 use Rattle.batch.specs.declared.Command.the-variants.{Store, Load, Erase, Mark, Unmark, Find, Reserve}
 use Rattle.batch.specs.declared.Reply.{Reply}
@@ -258,10 +260,10 @@ module _ {ws ws₁ : List ℕ} (s : WellFormed ws) (i k w : ℕ) {x : Stored} (i
         × (ws′ ≡ render l₂ (newPlaces (s .list) l₁ (s .places)) (s .n))
     settled d = z (done-formed d) .done (r .done d .outcome-is) (r .done d .covering-is)
 
-    pub store-in-use : {low : ℕ} → InUse low ws₁ → InUse low ws′
-    store-in-use u =
-        by-room (λ d. in-use-remark (done-formed d) i matchedMark false (omega arith) (settled d .1) u)
-        (λ d. subst (InUse _) (sym (z store-formed .short (r .short d .0) .1)) u)
+    pub store-mapped : {ms : List ℕ} → FreeMap ws₁ ms → FreeMap ws′ ms
+    store-mapped {ms} u =
+        by-room (λ d. map-remark (done-formed d) i matchedMark false (omega arith) (settled d .1) u)
+        (λ d. map-stays (z store-formed .short (r .short d .0) .1) u)
 
     module _ (al : aligned k i ≡ true) where
       free : freeCount (s .places) ≡ s .n - length (nodes (s .list))
@@ -384,9 +386,6 @@ module _ (i k w : ℕ) {b : Bool} where
 pub words-stay : {ws ws₁ ws′ : List ℕ} (s : WellFormed ws) {c : Command} {q : Reply} → ws′ ≡ ws₁ → Executes s c q ws₁ →
     Executes s c q ws′
 words-stay s {c} {q} e x = subst (λ (v : List ℕ). Executes s c q v) (sym e) x
-
-pub use-stays : {ws₁ ws′ : List ℕ} {low : ℕ} → ws′ ≡ ws₁ → InUse low ws₁ → InUse low ws′
-use-stays {low = low} e u = subst (InUse low) (sym e) u
 
 -- the command, by what it asks of a store
 pub put-is : (c : Command) {p : Put} → p ≡ putOf c → p .is ≡ true → c ≡ putting (p .index) (p .order) (p .word) (p .reserve)

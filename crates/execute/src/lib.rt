@@ -1,6 +1,6 @@
 // One command of a batch on a pool: its reply, and the pool's words after it.
 //
-// pool: the borrowed words, well-formed; low: every node below it is in use; tag: the reply's.
+// pool: the borrowed words, well-formed; map: the map of its free nodes; tag: the reply's.
 use batch::Command;
 use batch::Reply;
 use layout::pow2;
@@ -12,12 +12,14 @@ use model::shown_word;
 use store::Stored;
 ghost use mathlib.Core.Path.{_≡_};
 ghost use mathlib.Core.Bool.{true, false};
+ghost use mathlib.Core.List.{List};
 ghost use mathlib.Core.Option.{some};
 ghost use Prim.Native.Nat.{ℕ, _≤_};
 ghost use Rattle.blocks.specs.Choice.{pick, either};
 ghost use Rattle.model.specs.Model.{storable, reservedWord, maxOrder, aligned, matchedMark, covering, covered, remark};
 ghost use Rattle.layout.specs.Places.{render};
-ghost use Rattle.layout.specs.WellFormed.{WellFormed, InUse};
+ghost use Rattle.layout.specs.WellFormed.{WellFormed};
+ghost use Rattle.freemap.specs.FreeMap.{FreeMap};
 ghost use Rattle.batch.specs.Reply.{answered, answeredBy};
 ghost use Rattle.execute.specs.Execute.{finding};
 ghost use Rattle.execute.specs.Contracts.{coveredReply, loadedReply, reservedReply, asStored, putting, putOf, noPut};
@@ -69,12 +71,6 @@ const ANY_MARK: u64 = 3;
 
 // The mark that no store hands on (R190).
 const MATCHED: u64 = 2;
-
-// A command's reply, and the next command's `low`.
-pub struct Execution {
-    pub reply: Reply,
-    pub low: u64,
-}
 
 // What a command asks of a store, if it is one or a reservation.
 struct Put {
@@ -217,7 +213,7 @@ fn remarked_tag(on: bool) -> u64
 fn run_remark(pool: &mut [u64], index: u64, mark: u64, on: bool) -> Reply
     requires { ⌜ WellFormed (now pool) ⌝ }
     ensures { λ r. ⌜ ((s : WellFormed (now (pool .entry))) → Executes s (remarking index mark on) r (now (pool .exit))) ⌝ }
-    ensures { λ _. ⌜ ((low : ℕ) → InUse low (now (pool .entry)) → InUse low (now (pool .exit))) ⌝ }
+    ensures { λ _. ⌜ ((ms : List ℕ) → FreeMap (now (pool .entry)) ms → FreeMap (now (pool .exit)) ms) ⌝ }
 {
     let tag = remarked_tag(on);
     if mark >= MARKS {
@@ -227,19 +223,14 @@ fn run_remark(pool: &mut [u64], index: u64, mark: u64, on: bool) -> Reply
     covered_reply(tag, c)
 }
 
-fn run_erase(pool: &mut [u64], index: u64, low: u64) -> Execution
+fn run_erase(pool: &mut [u64], map: &mut [u64], index: u64) -> Reply
     requires { ⌜ WellFormed (now pool) ⌝ }
-    requires { ⌜ InUse low (now pool) ⌝ }
-    ensures { λ r. ⌜ ((s : WellFormed (now (pool .entry))) → Executes s (Command.Erase index) (r .reply) (now (pool .exit))) ⌝ }
-    ensures { λ r. ⌜ InUse (r .low) (now (pool .exit)) ⌝ }
+    requires { ⌜ FreeMap (now pool) (now map) ⌝ }
+    ensures { λ r. ⌜ ((s : WellFormed (now (pool .entry))) → Executes s (Command.Erase index) r (now (pool .exit))) ⌝ }
+    ensures { λ _. ⌜ FreeMap (now (pool .exit)) (now (map .exit)) ⌝ }
 {
-    let e = erase::erase(pool, index, low);
-    let c = e.entry;
-    let next = e.low;
-    Execution {
-        reply: covered_reply(ERASED, c),
-        low: next,
-    }
+    let c = erase::erase(pool, map, index);
+    covered_reply(ERASED, c)
 }
 
 // The reply to an unmark as the reply to a store that left the entry.
@@ -301,46 +292,32 @@ fn put_reply(pool: &mut [u64], index: u64, x: Stored, reserve: bool) -> Reply
 // call of crate store, so that it is inlined.
 fn run_store(
     pool: &mut [u64],
+    map: &mut [u64],
     index: u64,
     order: u64,
     word: u64,
     reserve: bool,
-    low: u64,
-) -> Execution
+) -> Reply
     requires { ⌜ WellFormed (now pool) ⌝ }
-    requires { ⌜ InUse low (now pool) ⌝ }
+    requires { ⌜ FreeMap (now pool) (now map) ⌝ }
     requires { ⌜ (reserve ≡ true → (order ≡ 0) × (word ≡ reservedWord)) ⌝ }
     ensures { λ r. ⌜ ((s : WellFormed (now (pool .entry))) →
-        Executes s (putting index order word reserve) (r .reply) (now (pool .exit))) ⌝ }
-    ensures { λ r. ⌜ InUse (r .low) (now (pool .exit)) ⌝ }
+        Executes s (putting index order word reserve) r (now (pool .exit))) ⌝ }
+    ensures { λ _. ⌜ FreeMap (now (pool .exit)) (now (map .exit)) ⌝ }
 {
     if order > MAX_ORDER {
-        return Execution {
-            reply: answered(STORED, ORDER_ABOVE, 0, 0),
-            low: low,
-        };
+        return answered(STORED, ORDER_ABOVE, 0, 0);
     }
     let aligned = is_aligned(index, order);
     let enterable = is_enterable(word, reserve);
     if !aligned {
-        return Execution {
-            reply: answered(STORED, NOT_ALIGNED, 0, 0),
-            low: low,
-        };
+        return answered(STORED, NOT_ALIGNED, 0, 0);
     }
     if !enterable {
-        return Execution {
-            reply: answered(STORED, NOT_STORABLE, 0, 0),
-            low: low,
-        };
+        return answered(STORED, NOT_STORABLE, 0, 0);
     }
-    let r = store::store(pool, index, order, word, low);
-    let outcome = r.outcome;
-    let next = r.low;
-    Execution {
-        reply: put_reply(pool, index, outcome, reserve),
-        low: next,
-    }
+    let outcome = store::store(pool, map, index, order, word);
+    put_reply(pool, index, outcome, reserve)
 }
 
 // No store and no reservation.
@@ -389,65 +366,48 @@ fn as_put(c: Command) -> Put
 }
 
 // For the commands that run_other is not called with.
-fn nothing(low: u64) -> Execution
-    ensures { λ r. ⌜ r .low ≡ low ⌝ }
-{
-    Execution {
-        reply: answered(STORED, ORDER_ABOVE, 0, 0),
-        low: low,
-    }
+fn nothing() -> Reply {
+    answered(STORED, ORDER_ABOVE, 0, 0)
 }
 
 // Any command but a store and a reservation.
-fn run_other(pool: &mut [u64], c: Command, low: u64) -> Execution
+fn run_other(pool: &mut [u64], map: &mut [u64], c: Command) -> Reply
     requires { ⌜ WellFormed (now pool) ⌝ }
-    requires { ⌜ InUse low (now pool) ⌝ }
+    requires { ⌜ FreeMap (now pool) (now map) ⌝ }
     requires { ⌜ putOf c .is ≡ false ⌝ }
-    ensures { λ r. ⌜ ((s : WellFormed (now (pool .entry))) → Executes s c (r .reply) (now (pool .exit))) ⌝ }
-    ensures { λ r. ⌜ InUse (r .low) (now (pool .exit)) ⌝ }
+    ensures { λ r. ⌜ ((s : WellFormed (now (pool .entry))) → Executes s c r (now (pool .exit))) ⌝ }
+    ensures { λ _. ⌜ FreeMap (now (pool .exit)) (now (map .exit)) ⌝ }
 {
     match c {
         Command::Store {
             index: _,
             order: _,
             word: _,
-        } => nothing(low),
-        Command::Load { index } => Execution {
-            reply: run_load(pool, index),
-            low: low,
-        },
-        Command::Erase { index } => run_erase(pool, index, low),
-        Command::Mark { index, mark } => Execution {
-            reply: run_remark(pool, index, mark, true),
-            low: low,
-        },
-        Command::Unmark { index, mark } => Execution {
-            reply: run_remark(pool, index, mark, false),
-            low: low,
-        },
+        } => nothing(),
+        Command::Load { index } => run_load(pool, index),
+        Command::Erase { index } => run_erase(pool, map, index),
+        Command::Mark { index, mark } => run_remark(pool, index, mark, true),
+        Command::Unmark { index, mark } => run_remark(pool, index, mark, false),
         Command::Find {
             first,
             last,
             filter,
             budget,
-        } => Execution {
-            reply: run_find(pool, first, last, filter, budget),
-            low: low,
-        },
-        Command::Reserve { index: _ } => nothing(low),
+        } => run_find(pool, first, last, filter, budget),
+        Command::Reserve { index: _ } => nothing(),
     }
 }
 
-// One command: its reply, and the number below which every node is in use.
-pub fn execute(pool: &mut [u64], c: Command, low: u64) -> Execution
+// One command: its reply. The map goes on as that of the pool after it.
+pub fn execute(pool: &mut [u64], map: &mut [u64], c: Command) -> Reply
     requires { ⌜ WellFormed (now pool) ⌝ }
-    requires { ⌜ InUse low (now pool) ⌝ }
-    ensures { λ r. ⌜ ((s : WellFormed (now (pool .entry))) → Executes s c (r .reply) (now (pool .exit))) ⌝ }
-    ensures { λ r. ⌜ InUse (r .low) (now (pool .exit)) ⌝ }
+    requires { ⌜ FreeMap (now pool) (now map) ⌝ }
+    ensures { λ r. ⌜ ((s : WellFormed (now (pool .entry))) → Executes s c r (now (pool .exit))) ⌝ }
+    ensures { λ _. ⌜ FreeMap (now (pool .exit)) (now (map .exit)) ⌝ }
 {
     let p = as_put(c);
     if p.is {
-        return run_store(pool, p.index, p.order, p.word, p.reserve, low);
+        return run_store(pool, map, p.index, p.order, p.word, p.reserve);
     }
-    run_other(pool, c, low)
+    run_other(pool, map, c)
 }

@@ -13,4 +13,3 @@ pub mod RenderLaws
 pub mod RenderWordLaws
 pub mod SlotWordLaws
 pub mod StayLaws
-pub mod SparesLaws

@@ -7,4 +7,3 @@ pub mod Fill
 pub mod Decide
 pub mod View
 pub mod Reading
-pub mod Spares

@@ -1,12 +1,12 @@
 -- Well-formed words (document 01: sound).
-use Prim.Native.Nat.{ℕ, _≤_, _<_}
+use Prim.Native.Nat.{ℕ, _≤_}
 use mathlib.Core.Path.{_≡_}
 use mathlib.Core.List.{List}
-use lib.ListN.{length, getD}
+use lib.ListN.{length}
 use Rattle.model.specs.declared.Entry.{Entry}
 use Rattle.model.specs.Model.{Valid}
 use Rattle.tree.specs.Slots.{Numbering}
-use Rattle.layout.specs.Words.{maxNodes, poolWords, place, countWord, shiftField}
+use Rattle.layout.specs.Words.{maxNodes, poolWords}
 use Rattle.layout.specs.Places.{Places, Placed, numberIn, render}
 
 -- R33: a list and places that prescribe the words, in a pool of n nodes
@@ -19,11 +19,6 @@ pub record WellFormed (ws : List ℕ) : Type 0 where
   pub valid : Valid list
   pub placed : Placed n list places
   pub words-are : ws ≡ render list places n
-
--- every node below low is in use: its first word is not 0
-pub record InUse (low : ℕ) (ws : List ℕ) : Type 0 where
-  pub at-most : low ≤ getD ws countWord 0
-  pub used : (m : ℕ) → m < low → getD ws (place m shiftField) 0 ≡ 0 → ⊥
 
 -- the numbers of its nodes
 abbrev pub num : {ws : List ℕ} → WellFormed ws → Numbering

@@ -20,7 +20,7 @@ abbrev pub nodeWords : ℕ
 nodeWords = 70
 
 abbrev pub maxNodes : ℕ
-maxNodes = 1000
+maxNodes = 16384
 
 -- the words of a pool of n nodes, which is also where node n begins
 abbrev pub poolWords : ℕ → ℕ

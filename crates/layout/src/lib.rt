@@ -3,7 +3,7 @@
 // pool: the borrowed words; n, m: numbers of nodes; f: a field of a node; o: the offset of a slot in its node;
 // tier: the tier of a block (64^tier indices).
 ghost use mathlib.Core.Path.{_≡_};
-ghost use Prim.Native.Nat.{_+_, _*_, _%_, _<_, _≤_, _^_, min};
+ghost use Prim.Native.Nat.{_+_, _*_, _%_, _<_, _≤_, _^_};
 ghost use lib.Dec.{eqb};
 ghost use lib.ListN.{getD, set};
 ghost use Rattle.blocks.specs.Blocks.{block, bit, NextBit};
@@ -20,7 +20,7 @@ pub const ANCHOR_WORDS: u64 = 4;
 
 pub const NODE_WORDS: u64 = 70;
 
-pub const MAX_NODES: u64 = 1000;
+pub const MAX_NODES: u64 = 16384;
 
 pub const COUNT_WORD: usize = 0;
 
@@ -81,13 +81,6 @@ pub fn block_of(tier: u64, i: u64) -> u64
     ensures { λ r. ⌜ r ≡ block (tierOrder tier) i ⌝ }
 {
     i >> (SLOT_BITS * tier)
-}
-
-// The lesser of two numbers.
-pub fn lesser(a: u64, b: u64) -> u64
-    ensures { λ r. ⌜ r ≡ min a b ⌝ }
-{
-    if a < b { a } else { b }
 }
 
 // THE WORDS OF A NODE. That their fields are these is known here alone; `now (pool .entry)` is `ws` in what follows,

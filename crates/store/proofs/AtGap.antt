@@ -22,7 +22,7 @@ use Rattle.model.specs.declared.Entry.{Entry}
 use Rattle.model.specs.Model.{enterable, over, within}
 use Rattle.model.specs.ByBlock.{newEntry, storeNew}
 use Rattle.model.proofs.ValidLaws.{sorted-ok}
-use Rattle.tree.specs.Tree.{slots, tierOrder, fits, height, has, Node, needed, slotBits}
+use Rattle.tree.specs.Tree.{slots, tierOrder, fits, height, has, Node, needed, newNodes, slotBits}
 use Rattle.tree.specs.Slots.{Numbering, nodeWord, slot}
 use Rattle.tree.proofs.HeightLaws.{height-fits, fits-i, fits-base, fits-tall}
 use Rattle.tree.proofs.NeededLaws.{path-up}
@@ -43,16 +43,17 @@ use Rattle.layout.specs.Words.{
   IsField,
 }
 use Rattle.layout.specs.Places.{Places, numberIn, freeCount, newPlaces, render}
-use Rattle.layout.specs.WellFormed.{WellFormed, InUse, num}
+use Rattle.layout.specs.WellFormed.{WellFormed, num}
 use Rattle.layout.proofs.OwnerLaws.{parent, owner-same}
 use Rattle.layout.proofs.NewNumberLaws.{kept, was}
 use Rattle.layout.proofs.RenderWordLaws.{slot-node, pool-length, pool-anchor, pool-node}
 use Rattle.layout.proofs.FieldLaws.{field-shift, field-owner, field-slot}
 use Rattle.lookup.specs.Views.{AtNode}
 use Rattle.lookup.proofs.WordLaws.{slot-at}
-use Rattle.plan.specs.Plan.{Plan, Found, Walked, before, freeAt}
+use Rattle.freemap.specs.FreeMap.{MapOf, FreeMap}
+use Rattle.plan.specs.Plan.{Plan, Drawn, Walked, before, freeAt, leftFree}
 use Rattle.plan.proofs.AfterStore.{lows, tops, has-path}
-use Rattle.plan.proofs.FreeNumbers.{none-before, size-is}
+use Rattle.plan.proofs.MapNumbers.{map-places, left-new, drawn-none}
 use Rattle.plan.proofs.FreshNumbers.{Tiers, tiers-same, needed-is, path-number}
 use Rattle.write.specs.Writes.{span, offset, joins, headAt, linked, entered, pathCounts, settled, Laid, built}
 use Rattle.store.specs.Stored.{AtGap, Stores, Done, Short, entryOf}
@@ -84,8 +85,7 @@ use Rattle.store.proofs.FilledWords.{
   path-stays,
   all-filled,
 }
-use Rattle.store.proofs.EmptyRange.{has-keeps, was-free, freed, in-use-after, stores-unmarked, path-chain-entry}
-use Rattle.store.proofs.Outcomes.{low-le, low-used}
+use Rattle.store.proofs.EmptyRange.{has-keeps, was-free, freed, map-left, stores-unmarked, path-chain-entry}
 use Rattle.tree.proofs.NodeListLaws.{has-le, has-within, has-in}
 
 -- how many of the e widest tiers have a new node, where those from v + 1 to u do
@@ -433,8 +433,7 @@ module _ {ws : List ℕ} (s : WellFormed ws) (i k w u first : ℕ) (i< : i < 2 ^
 
 -- AS THE CODE HAS IT: new nodes below the slot
 module _ {ws : List ℕ} (s : WellFormed ws) (i k w u first : ℕ) (i< : i < 2 ^ 64) (k≤ : k ≤ 63) (deep : k / slotBits < u)
-    (g : AtGap (s .list) (num s) i k u first) (ns : List ℕ) (r next : ℕ)
-    (found : Found (s .places) (u - k / slotBits) ns r next) where
+    (g : AtGap (s .list) (num s) i k u first) where
   none-below : All (λ x. block k (x .base) ≡ block k i → ⊥) (s .list)
   none-below = each (s .list) (λ x m q. byT (ltb (x .order) (tierOrder u))
       (λ t. clash (in-any (within (tierOrder u) (block (tierOrder u) i)) m
@@ -456,16 +455,17 @@ module _ {ws : List ℕ} (s : WellFormed ws) (i k w u first : ℕ) (i< : i < 2 ^
   needed-as : needed (s .list) (storeNew (s .list) i k w) ≡ u - k / slotBits
   needed-as = need-is s i k w u first i< k≤ (g .new) none-below high (g .at-node) no-node
 
-  pub below-short : r < u - k / slotBits →
+  pub below-short : freeCount (s .places) < u - k / slotBits →
       Stores (s .n) (s .list) (s .places) (storeNew (s .list) i k w) i ws ws Short
   below-short h = record {
-    done = λ z. absurd (omega (arith, needed-as, found .count-is));
+    done = λ z. absurd (omega (arith, needed-as));
     short = λ z. (refl, refl);
   }
 
-  module _ (ge : u - k / slotBits ≤ r) (ps : List ℕ) (laid : Laid ns ps first (k / slotBits) u) where
+  module _ (some : u - k / slotBits ≤ freeCount (s .places)) {ns ms : List ℕ}
+      (drawn : Drawn (s .places) (u - k / slotBits) ns ms) (ps : List ℕ) (laid : Laid ns ps first (k / slotBits) u) where
     enough : needed (s .list) (storeNew (s .list) i k w) ≤ freeCount (s .places)
-    enough = omega (arith, needed-as, found .count-is)
+    enough = omega (arith, needed-as)
 
     ps-is : (t : ℕ) → k / slotBits < t → t ≤ u + 1 → getD ps t 0 ≡ numberIn
         (newPlaces (s .list) (storeNew (s .list) i k w) (s .places)) t (block (tierOrder t) i)
@@ -476,7 +476,7 @@ module _ {ws : List ℕ} (s : WellFormed ws) (i k w u first : ℕ) (i< : i < 2 ^
         (λ z. let ne : t ≡ u + 1 → ⊥ = eqb-false _ _ z in
         let (x, y) = number-is s i k w u first i< k≤ (g .new) none-below high (g .at-node) no-node enough t a (omega arith)
         in
-        laid .rest-are t a (omega arith) ∙ (found .numbers (u - t) (omega (arith, needed-as)) ∙ sym x))
+        laid .rest-are t a (omega arith) ∙ (drawn .numbers (u - t) (omega arith) ∙ sym x))
 
     pub laid-lt : (t : ℕ) → k / slotBits < t → t ≤ u + 1 → getD ps t 0 < s .n
     laid-lt t a b = rw (ps-is t a b)
@@ -491,9 +491,10 @@ module _ {ws : List ℕ} (s : WellFormed ws) (i k w u first : ℕ) (i< : i < 2 ^
         Stores (s .n) (s .list) (s .places) (storeNew (s .list) i k w) i ws ws′ (Done e)
     below-done st q e = stores-unmarked s i k w i< k≤ (g .new) none-below enough q (words st e)
 
-    pub below-used : {ws′ : List ℕ} → T (enterable k w) → w < 2 ^ 64 → ws′ ≡ built ws ps i k w u → InUse next ws′
-    below-used st w< e = in-use-after s i k w i< k≤ (g .new) none-below enough st w< (words st e) next (found .next-le)
-        (omega (arith, needed-as, found .count-is, found .next-is))
+    pub below-map : {ws′ : List ℕ} → T (enterable k w) → w < 2 ^ 64 → ws′ ≡ built ws ps i k w u → FreeMap ws′ ms
+    below-map st w< e = map-left s i k w i< k≤ (g .new) none-below enough st w< (words st e)
+        (left-new (s .places) (newNodes (s .list) (storeNew (s .list) i k w)) ms
+        (subst (λ (y : ℕ). MapOf (leftFree (s .places) y) ms) (sym needed-as) (drawn .left)))
 
 -- AS THE CODE HAS IT: empty slots of the entry's node
 module _ {ws : List ℕ} (s : WellFormed ws) (i k w u a : ℕ) (i< : i < 2 ^ 64) (k≤ : k ≤ 63)
@@ -554,7 +555,9 @@ module _ {ws : List ℕ} (s : WellFormed ws) (i k w u a : ℕ) (i< : i < 2 ^ 64)
       Stores (s .n) (s .list) (s .places) (storeNew (s .list) i k w) i ws ws′ (Done e)
   slots-done st q e = stores-unmarked s i k w i< k≤ (g .new) none-in enough₀ q (words₀ st e)
 
-  pub slots-used : {ws′ : List ℕ} {low : ℕ} → T (enterable k w) → w < 2 ^ 64 → InUse low ws →
-      ws′ ≡ settled ws a (offset i k) (span k) w → InUse low ws′
-  slots-used {ws′} {low} st w< h e = in-use-after s i k w i< k≤ (g .new) none-in enough₀ st w< (words₀ st e) low
-      (omega (arith, size-is s, low-le s h)) (omega (arith, none-before (s .places) low (low-used s h)))
+  pub slots-map : {ws′ ms : List ℕ} → T (enterable k w) → w < 2 ^ 64 → FreeMap ws ms →
+      ws′ ≡ settled ws a (offset i k) (span k) w → FreeMap ws′ ms
+  slots-map {ms = ms} st w< F e = map-left s i k w i< k≤ (g .new) none-in enough₀ st w< (words₀ st e)
+      (left-new (s .places) (newNodes (s .list) (storeNew (s .list) i k w)) ms
+      (subst (λ (y : ℕ). MapOf (leftFree (s .places) y) ms) (sym none-needed)
+      (drawn-none (s .places) [] ms (map-places s F) .left)))

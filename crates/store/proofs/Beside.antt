@@ -25,9 +25,10 @@ use Rattle.tree.proofs.NodeListLaws.{has-le}
 use Rattle.tree.proofs.StoreLaws.{within-only}
 use Rattle.layout.specs.Words.{filledPlace, lastPlace}
 use Rattle.layout.specs.Places.{Places, numberIn, newPlaces, render}
-use Rattle.layout.specs.WellFormed.{WellFormed, InUse}
+use Rattle.layout.specs.WellFormed.{WellFormed}
 use Rattle.layout.proofs.RenderWordLaws.{pool-length}
 use Rattle.lookup.proofs.StepLaws.{in-nonempty}
+use Rattle.freemap.specs.FreeMap.{FreeMap}
 use Rattle.plan.proofs.AfterStore.{lows, path-zero, has-path, zero-apart, has-zero}
 use Rattle.plan.proofs.Reading.{head-zero}
 use Rattle.write.specs.Writes.{span, offset, linked, entered, ones, pathCounts, grownCounts, extended}
@@ -48,8 +49,8 @@ use Rattle.store.proofs.FinalWords.{
 use Rattle.store.proofs.Target.{X, num-lt}
 use Rattle.store.proofs.PathWords.{v-lt}
 use Rattle.store.proofs.FilledWords.{enterable-some, path-more, path-one, entry-one, entry-more, chain-one, all-filled}
-use Rattle.store.proofs.GivingWay.{path-lt, long, chain-lt, some-node′, head-is, marks-is, some-is}
-use Rattle.store.proofs.EmptyRange.{was-free, freed, in-use-after, stores-unmarked, path-chain-entry}
+use Rattle.store.proofs.GivingWay.{path-lt, chain-lt, some-node′, head-is, marks-is, some-is}
+use Rattle.store.proofs.EmptyRange.{was-free, freed, map-left, stores-unmarked, path-chain-entry}
 
 -- the chain is made if there is an old tree
 chained-if : (b e z : Bool) (x y v : List ℕ) → both b (either e (not z)) ≡ true →
@@ -60,8 +61,8 @@ chained-if true false true x y v q = absurd (clash q refl)
 chained-if false e z x y v q = absurd (clash q refl)
 
 -- as the code has it
-module _ {ws : List ℕ} (s : WellFormed ws) {ps cs : List ℕ} {i k w n low h top head m : ℕ} (i< : i < 2 ^ 64)
-    (k≤ : k ≤ 63) (r : Ready (s .n) (s .list) (s .places) ps cs i k w n low h top) (head-read : head ≡ getD ws 1 0)
+module _ {ws : List ℕ} (s : WellFormed ws) {ps cs ms : List ℕ} {i k w h top head m : ℕ} (i< : i < 2 ^ 64)
+    (k≤ : k ≤ 63) (r : Ready (s .list) (s .places) ps cs ms i k w h top) (head-read : head ≡ getD ws 1 0)
     (marks-read : m ≡ getD ws 2 0) (beside : both (ltb h top) (either (eqb head 0) (not (eqb (block k i) 0))) ≡ true)
   where
     abbrev l : List Entry
@@ -240,7 +241,7 @@ module _ {ws : List ℕ} (s : WellFormed ws) {ps cs : List ℕ} {i k w n low h t
     pub beside-fits : (h < top) × ((u : ℕ) → k / slotBits + 1 ≤ u → u ≤ top → lastPlace (getD ps u 0) < length ws) ×
         ((head ≡ 0 → ⊥) → (u : ℕ) → h ≤ u → 1 ≤ u → u ≤ top → lastPlace (getD cs u 0) < length ws)
     beside-fits =
-        let len = long s i< k≤ r in (
+        let len = pool-length s in (
           above,
           λ u a b. omega (arith, len, path-lt s i< k≤ r u a b),
           λ ne u a b c. omega (arith, len, chain-lt s i< k≤ r head-read marks-read above (chained ne) u a b c),
@@ -253,7 +254,5 @@ module _ {ws : List ℕ} (s : WellFormed ws) {ps cs : List ℕ} {i k w n low h t
         Stores (s .n) l (s .places) (storeNew l i k w) i ws ws′ (Done e)
     beside-done st q e = stores-unmarked s i k w i< k≤ (r .new) none-start (r .enough) q (words st e)
 
-    pub beside-used : {ws′ : List ℕ} → T (enterable k w) → w < 2 ^ 64 → ws′ ≡ extended ws ps cs i k w h top head m →
-        InUse low ws′
-    beside-used st w< e = in-use-after s i k w i< k≤ (r .new) none-start (r .enough) st w< (words st e) low (r .next-le)
-        (r .next-taken)
+    pub beside-map : {ws′ : List ℕ} → T (enterable k w) → w < 2 ^ 64 → ws′ ≡ extended ws ps cs i k w h top head m → FreeMap ws′ ms
+    beside-map st w< e = map-left s i k w i< k≤ (r .new) none-start (r .enough) st w< (words st e) (r .left)

@@ -7,39 +7,39 @@ use mathlib.Core.List.{List}
 use mathlib.Core.Option.{Option, none, some}
 use native.Mathlib.Omega.{arith}
 use lib.Dec.{T, eqb}
-use lib.ListN.{length, getD}
+use lib.ListN.{getD}
 use borrow.Author.Tests.{eqb-true}
-use Rattle.blocks.specs.Choice.{both}
+use Rattle.blocks.specs.Choice.{both, either}
 use Rattle.blocks.specs.Lists.{any, All, nonempty}
 use Rattle.blocks.specs.Blocks.{block}
-use Rattle.blocks.proofs.BoolLaws.{both-l, both-no}
+use Rattle.blocks.proofs.BoolLaws.{clash, both-l, both-no, either-no}
 use Rattle.blocks.proofs.ListLaws.{All-map, any-none, any-in, any-keep-both, look}
 use Rattle.blocks.proofs.BitLaws.{bits-same}
 use Rattle.model.specs.declared.Entry.{Entry}
 use Rattle.model.specs.Model.{Valid, enterable, over, starts, within, hasMark, marksOf}
 use Rattle.model.specs.ByBlock.{inside, newEntry, storeNew}
 use Rattle.model.proofs.RangeLaws.{Inside}
-use Rattle.model.proofs.ValidLaws.{room, store-at-valid}
+use Rattle.model.proofs.ValidLaws.{store-at-valid}
 use Rattle.tree.specs.Tree.{slots, tierOrder, height, has, Node, newNodes, needed, slotMark, slotBits}
 use Rattle.tree.specs.Slots.{Numbering, slot}
 use Rattle.tree.proofs.StoreLaws.{within-only, store-covering, mark-apart, mark-path, mark-inside}
 use Rattle.layout.specs.Words.{field, fieldAt, filledPlace, IsField}
-use Rattle.layout.specs.Places.{Places, numberIn, freeCount, keepIf, newPlaces, render}
-use Rattle.layout.specs.WellFormed.{WellFormed, InUse}
-use Rattle.layout.proofs.NewNumberLaws.{number-none, new-stays}
+use Rattle.layout.specs.Places.{Places, numberIn, freeCount, keepIf, allocate, newPlaces, render}
+use Rattle.layout.specs.WellFormed.{WellFormed}
+use Rattle.layout.proofs.NewNumberLaws.{number-none}
 use Rattle.layout.proofs.NumberLaws.{in-standing}
-use Rattle.layout.proofs.PlacesLaws.{placed-new}
 use Rattle.layout.proofs.RenderLaws.{render-is}
-use Rattle.plan.specs.Plan.{Plan, freeTo}
+use Rattle.freemap.specs.FreeMap.{MapOf, FreeMap}
+use Rattle.freemap.proofs.MapLaws.{map-as}
+use Rattle.plan.specs.Plan.{Plan, freePlace}
 use Rattle.plan.proofs.AfterStore.{Lies, lies, on-path, in-run, off, rooms, tops, has-path, stays}
-use Rattle.plan.proofs.FreeNumbers.{below-taken}
 use Rattle.write.specs.Writes.{span, offset, linked, entered}
 use Rattle.store.specs.Stored.{Stores, Done, entryOf}
+use Rattle.store.proofs.MapAfter.{map-after}
 use Rattle.store.proofs.FinalWords.{Right, Counts}
 use Rattle.store.proofs.Freeing.{Freed, freed-none}
 use Rattle.store.proofs.Target.{field₁, field₁-as, fieldAt₁, X, X-anchor, X-at}
 use Rattle.store.proofs.PathWords.{grownWords, enter-long, grow-long, link-long, lg₁, anchor-right, node-right}
-use Rattle.store.proofs.Outcomes.{in-use}
 use Rattle.tree.proofs.NodeListLaws.{has-le, has-within}
 
 -- THE TREE
@@ -96,6 +96,9 @@ module _ {ws : List ℕ} (s : WellFormed ws) (i k w : ℕ) (i< : i < 2 ^ 64) (k�
   abbrev os : Places
   os = s .places
 
+  abbrev os₀ : Places
+  os₀ = allocate os (newNodes l l₁)
+
   abbrev os₁ : Places
   os₁ = newPlaces l l₁ os
 
@@ -111,26 +114,12 @@ module _ {ws : List ℕ} (s : WellFormed ws) (i k w : ℕ) (i< : i < 2 ^ 64) (k�
           (s .placed .sound p (in-standing p os m d)) in
           let z : _≡_ {A = ℕ} 0 1 = cc (sym (rw t at q)) in absurd (omega arith)
 
-  -- below next every node is in use then
-  pub next-used : (next : ℕ) → next ≤ length os → freeTo os next ≤ needed l l₁ → (m : ℕ) → m < next →
-      getD os₁ m none ≡ none → ⊥
-  next-used next le tk m h z = new-stays l l₁ os m (was-free m z) (below-taken os (newNodes l l₁) next m le tk h) z
-
-  pub in-use-after : T (enterable k w) → w < 2 ^ 64 → {ws′ : List ℕ} → ws′ ≡ render l₁ os₁ (s .n) → (next : ℕ) →
-      next ≤ length os → freeTo os next ≤ needed l l₁ → InUse next ws′
-  in-use-after st w< {ws′} e next le tk = in-use after next (omega (arith, s .placed .size)) (next-used next le tk)
-    where
-      after : WellFormed ws′
-      after = record {
-        n = s .n;
-        list = l₁;
-        places = os₁;
-        least = s .least;
-        most = s .most;
-        valid = store-at-valid i k w l (s .valid) new i< k≤ st w<;
-        placed = placed-new (s .n) l os (s .placed) l₁ enough;
-        words-are = e;
-      }
+  -- no node is freed: the map has what was left of it
+  pub map-left : T (enterable k w) → w < 2 ^ 64 → {ws′ ms : List ℕ} → ws′ ≡ render l₁ os₁ (s .n) →
+      MapOf (freePlace os₀) ms → FreeMap ws′ ms
+  map-left st w< e M = map-after s l₁ enough (λ m. false) (λ m t. absurd (clash t refl)) (λ m _ d _. was-free m d)
+      (store-at-valid i k w l (s .valid) new i< k≤ st w<) e (map-as M (λ m. either (freePlace os₀ m) false)
+      (λ m _. sym (either-no (freePlace os₀ m))))
 
   pub stores-unmarked : {ws′ : List ℕ} {e : Entry} → e ≡ entryOf i k w 0 → ws′ ≡ render l₁ os₁ (s .n) →
       Stores (s .n) l os l₁ i ws ws′ (Done e)

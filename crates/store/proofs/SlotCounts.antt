@@ -14,7 +14,7 @@ use Rattle.blocks.specs.Blocks.{block, countTo}
 use Rattle.blocks.proofs.BoolLaws.{clash, byT}
 use Rattle.blocks.proofs.ListLaws.{each, look, any-none, in-any, first-none}
 use Rattle.blocks.proofs.BlockLaws.{block-at, block-block, block-up}
-use Rattle.blocks.proofs.CountLaws.{count-le, count-same, count-none, count-all, count-change, count-run}
+use Rattle.blocks.proofs.CountLaws.{count-same, count-none, count-all, count-change, count-run}
 use Rattle.model.specs.declared.Entry.{Entry}
 use Rattle.model.specs.Model.{over, covers, within, Valid}
 use Rattle.model.specs.ByBlock.{storeNew}
@@ -59,10 +59,6 @@ filledAt l ν u b = filledOf (λ o. slot l ν u (slots * b + o))
 pub filled-at : (l : List Entry) (ν : Numbering) (u b : ℕ) → filledOf (λ o. slot l ν u (slots * b + o)) ≡ filledAt l ν u b
 unfolding filledAt
 filled-at l ν u b = refl
-
-pub filled-le : (l : List Entry) (ν : Numbering) (u b : ℕ) → filledAt l ν u b ≤ slots
-unfolding filledAt
-filled-le l ν u b = count-le (λ o. not (eqb (slot l ν u (slots * b + o)) 0)) slots
 
 -- a slot is filled under every numbering alike
 pub full-any : (l : List Entry) (ν ν′ : Numbering) (u c : ℕ) → not (eqb (slot l ν u c) 0) ≡ not (eqb (slot l ν′ u c) 0)

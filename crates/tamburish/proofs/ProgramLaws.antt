@@ -1,11 +1,12 @@
 -- The parts of the program's contract.
-use Prim.Native.Nat.{ℕ, zero, suc, _*_, _/_, _%_, _≤_}
+use Prim.Native.Nat.{ℕ, zero, suc, _*_, _/_, _%_, _≤_, _<_}
 use mathlib.Core.Path.{_≡_, refl, sym, ap, subst, _∙_}
 use mathlib.Core.List.{List, [], _∷_}
 use native.Mathlib.Omega.{arith}
 use lib.ListN.{length, drop, set}
+use borrow.Author.Tests.{lt-ltb, le-ltb}
 use Rattle.xapool.specs.declared.Result.{Result}
-use Rattle.xapool.specs.Calls.{Called, run}
+use Rattle.xapool.specs.Calls.{Called, badRecord, refuseCall, run}
 use Rattle.xapool.specs.Demand.{Call.init, wordsAfter}
 use Rattle.xapool.specs.Refusal.{
   CallRow,
@@ -16,7 +17,7 @@ use Rattle.xapool.specs.Refusal.{
   CallRow.row-0,
 }
 use Rattle.xapool.proofs.RefusalLaws.{call-row}
-use Rattle.tamburish.specs.Program.{ran, refusalSize, refusalOver, sizeFor, spaceFor, size, space}
+use Rattle.tamburish.specs.Program.{maxInput, ran, refusalSize, refusalOver, sizeFor, spaceFor, size, space}
 
 -- six bytes set one by one
 six : (rs : List ℕ) → refusalSize ≤ length rs → (a b c d e f : ℕ) →
@@ -70,17 +71,30 @@ pub has-room : (ws bs rs : List ℕ) {x : Result} → x ≡ run ws bs rs .result
 has-room ws bs rs q e =
     subst (λ (y : Result). y .answer ≡ 0 → 24 * y .number ≤ length rs) (sym q) (room (call-row ws bs rs)) e
 
-ran-is : (ws ws₁ bs rs : List ℕ) → ws₁ ≡ wordsAfter ws init → run ws₁ bs rs ≡ ran ws bs rs
+ran-is : (ws ws₁ bs rs : List ℕ) → length bs ≤ maxInput → ws₁ ≡ wordsAfter ws init → run ws₁ bs rs ≡ ran ws bs rs
 unfolding ran
-ran-is ws ws₁ bs rs e = ap (λ (w : List ℕ). run w bs rs) e
+ran-is ws ws₁ bs rs h e = rw (le-ltb maxInput (length bs) h) (ap (λ (w : List ℕ). run w bs rs) e)
+
+-- a batch that is too long
+ran-long : (ws bs rs : List ℕ) → maxInput < length bs → refuseCall ws rs badRecord maxInput ≡ ran ws bs rs
+unfolding ran
+ran-long ws bs rs h = rw (lt-ltb maxInput (length bs) h)
+
+pub long : (ws bs rs : List ℕ) → maxInput < length bs → refusalSize ≤ length rs → {r : ℕ} {rs′ : List ℕ} → r ≡ refusalSize →
+    rs′ ≡ refusalOver badRecord maxInput rs → Responds ws bs rs r ws rs′
+long ws bs rs h room {r} e g = (
+  e ∙ ap size (ran-long ws bs rs h),
+  (omega arith, (g ∙ ap space (ran-long ws bs rs h), ap (λ (c : Called). c .words) (ran-long ws bs rs h))),
+)
 
 -- after the run: x is its result, ws₁ the words before it, ws′ those after it, and rs₁ the reply space
-module _ (ws ws₁ bs rs : List ℕ) {ws′ rs₁ : List ℕ} {x : Result} (init-is : ws₁ ≡ wordsAfter ws init)
+module _ (ws ws₁ bs rs : List ℕ) {ws′ rs₁ : List ℕ} {x : Result} (few : length bs ≤ maxInput)
+    (init-is : ws₁ ≡ wordsAfter ws init)
     (result-is : x ≡ run ws₁ bs rs .result) (words-are : ws′ ≡ run ws₁ bs rs .words)
     (reply-is : rs₁ ≡ run ws₁ bs rs .reply)
   where
     same : run ws₁ bs rs ≡ ran ws bs rs
-    same = ran-is ws ws₁ bs rs init-is
+    same = ran-is ws ws₁ bs rs few init-is
 
     result-same : x ≡ ran ws bs rs .result
     result-same = result-is ∙ ap (λ (c : Called). c .result) same

@@ -1,13 +1,19 @@
--- What the program writes: the replies of a run on a pool just initialised, or the record of its refusal (R56).
+-- What the program writes: the replies of a run on a pool just initialised, or the record of its refusal (R56, R230).
 use Prim.Native.Nat.{ℕ, zero, suc, _*_, _/_, _%_}
 use mathlib.Core.List.{List, [], _∷_, _++_}
-use lib.ListN.{drop}
-use Rattle.xapool.specs.Calls.{Called, run}
+use lib.Dec.{ltb}
+use lib.ListN.{length, drop}
+use Rattle.blocks.specs.Choice.{pick}
+use Rattle.xapool.specs.Calls.{Called, badRecord, refuseCall, run}
 use Rattle.xapool.specs.Demand.{Call.init, wordsAfter}
 
--- the call: the pool is initialised, then the batch runs
+-- R230: the longest batch that the program takes
+abbrev pub maxInput : ℕ
+maxInput = 8192
+
+-- the call: a batch that is too long is refused; else the pool is initialised, then the batch runs
 unfoldable pub ran : (pool batch reply : List ℕ) → Called
-ran ws bs rs = run (wordsAfter ws init) bs rs
+ran ws bs rs = pick (ltb maxInput (length bs)) (refuseCall ws rs badRecord maxInput) (run (wordsAfter ws init) bs rs)
 
 abbrev pub refusalSize : ℕ
 refusalSize = 6

@@ -8,14 +8,18 @@ ghost use Rattle.tamburish.specs.Program.{ran, refusalSize, refusalOver}
 
 // 4 + 70 * 40 words for 40 nodes.
 const POOL_WORDS: usize = 2804;
-// One byte more than the longest batch, so that a longer one is seen to be too long.
-const INPUT_BYTES: usize = 8193;
+// The longest batch that the program takes (R230); one byte more is read, so that a longer one is seen to be too long.
+const MAX_INPUT: usize = 8192;
+
+const INPUT_BYTES: usize = MAX_INPUT + 1;
 // 24 bytes for each of the 744 commands that fit into 8,192 bytes, the shortest having 11.
 const OUTPUT_BYTES: usize = 17856;
 
 const REPLY_BYTES: u64 = 24;
 
 const REFUSAL_BYTES: usize = 6;
+
+const BAD_RECORD: u64 = 3;
 
 // The record of a refused call.
 fn refusal(reply: &mut [u8], answer: u64, place: u64) -> usize
@@ -32,7 +36,7 @@ fn refusal(reply: &mut [u8], answer: u64, place: u64) -> usize
     REFUSAL_BYTES
 }
 
-// Initialises the pool and runs the batch on it; how many bytes of `reply` are to be written.
+// Initialises the pool and runs the batch on it, unless that is too long; how many bytes of `reply` are to be written.
 fn respond(pool: &mut [u64], batch: &[u8], reply: &mut [u8]) -> usize
     requires { ⌜ refusalSize ≤ length (now reply) ⌝ }
     ensures { λ r. ⌜ r ≡ Program.size (ran (now (pool .entry)) (now (batch .entry)) (now (reply .entry))) ⌝ }
@@ -40,6 +44,9 @@ fn respond(pool: &mut [u64], batch: &[u8], reply: &mut [u8]) -> usize
     ensures { λ _. ⌜ now (reply .exit) ≡ Program.space (ran (now (pool .entry)) (now (batch .entry)) (now (reply .entry))) ⌝ }
     ensures { λ _. ⌜ now (pool .exit) ≡ ran (now (pool .entry)) (now (batch .entry)) (now (reply .entry)) .words ⌝ }
 {
+    if batch.len() > MAX_INPUT {
+        return refusal(reply, BAD_RECORD, MAX_INPUT as u64);
+    }
     xapool::xapool_init(pool);
     let result = xapool::xapool_run(pool, batch, reply);
     let answer = result.answer;

@@ -1,6 +1,7 @@
 // The check of a pool, and its init.
 //
-// pool: the borrowed words, 4 + 70 n of them for n nodes.
+// pool: the borrowed words, 4 + 70 n of them for n nodes; map: words for the map of the free ones.
+use freemap::MAP_WORDS;
 use layout::ANCHOR_WORDS;
 use layout::COUNT_WORD;
 use layout::MAX_NODES;
@@ -10,6 +11,7 @@ use layout::fill;
 use scan::head_ok;
 use scan::nodes_ok;
 ghost use mathlib.Core.Path.{_≡_};
+ghost use Rattle.freemap.specs.FreeMap.{BlankMap, FreeMap};
 ghost use Rattle.verify.specs.Answers.{Counts, checkAnswer, initAnswer, initWords};
 
 // The number of nodes, or 0 if the length is not that of a pool.
@@ -30,10 +32,12 @@ fn nodes_in(pool: &[u64]) -> u64
     n
 }
 
-// 0 if some list of entries prescribes the words, with its nodes at some numbers; 1 if the length is
-// not that of a pool; else 2.
-pub fn check(pool: &[u64]) -> u64
+// 0 if some list of entries prescribes the words, with its nodes at some numbers; 1 if the length is not that of a pool;
+// else 2. With 0 the map, of none so far, becomes that of the free nodes.
+pub fn check_map(pool: &[u64], map: &mut [u64]) -> u64
+    requires { ⌜ BlankMap (now map) ⌝ }
     ensures { λ r. ⌜ r ≡ checkAnswer (now (pool .entry)) ⌝ }
+    ensures { λ r. ⌜ (r ≡ 0 → FreeMap (now (pool .entry)) (now (map .exit))) ⌝ }
 {
     let n = nodes_in(pool);
     if n == 0 {
@@ -45,13 +49,21 @@ pub fn check(pool: &[u64]) -> u64
     if pool[SPARE_WORD] != 0 {
         return 2;
     }
-    if !nodes_ok(pool) {
+    if !nodes_ok(pool, map) {
         return 2;
     }
     if !head_ok(pool) {
         return 2;
     }
     0
+}
+
+// The same for who needs no map.
+pub fn check(pool: &[u64]) -> u64
+    ensures { λ r. ⌜ r ≡ checkAnswer (now (pool .entry)) ⌝ }
+{
+    let mut map = [0u64; MAP_WORDS];
+    check_map(pool, &mut map)
 }
 
 // Makes every node free and the list empty: word 0 is the number of nodes, every other word 0. If the length is not

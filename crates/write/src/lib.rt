@@ -2,19 +2,18 @@
 // with its siblings, and the nodes that it frees. Each function leaves what a definition of specs/Writes says, whatever
 // the words are.
 //
-// pool: the borrowed words; n: how many nodes it has, or the number of one; low: below it every node is in use; u: a
-// tier; v: the tier of the slots that hold the entry; h, top: the tier of the head before and after; path, chain: the
-// numbers of the nodes over the index and over index 0, by tier; a: a node; o, c: the first of its slots, and how many; f:
-// a filled count.
+// pool: the borrowed words; map: a map of free nodes; n: how many nodes the pool has, or the number of one; u: a tier; v:
+// the tier of the slots that hold the entry; h, top: the tier of the head before and after; path, chain: the numbers of
+// the nodes over the index and over index 0, by tier; a: a node; o, c: the first of its slots, and how many; f: a filled
+// count.
+use freemap::release;
 use layout::HEAD_WORD;
 use layout::SLOT_BITS;
 use layout::SLOTS;
 use layout::Slot;
 use layout::block_of;
-use layout::clear_node;
 use layout::fill_slots;
 use layout::filled_of;
-use layout::lesser;
 use layout::mark_word;
 use layout::node_word;
 use layout::owner_word;
@@ -37,7 +36,7 @@ ghost use lib.Dec.{ltb};
 ghost use lib.ListN.{getD, length};
 ghost use Rattle.tree.specs.Tree.{slots, slotBits, topTier};
 ghost use Rattle.layout.specs.Words.{poolWords, lastPlace, filledPlace, markPlace};
-ghost use Rattle.layout.specs.Spares.{Spared};
+ghost use Rattle.freemap.specs.FreeMap.{mapNodes, Sound, Follows};
 ghost use Rattle.plan.specs.Plan.{Storable};
 ghost use Rattle.write.specs.Writes;
 ghost use Rattle.write.specs.Writes.{Laid};
@@ -130,74 +129,72 @@ fn fold_at(pool: &mut [u64], n: u64, m: u64, o: u64, c: u64)
     put_mark_word(pool, n, m, fold(w, o, c));
 }
 
-// Frees what the word of a slot leads to, of tier u. All that free a node take low and return the least of it and the
-// numbers freed.
-fn free_slot(pool: &mut [u64], top: u64, w: u64, u: u64, low: u64) -> u64
+// Frees what the word of a slot leads to, of tier u. Each node that is freed enters the map.
+fn free_slot(pool: &mut [u64], map: &mut [u64], top: u64, w: u64, u: u64)
     requires { do ⌜ poolWords top ≤ (← ⟦pool.len()⟧) ⌝ }
+    requires { ⌜ Sound (now map) ⌝ }
+    requires { ⌜ top ≤ mapNodes ⌝ }
     ensures { λ _. ⌜ now (pool .exit) ≡ Writes.freeSlot (Writes.freeTree top u) top (now (pool .entry)) w ⌝ }
-    ensures { λ r. ⌜ Spared low r (now (pool .entry)) (now (pool .exit)) ⌝ }
+    ensures { λ _. ⌜ Follows (now (pool .entry)) (now (pool .exit)) (now (map .entry)) (now (map .exit)) ⌝ }
 {
     let s = read_slot(w);
     match s {
         Slot::Child(n) => {
             if n < top {
-                return free_tree(pool, top, n, u, low);
+                free_tree(pool, map, top, n, u);
             }
-            low
         }
-        Slot::Empty => low,
-        Slot::Held => low,
-        Slot::Sibling(_) => low,
-        Slot::Reserved => low,
+        Slot::Empty => {}
+        Slot::Held => {}
+        Slot::Sibling(_) => {}
+        Slot::Reserved => {}
     }
 }
 
 // Frees what the slots of node n from o on, c of them, lead to, of tier u.
-fn free_slots(pool: &mut [u64], top: u64, n: u64, o: u64, c: u64, u: u64, low: u64) -> u64
+fn free_slots(pool: &mut [u64], map: &mut [u64], top: u64, n: u64, o: u64, c: u64, u: u64)
     requires { do ⌜ poolWords top ≤ (← ⟦pool.len()⟧) ⌝ }
-    requires { ⌜ n < top ⌝ }
-    requires { ⌜ o + c ≤ slots ⌝ }
+    requires { ⌜ Sound (now map) ⌝ }
+    requires { ⌜ (top ≤ mapNodes) × (n < top) × (o + c ≤ slots) ⌝ }
     ensures { λ _. ⌜ now (pool .exit) ≡ Writes.freeSlots (Writes.freeTree top u) top n o (now (pool .entry)) c ⌝ }
-    ensures { λ r. ⌜ Spared low r (now (pool .entry)) (now (pool .exit)) ⌝ }
+    ensures { λ _. ⌜ Follows (now (pool .entry)) (now (pool .exit)) (now (map .entry)) (now (map .exit)) ⌝ }
 {
     let mut j = 0;
-    let mut r = low;
     while j < c {
         let w = slot_word(pool, n, o + j);
-        r = free_slot(pool, top, w, u, r);
+        free_slot(pool, map, top, w, u);
         j = j + 1;
     }
-    r
 }
 
 // Frees node n, of tier u, and all below it.
-fn free_tree(pool: &mut [u64], top: u64, n: u64, u: u64, low: u64) -> u64
+fn free_tree(pool: &mut [u64], map: &mut [u64], top: u64, n: u64, u: u64)
     requires { do ⌜ poolWords top ≤ (← ⟦pool.len()⟧) ⌝ }
-    requires { ⌜ n < top ⌝ }
+    requires { ⌜ Sound (now map) ⌝ }
+    requires { ⌜ (top ≤ mapNodes) × (n < top) ⌝ }
     ensures { λ _. ⌜ now (pool .exit) ≡ Writes.freeTree top u (now (pool .entry)) n ⌝ }
-    ensures { λ r. ⌜ Spared low r (now (pool .entry)) (now (pool .exit)) ⌝ }
+    ensures { λ _. ⌜ Follows (now (pool .entry)) (now (pool .exit)) (now (map .entry)) (now (map .exit)) ⌝ }
 {
     if u == 0 {
-        return low;
+        return;
     }
-    let r = free_slots(pool, top, n, 0, SLOTS, u - 1, low);
-    clear_node(pool, n);
-    lesser(r, n)
+    free_slots(pool, map, top, n, 0, SLOTS, u - 1);
+    release(pool, map, n);
 }
 
 // Frees what gives way to an entry: what lies below its slots, and, where the head grows, the whole old tree.
-fn clear(pool: &mut [u64], n: u64, seat: Seat, heads: Heads, low: u64) -> u64
+fn clear(pool: &mut [u64], map: &mut [u64], n: u64, seat: Seat, heads: Heads)
     requires { do ⌜ poolWords n ≤ (← ⟦pool.len()⟧) ⌝ }
-    requires { ⌜ (seat .node < n) × (seat .slot + seat .count ≤ slots) ⌝ }
+    requires { ⌜ Sound (now map) ⌝ }
+    requires { ⌜ (n ≤ mapNodes) × (seat .node < n) × (seat .slot + seat .count ≤ slots) ⌝ }
     ensures { λ _. ⌜ now (pool .exit) ≡ Writes.cleared (now (pool .entry)) n (seat .node) (seat .slot) (seat .count)
         (seat .tier) (ltb (heads .old) (heads .new)) (heads .word) (heads .old) ⌝ }
-    ensures { λ r. ⌜ Spared low r (now (pool .entry)) (now (pool .exit)) ⌝ }
+    ensures { λ _. ⌜ Follows (now (pool .entry)) (now (pool .exit)) (now (map .entry)) (now (map .exit)) ⌝ }
 {
-    let r = free_slots(pool, n, seat.node, seat.slot, seat.count, seat.tier, low);
+    free_slots(pool, map, n, seat.node, seat.slot, seat.count, seat.tier);
     if heads.old < heads.new {
-        return free_slot(pool, n, heads.word, heads.old, r);
+        free_slot(pool, map, n, heads.word, heads.old);
     }
-    r
 }
 
 // Node a becomes the head, of tier h.
@@ -439,33 +436,34 @@ fn filled_then(pool: &[u64], seat: Seat) -> u64
 // All writes of a store to which entries give way: those below its slots, or, where the head grows, the whole old tree.
 pub fn rebuild(
     pool: &mut [u64],
+    map: &mut [u64],
     path: &[u64],
     target: Target,
     heads: Heads,
     n: u64,
-    low: u64,
-) -> u64
+)
     requires { ⌜ length (now pool) ≡ poolWords n ⌝ }
+    requires { ⌜ Sound (now map) ⌝ }
+    requires { ⌜ n ≤ mapNodes ⌝ }
     requires { ⌜ Storable target × (target .order / slotBits < heads .new) × (heads .new ≤ topTier) ×
         (topTier < length (now path)) ⌝ }
     requires { ⌜ ((u : ℕ) → target .order / slotBits + 1 ≤ u → u ≤ heads .new → getD (now path) u 0 < n) ⌝ }
     requires { ⌜ getD (now pool) (filledPlace (getD (now path) (target .order / slotBits + 1) 0)) 0 ≤ slots ⌝ }
     ensures { λ _. ⌜ now (pool .exit) ≡ Writes.rebuilt (now (pool .entry)) (now (path .entry))
         (target .index) (target .order) (target .word) n (heads .old) (heads .new) (heads .word) (heads .marks) ⌝ }
-    ensures { λ r. ⌜ Spared low r (now (pool .entry)) (Writes.givenWay (now (pool .entry)) (now (path .entry))
-        (target .index) (target .order) n (heads .old) (heads .new) (heads .word)) ⌝ }
+    ensures { λ _. ⌜ Follows (now (pool .entry)) (Writes.givenWay (now (pool .entry)) (now (path .entry))
+        (target .index) (target .order) n (heads .old) (heads .new) (heads .word)) (now (map .entry)) (now (map .exit)) ⌝ }
 {
     let v = target.order / SLOT_BITS;
     let a = path[(v + 1) as usize];
     let seat = seat_of(target, a);
     let f = filled_then(pool, seat);
-    let r = clear(pool, n, seat, heads, low);
+    clear(pool, map, n, seat, heads);
     put_filled(pool, a, f);
     link(pool, path, target.index, v, heads.new);
     mark_top(pool, path, heads);
     enter(pool, seat, target.word);
     fold_all(pool, seat);
-    r
 }
 
 // Writes a new entry whose target range is empty and lies outside the head's block: a new head over both, the path to

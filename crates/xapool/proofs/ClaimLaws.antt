@@ -12,6 +12,7 @@ use lib.ListN.{length, getD, take, drop, length-append}
 use borrow.Author.Tests.{lt-ltb, le-ltb, ltb-true, ltb-false}
 use Rattle.blocks.specs.Lists.{All, end, also}
 use Rattle.blocks.proofs.BoolLaws.{byT, not-false}
+use Rattle.blocks.proofs.ListLaws.{getD-out}
 use Rattle.blocks.proofs.UpToLaws.{length-upTo, getD-upTo}
 use Rattle.model.specs.declared.Entry.{Entry}
 use Rattle.model.specs.Model.{storable, maxOrder, aligned, covering, store, reservedWord}
@@ -65,7 +66,6 @@ use Rattle.xapool.proofs.DemandLaws.{
   stands-by,
   run-as,
   decoded,
-  getD-out,
   demand-3,
   Started,
   started,

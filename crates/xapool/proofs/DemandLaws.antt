@@ -11,6 +11,7 @@ use lib.Seq.{getD-take}
 use borrow.Author.Tests.{eq-eqb, le-ltb, ltb-true, ltb-false}
 use Rattle.blocks.specs.Lists.{All, end, also}
 use Rattle.blocks.proofs.BoolLaws.{byT}
+use Rattle.blocks.proofs.ListLaws.{getD-out}
 use Rattle.blocks.proofs.UpToLaws.{length-upTo}
 use Rattle.model.specs.declared.Entry.{Entry}
 use Rattle.tree.specs.Tree.{Node}
@@ -123,11 +124,6 @@ module _ {n : ℕ} {l : List Entry} {os : Places} {ws : List ℕ} (lo : 1 ≤ n)
     call-stands Call.check b = stay
     call-stands (Call.batch bs rs) b = batch-stands bs rs b
     call-stands (Call.list a z bs) b = stay
-
-pub getD-out : (xs : List ℕ) (i : ℕ) → length xs ≤ i → getD xs i 0 ≡ 0
-getD-out [] i h = refl
-getD-out (x ∷ xs) zero h = absurd (omega arith)
-getD-out (x ∷ xs) (suc i) h = getD-out xs i (omega arith)
 
 -- R104: the words after each command of a batch that runs
 bytes-take : {bs : List ℕ} (p : ℕ) → Bytes bs → Bytes (take p bs)

@@ -5,7 +5,8 @@ use mathlib.Core.List.{List, [], _∷_}
 use native.Mathlib.Omega.{arith}
 use lib.ListN.{length, length-append}
 use Rattle.model.specs.declared.Entry.{Entry}
-use Rattle.layout.specs.WellFormed.{WellFormed, InUse, Prescribed}
+use Rattle.layout.specs.WellFormed.{WellFormed, Prescribed}
+use Rattle.freemap.specs.FreeMap.{FreeMap}
 use Rattle.decode.proofs.PrescribedWords.{count-is}
 use Rattle.decode.proofs.DecodeLaws.{unique}
 use Rattle.batch.specs.Bytes.{writeFrom, overwrite}
@@ -71,11 +72,11 @@ same-commands : {p : Parsed} {xs ys : List Command} → p ≡ Parsed.commands xs
 same-commands e f = cc
 
 -- THE START
-pub running-start : {pool reply batch : List ℕ} → WellFormed pool → Ahead batch 0 (length reply) 0 →
-    Running pool reply batch pool reply 0 0 0
-running-start {pool} {reply} s a = record {
+pub running-start : {pool map reply batch : List ℕ} → WellFormed pool → FreeMap pool map → Ahead batch 0 (length reply) 0 →
+    Running pool reply batch pool map reply 0 0
+running-start {reply = reply} s f a = record {
   formed = s;
-  used = record { at-most = omega arith; used = λ m h. absurd (omega arith) };
+  mapped = f;
   ahead = a;
   same-length = refl;
   leads = λ s₀ cs e ws′ reply′ r. subst (λ (x : List Command). Ends s₀ x 0 reply ws′ reply′)
@@ -118,8 +119,8 @@ replies-length n l (c ∷ cs) =
     length-append (encode (execute n l c .reply)) (replies n (execute n l c .list) cs)
     ∙ omega (arith, replies-length n (execute n l c .list) cs)
 
-module _ {pool₀ reply₀ batch pool reply : List ℕ} {at out low : ℕ}
-    (r : Running pool₀ reply₀ batch pool reply at out low)
+module _ {pool₀ reply₀ batch pool map reply : List ℕ} {at out : ℕ}
+    (r : Running pool₀ reply₀ batch pool map reply at out)
   where
     -- there is room for the reply of a command that was read
     pub room-for : {c : Command} {k : Cursor} → Next c k ≡ readAt batch at → out + replyBytes ≤ length reply
@@ -129,16 +130,16 @@ module _ {pool₀ reply₀ batch pool reply : List ℕ} {at out low : ℕ}
         omega (arith, r .ahead .room)
 
     pub running-on : {c : Command} {k : Cursor} → Next c k ≡ readAt batch at → Fits c →
-        {pool′ reply′ : List ℕ} {low′ : ℕ} →
-        Turned (r .formed) c out reply pool′ reply′ → InUse low′ pool′ → length reply′ ≡ length reply →
-        Running pool₀ reply₀ batch pool′ reply′ (k .at) (out + replyBytes) low′
-    running-on {c} {k} e f {pool′} {reply′} {low′} d u len =
+        {pool′ map′ reply′ : List ℕ} →
+        Turned (r .formed) c out reply pool′ reply′ → FreeMap pool′ map′ → length reply′ ≡ length reply →
+        Running pool₀ reply₀ batch pool′ map′ reply′ (k .at) (out + replyBytes)
+    running-on {c} {k} e f {pool′} {map′} {reply′} d u len =
         let s : WellFormed pool = r .formed in
         let a : After batch at (k .at) c (r .ahead .rest) = read-after batch at e (r .ahead .rest-is) in
         let q : length (r .ahead .rest) ≡ suc (length (a .rest)) = ap length (a .whole) in
         record {
           formed = formed-after s c f (d .words-are);
-          used = u;
+          mapped = u;
           ahead = record { rest = a .rest; rest-is = a .rest-is; room = omega (arith, r .ahead .room) };
           same-length = len ∙ r .same-length;
           leads = λ s₀ cs g ws′ rs′ x. r .leads s₀ cs g ws′ rs′

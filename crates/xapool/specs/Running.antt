@@ -4,7 +4,8 @@ use mathlib.Core.Path.{_≡_}
 use mathlib.Core.List.{List}
 use lib.ListN.{length}
 use Rattle.layout.specs.Places.{render}
-use Rattle.layout.specs.WellFormed.{WellFormed, InUse}
+use Rattle.layout.specs.WellFormed.{WellFormed}
+use Rattle.freemap.specs.FreeMap.{FreeMap}
 use Rattle.batch.specs.Bytes.{overwrite}
 use Rattle.batch.specs.declared.Command.{Command}
 use Rattle.batch.specs.Batch.{Parsed, Parsed.commands, restAt}
@@ -37,9 +38,9 @@ pub record Turned {pool : List ℕ} (s : WellFormed pool) (c : Command) (out : �
     pub reply-is : reply′ ≡ overwrite reply out (encode (replyTo s c))
 
 -- between two commands: what is left of the batch leads to what the whole batch leads to
-pub record Running (pool₀ reply₀ batch pool reply : List ℕ) (at out low : ℕ) : Type 0 where
+pub record Running (pool₀ reply₀ batch pool map reply : List ℕ) (at out : ℕ) : Type 0 where
   pub formed : WellFormed pool
-  pub used : InUse low pool
+  pub mapped : FreeMap pool map
   pub ahead : Ahead batch at (length reply) out
   pub same-length : length reply ≡ length reply₀
   pub leads : (s₀ : WellFormed pool₀) (cs : List Command) → restAt batch 0 ≡ Parsed.commands cs →

@@ -2,17 +2,19 @@
 // refuses what it cannot use, and says what its result is and what is in all that it was lent (R138).
 //
 // pool: the borrowed words; batch: the borrowed bytes of the commands; reply: the borrowed bytes for their replies;
-// at: a place in the batch; out: a place in the reply; low: every node below it is in use.
+// at: a place in the batch; out: a place in the reply; map: the map of the pool's free nodes.
 use batch::Command;
 use batch::Counted;
 use batch::REPLY_BYTES;
 use batch::Read;
+use freemap::MAP_WORDS;
 use listing::Listed;
 ghost use mathlib.Core.Path.{_≡_};
 ghost use mathlib.Core.List.{List};
 ghost use Prim.Native.Nat.{_+_, _*_, _≤_};
 ghost use lib.ListN.{length};
-ghost use Rattle.layout.specs.WellFormed.{WellFormed, InUse};
+ghost use Rattle.layout.specs.WellFormed.{WellFormed};
+ghost use Rattle.freemap.specs.FreeMap.{FreeMap};
 ghost use Rattle.batch.specs.Batch.{restAt, counted, parse};
 ghost use Rattle.batch.specs.Batch;
 ghost use Rattle.batch.specs.Reply.{replyBytes};
@@ -43,23 +45,22 @@ pub struct Result {
 }
 
 // One command, with its reply written at `out`.
-fn run_one(pool: &mut [u64], c: Command, reply: &mut [u8], out: usize, low: u64) -> u64
+fn run_one(pool: &mut [u64], map: &mut [u64], c: Command, reply: &mut [u8], out: usize)
     requires { ⌜ WellFormed (now pool) ⌝ }
-    requires { ⌜ InUse low (now pool) ⌝ }
+    requires { ⌜ FreeMap (now pool) (now map) ⌝ }
     requires { ⌜ out + replyBytes ≤ length (now reply) ⌝ }
-    ensures { λ r. ⌜ ((s : WellFormed (now (pool .entry))) →
+    ensures { λ _. ⌜ ((s : WellFormed (now (pool .entry))) →
         Turned s c out (now (reply .entry)) (now (pool .exit)) (now (reply .exit))) ⌝ }
-    ensures { λ r. ⌜ InUse r (now (pool .exit)) ⌝ }
+    ensures { λ _. ⌜ FreeMap (now (pool .exit)) (now (map .exit)) ⌝ }
 {
-    let x = execute::execute(pool, c, low);
-    let r = x.reply;
+    let r = execute::execute(pool, map, c);
     batch::write_reply(reply, out, r);
-    x.low
 }
 
 // The commands of a batch in order, each on the pool that the last one left.
-fn run_all(pool: &mut [u64], batch: &[u8], reply: &mut [u8])
+fn run_all(pool: &mut [u64], map: &mut [u64], batch: &[u8], reply: &mut [u8])
     requires { ⌜ WellFormed (now pool) ⌝ }
+    requires { ⌜ FreeMap (now pool) (now map) ⌝ }
     requires { ⌜ Ahead (now batch) 0 (length (now reply)) 0 ⌝ }
     ensures { λ _. ⌜ ((s : WellFormed (now (pool .entry))) (cs : List Command) →
         restAt (now (batch .entry)) 0 ≡ Batch.Parsed.commands cs →
@@ -67,12 +68,11 @@ fn run_all(pool: &mut [u64], batch: &[u8], reply: &mut [u8])
 {
     let mut at: usize = 0;
     let mut out: usize = 0;
-    let mut low: u64 = 0;
     loop {
         let r = batch::read_at(batch, at);
         match r {
             Read::Next(c, next) => {
-                low = run_one(pool, c, reply, out, low);
+                run_one(pool, map, c, reply, out);
                 at = next.at;
                 out = out + REPLY_BYTES;
             }
@@ -87,8 +87,9 @@ fn run_all(pool: &mut [u64], batch: &[u8], reply: &mut [u8])
 }
 
 // A batch of k commands, on a pool that the check passed.
-fn run_counted(pool: &mut [u64], batch: &[u8], reply: &mut [u8], k: u64) -> Result
+fn run_counted(pool: &mut [u64], map: &mut [u64], batch: &[u8], reply: &mut [u8], k: u64) -> Result
     requires { ⌜ checkAnswer (now pool) ≡ 0 ⌝ }
+    requires { ⌜ FreeMap (now pool) (now map) ⌝ }
     requires { ⌜ Commands k ≡ counted (parse (now batch)) ⌝ }
     ensures { λ r. ⌜ r ≡ Calls.run (now (pool .entry)) (now (batch .entry)) (now (reply .entry)) .result ⌝ }
     ensures { λ _. ⌜ now (pool .exit) ≡ Calls.run (now (pool .entry)) (now (batch .entry)) (now (reply .entry)) .words ⌝ }
@@ -101,7 +102,7 @@ fn run_counted(pool: &mut [u64], batch: &[u8], reply: &mut [u8], k: u64) -> Resu
             number: k,
         };
     }
-    run_all(pool, batch, reply);
+    run_all(pool, map, batch, reply);
     Result {
         answer: DONE,
         number: k,
@@ -140,7 +141,8 @@ pub extern "C" fn xapool_run(pool: &mut [u64], batch: &[u8], reply: &mut [u8]) -
     ensures { λ _. ⌜ now (pool .exit) ≡ Calls.run (now (pool .entry)) (now (batch .entry)) (now (reply .entry)) .words ⌝ }
     ensures { λ _. ⌜ now (reply .exit) ≡ Calls.run (now (pool .entry)) (now (batch .entry)) (now (reply .entry)) .reply ⌝ }
 {
-    let answer = verify::check(pool);
+    let mut map = [0u64; MAP_WORDS];
+    let answer = verify::check_map(pool, &mut map);
     if answer != DONE {
         return Result {
             answer: answer,
@@ -153,7 +155,7 @@ pub extern "C" fn xapool_run(pool: &mut [u64], batch: &[u8], reply: &mut [u8]) -
             answer: BAD_RECORD,
             number: place,
         },
-        Counted::Commands(k) => run_counted(pool, batch, reply, k),
+        Counted::Commands(k) => run_counted(pool, &mut map, batch, reply, k),
     }
 }
 

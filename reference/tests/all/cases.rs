@@ -247,14 +247,14 @@ fn case_14_bytes_of_a_store_and_of_a_reply() {
 
 #[test]
 fn case_15_pool_lengths() {
-    for (length, count) in [(74, 1), (70_004, 1000)] {
+    for (length, count) in [(74, 1), (70_004, 1000), (1_146_884, 16_384)] {
         let mut words = vec![JUNK; length];
         assert_eq!(init(&mut words), outcome(0, 0));
         assert_eq!(words, words_with(count, &[]));
         assert_eq!(check(&words), outcome(0, 0));
         assert_eq!(run(&mut words, &[], &mut []), outcome(0, 0));
     }
-    for length in [73, 70_074] {
+    for length in [73, 1_146_954] {
         let mut words = vec![JUNK; length];
         assert_eq!(init(&mut words), outcome(1, 0));
         assert_eq!(check(&words), outcome(1, 0));
@@ -263,18 +263,25 @@ fn case_15_pool_lengths() {
     }
 }
 
-/// 736 loads of 11 bytes and 8 marks of 12 bytes are 8,192 bytes.
+/// 2,968 loads of 11 bytes and 10 marks of 12 bytes are 32,768 bytes.
 #[test]
 fn case_15_batch_lengths() {
-    let mut batch = bytes_of(Command::Load { index: 0 }).repeat(736);
-    batch.extend(bytes_of(Command::Mark { index: 0, mark: 0 }).repeat(8));
-    assert_eq!(batch.len(), 8192);
+    let mut batch = loads_and_marks(2968, 10);
+    assert_eq!(batch.len(), 32_768);
     let mut pool = Pool::fresh(1);
-    pool.run(&batch, 744);
+    pool.run(&batch, 2978);
 
     batch.push(2);
-    let mut reply = vec![UNTOUCHED; 24 * 744];
-    assert_eq!(run(&mut pool.words, &batch, &mut reply), outcome(3, 8192));
-    assert_eq!(reply, vec![UNTOUCHED; 24 * 744]);
+    let mut reply = vec![UNTOUCHED; 24 * 2978];
+    assert_eq!(run(&mut pool.words, &batch, &mut reply), outcome(3, 32_768));
+    assert_eq!(reply, vec![UNTOUCHED; 24 * 2978]);
     pool.assert_words(&[]);
+}
+
+/// Too long before request P8: 735 loads and 9 marks.
+#[test]
+fn a_batch_of_8193_bytes_runs() {
+    let batch = loads_and_marks(735, 9);
+    assert_eq!(batch.len(), 8193);
+    Pool::fresh(1).run(&batch, 744);
 }

@@ -230,6 +230,23 @@ fn any_numbering_is_well_formed() {
     pool.assert_words(&named);
 }
 
+/// The largest pool, with the last node as head: the numbers of its nodes take more than 10 bits.
+#[test]
+fn the_last_of_16384_nodes() {
+    let (head, low, high) = (16_383, 16_382, 1000);
+    let mut named = vec![(1, node_word(head))];
+    named.extend(node(head, 6, 0, &[(0, node_word(low)), (1, node_word(high))]));
+    named.extend(node(low, 0, 1 + 64 * 16_383, &[(0, 3)]));
+    named.extend(node(high, 0, 1 + 64 * 16_383 + 1, &[(0, 5)]));
+    let mut pool = Pool { words: words_with(16_384, &named) };
+    assert_eq!(pool.words[1], 4 * 17_407 + 2);
+    pool.expect_load(64, counting(gives(64, 0, 5, 0), 2));
+    pool.expect_erase(64, gives(64, 0, 5, 0));
+    pool.assert_words(&[(1, 3)]);
+    assert_damaged(&words_with(16_384, &[(1, node_word(16_384))]));
+    assert_damaged(&with_word(&words_with(16_384, &[]), count_at(16_383), 1));
+}
+
 /// Words that look like parts of a tree, thrown together; most are damaged, none does harm.
 #[test]
 fn random_words_do_no_harm() {

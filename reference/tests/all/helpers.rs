@@ -120,6 +120,12 @@ pub fn bytes_of(command: Command) -> Vec<u8> {
     }
 }
 
+/// Records of 11 and of 12 bytes, whatever they find.
+pub fn loads_and_marks(loads: usize, marks: usize) -> Vec<u8> {
+    let (load, mark) = (Command::Load { index: 0 }, Command::Mark { index: 0, mark: 0 });
+    [bytes_of(load).repeat(loads), bytes_of(mark).repeat(marks)].concat()
+}
+
 pub fn batch_of(commands: &[Command]) -> Vec<u8> {
     commands.iter().flat_map(|command| bytes_of(*command)).collect()
 }

@@ -58,10 +58,20 @@ fn a_refused_call_is_six_bytes() {
     assert_eq!(program(&vec![0; 30_000]), [255, 0, 3, 3, 0x20, 0]);
 }
 
+/// Whole records of 8,193 and 32,768 bytes, which a pool's run takes, and of one byte more.
+#[test]
+fn the_program_takes_no_more_than_8192_bytes() {
+    for (loads, marks, length) in [(735, 9, 8193), (2968, 10, 32_768)] {
+        let batch = loads_and_marks(loads, marks);
+        assert_eq!(batch.len(), length);
+        assert_eq!(program(&batch), [255, 0, 3, 3, 0x20, 0]);
+        assert_eq!(program(&[&batch[..], &[2]].concat()), [255, 0, 3, 3, 0x20, 0]);
+    }
+}
+
 #[test]
 fn a_batch_of_8192_bytes() {
-    let mut batch = bytes_of(Command::Load { index: 0 }).repeat(736);
-    batch.extend(bytes_of(Command::Mark { index: 0, mark: 0 }).repeat(8));
+    let batch = loads_and_marks(736, 8);
     assert_eq!(batch.len(), 8192);
     let expected = [only(10).bytes(2).repeat(736), only(10).bytes(4).repeat(8)].concat();
     assert_eq!(program(&batch), expected);

@@ -20,13 +20,13 @@ fn load() -> Vec<u8> {
 
 #[test]
 fn pool_lengths() {
-    for length in [0, 1, 4, 5, 73, 75, 143, 145, 69_004, 70_003, 70_005, 70_074] {
+    for length in [0, 1, 4, 5, 73, 75, 143, 145, 70_003, 70_005, 1_146_883, 1_146_885, 1_146_954] {
         let words = vec![0; length];
         assert_eq!(init(&mut words.clone()), outcome(1, 0), "length {length}");
         assert_eq!(check(&words), outcome(1, 0), "length {length}");
         assert_eq!(refused(&words, &[9], 0), outcome(1, 0), "length {length}");
     }
-    for count in [1, 2, 3, 999, 1000] {
+    for count in [1, 2, 3, 1000, 1001, 16_383, 16_384] {
         let mut words = vec![JUNK; length_of(count)];
         assert_eq!(init(&mut words), outcome(0, 0));
         assert_eq!(check(&words), outcome(0, 0));
@@ -43,7 +43,7 @@ fn a_wrong_length_comes_before_wrong_words() {
 fn wrong_words_come_before_a_bad_batch() {
     assert_eq!(refused(&[JUNK; 74], &[], 0), outcome(2, 0));
     assert_eq!(refused(&[JUNK; 74], &[9], 0), outcome(2, 0));
-    assert_eq!(refused(&[JUNK; 74], &[0; 9000], 0), outcome(2, 0));
+    assert_eq!(refused(&[JUNK; 74], &[0; 40_000], 0), outcome(2, 0));
     assert_eq!(refused(&[0; 74], &load(), 0), outcome(2, 0));
 }
 
@@ -115,10 +115,12 @@ fn the_first_bad_record_decides() {
 #[test]
 fn too_long_whatever_its_bytes() {
     let pool = Pool::fresh(1);
-    for length in [8193, 8194, 20_000, 100_000] {
-        assert_eq!(refused(&pool.words, &vec![0; length], 0), outcome(3, 8192));
+    for length in [32_769, 32_770, 65_536, 100_000] {
+        assert_eq!(refused(&pool.words, &vec![0; length], 0), outcome(3, 32_768));
     }
-    assert_eq!(refused(&pool.words, &[0; 8192], 0), outcome(3, 0));
+    for length in [8192, 8193, 32_768] {
+        assert_eq!(refused(&pool.words, &vec![0; length], 0), outcome(3, 0));
+    }
 }
 
 #[test]

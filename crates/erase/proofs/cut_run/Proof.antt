@@ -2,7 +2,6 @@
 use Prim.Native.Nat.{_+_}
 use mathlib.Core.Path.{_≡_, _∙_}
 use native.Mathlib.Omega.{arith}
-use native.Mathlib.Nat.{le-refl}
 use Rattle.blocks.specs.Blocks.{block}
 use Rattle.blocks.proofs.BlockLaws.{pow-pos}
 use Rattle.tree.specs.Tree.{tierOrder}
@@ -10,11 +9,10 @@ use Rattle.layout.specs.WellFormed.{WellFormed, num}
 use Rattle.lookup.specs.Views.{Holds}
 use Rattle.erase.specs.Leaving.{Unmarked}
 use Rattle.erase.proofs.LeavingLaws.{run-at, run-stands, run-fits, run-small, run-wide, run-counted, cut-start}
-use Rattle.erase.proofs.FreedLaws.{taken, count-spares}
+use Rattle.erase.proofs.FreedLaws.{taken, taken-map}
 use borrow.Author.Needs.{needs}
 use Rattle.erase.proofs.cut_run.Statement.{statement}
 use Rattle.erase.proofs.cut_run.Tie as tie
-use Rattle.layout.proofs.SparesLaws.{spares-then, run-spares}
 
 -- how many slots the entry takes
 order : (c : tie.After-order-of) (s : WellFormed (c .before .before .before .args .pool .now))
@@ -86,8 +84,7 @@ returns c = let l = start-from-slice-known3 c .pre in
       (λ s h un. cut-start s h un _ (order (order-of-from-slice-known3 c) s h un)
           (c .before .before .empty-slots .kept .0 ∙ uncount-from-slice-known3 c .uncount .kept .0)
           (omega (arith, t .counted)) (λ j a b. t .emptied j a (omega arith)) (t .before) (λ j a. t .after j (omega arith))),
-      λ low. spares-then (le-refl low) (count-spares _ _ (uncount-from-slice-known3 c .uncount .ensures) low)
-          (run-spares _ _ _ (omega arith) (c .before .before .empty-slots .ensures) low),
+      λ ms F. taken-map (a .at .node) (a .at .slot) _ (omega arith) t F,
     )
 
 pub cut-run-spec : {M : Type 1} → statement M

@@ -14,11 +14,10 @@ use Rattle.erase.proofs.LowerLaws.{
   drop-held,
   not-sibling,
 }
-use Rattle.erase.proofs.FreedLaws.{raised-spares, freed-spares}
+use Rattle.erase.proofs.FreedLaws.{sheds-none, raised-sheds, freed-sheds}
 use borrow.Author.Needs.{needs}
 use Rattle.erase.proofs.drop_head.Statement.{statement}
 use Rattle.erase.proofs.drop_head.Tie as tie
-use Rattle.layout.proofs.SparesLaws.{spares-same}
 
 -- THE PLACES IN THE CODE, each from one after it
 abbrev start-from-else1 : tie.Else1 → tie.Start
@@ -121,7 +120,7 @@ returns c = (
     yes = λ e. absurd (clash e refl);
     no = λ _. stay-filled w (start-from-then1 c .pre .0) t q (λ z. c .if1 .taken (c .before .filled-of .ensures ∙ z));
   }),
-  λ low _. spares-same low _,
+  sheds-none _ _,
 )
 
 slot-word-requires : tie.Need-slot-word-requires
@@ -162,7 +161,7 @@ returns-2 c = (
         (inl (c .before .enum-told .given .1))
         (λ z. omega (arith, c .if2 .taken, z));
   }),
-  λ low _. spares-same low _,
+  sheds-none _ _,
 )
 
 free-head-requires : tie.Need-free-head-requires
@@ -190,7 +189,7 @@ returns-3 c = (
         (inr (c .before .enum-told4 .given .1))
         (λ z. omega (arith, c .if3 .taken, z));
   }),
-  λ low _. spares-same low _,
+  sheds-none _ _,
 )
 
 free-head-requires-2 : tie.Need-free-head-requires-2
@@ -210,7 +209,7 @@ returns-4 c = let d = c .before .before .raise .ensures in (
         (d .gone) (d .own) (d .head) (d .rest);
     no = λ e. absurd (clash refl e);
   }),
-  λ low le. raised-spares d low (le refl),
+  raised-sheds d,
 )
 
 same-length-5 : tie.Need-same-length-5
@@ -227,7 +226,7 @@ returns-5 c = let d = c .before .before .free-head .ensures in (
         (c .before .before .free-head .kept .0) (d .gone) (d .head) (d .rest);
     no = λ e. absurd (clash refl e);
   }),
-  λ low le. freed-spares d low (le refl),
+  freed-sheds d,
 )
 
 same-length-6 : tie.Need-same-length-6
@@ -242,7 +241,7 @@ returns-6 c = (
         (c .enum-told2 .given .1) (sym (filled-of-from-enum-told2 c .filled-of .ensures) ∙
         else1-from-enum-told2 c .if1 .left);
   }),
-  λ low _. spares-same low _,
+  sheds-none _ _,
 )
 
 same-length-7 : tie.Need-same-length-7
@@ -256,7 +255,7 @@ returns-7 c = (
         .0) t q (c .before .before .before .slot-word .ensures) (c .before .before .read-slot .ensures) _
         (c .enum-told3 .given .1));
   }),
-  λ low _. spares-same low _,
+  sheds-none _ _,
 )
 
 same-length-8 : tie.Need-same-length-8
@@ -273,7 +272,7 @@ returns-8 c = let d = c .before .before .free-head2 .ensures in (
         (c .before .before .free-head2 .kept .0) (d .gone) (d .head) (d .rest);
     no = λ e. absurd (clash refl e);
   }),
-  λ low le. freed-spares d low (le refl),
+  freed-sheds d,
 )
 
 pub drop-head-spec : {M : Type 1} → statement M

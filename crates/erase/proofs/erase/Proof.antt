@@ -4,7 +4,7 @@ use native.Mathlib.Omega.{arith}
 use lib.ListN.{length-set}
 use Rattle.model.specs.Model.{covered}
 use Rattle.lookup.proofs.HeadLaws.{at-apart, at-vacant, at-head, at-spot}
-use Rattle.erase.proofs.ErasedLaws.{words-gap, words-head, in-use-head}
+use Rattle.erase.proofs.ErasedLaws.{words-gap, words-head, map-head}
 use borrow.Author.Needs.{needs}
 use Rattle.erase.proofs.erase.Statement.{statement}
 use Rattle.erase.proofs.erase.Tie as tie
@@ -12,25 +12,25 @@ use Rattle.layout.proofs.RenderWordLaws.{pool-length}
 
 -- THE PLACES IN THE CODE, each from one after it
 abbrev start-from-enum-told : tie.After-enum-told → tie.Start
-start-from-enum-told c = c .before .before .before .before .before
+start-from-enum-told c = c .before .before .before .before .before .before
 
 abbrev start-from-enum-told2 : tie.After-enum-told2 → tie.Start
-start-from-enum-told2 c = c .before .before .before .before .before
+start-from-enum-told2 c = c .before .before .before .before .before .before
 
 abbrev start-from-known-told : tie.After-known-told → tie.Start
-start-from-known-told c = c .before .before .before .before .before .before
+start-from-known-told c = c .before .before .before .before .before .before .before
 
-abbrev locate-from-remove-arg : tie.After-remove-arg → tie.After-locate
-locate-from-remove-arg c = c .before .before .before .before
+abbrev k2-from-remove-arg2 : tie.After-remove-arg2 → tie.After-k2
+k2-from-remove-arg2 c = c .before .before .before
 
-abbrev start-from-remove-arg : tie.After-remove-arg → tie.Start
-start-from-remove-arg c = locate-from-remove-arg c .before .before .before
+abbrev locate-from-remove-arg2 : tie.After-remove-arg2 → tie.After-locate
+locate-from-remove-arg2 c = k2-from-remove-arg2 c .before .before
 
-abbrev k2-from-slice-known2 : tie.After-slice-known2 → tie.After-k2
-k2-from-slice-known2 c = c .before .before .before .before .before
+abbrev start-from-remove-arg2 : tie.After-remove-arg2 → tie.Start
+start-from-remove-arg2 c = locate-from-remove-arg2 c .before .before .before .before
 
-abbrev locate-from-slice-known2 : tie.After-slice-known2 → tie.After-locate
-locate-from-slice-known2 c = k2-from-slice-known2 c .before .before
+abbrev remove-from-slice-known4 : tie.After-slice-known4 → tie.After-remove
+remove-from-slice-known4 c = c .before .before .before .before
 
 locate-requires : tie.Need-locate-requires
 locate-requires c κs = search needs
@@ -58,10 +58,10 @@ enum-known-k-2 : tie.Need-enum-known-k-2
 enum-known-k-2 c = search needs
 
 remove-requires : tie.Need-remove-requires
-remove-requires c κs = let s = start-from-remove-arg c .pre .0 in
-    let (q, h, t, le, d) = at-spot _ _ _ (locate-from-remove-arg c .locate .ensures s)
-    (c .before .before .k2 .given .1) in (
-      start-from-remove-arg c .pre .1,
+remove-requires c κs = let s = start-from-remove-arg2 c .pre .0 in
+    let (q, h, t, le, d) = at-spot _ _ _ (locate-from-remove-arg2 c .locate .ensures s)
+    (k2-from-remove-arg2 c .k2 .given .1) in (
+      start-from-remove-arg2 c .pre .1,
       record { formed = s; holds = h; height-is = t },
     )
 
@@ -103,26 +103,27 @@ returns-3 c = (
   (
     (λ s. let (z, q) = at-head _ (c .before .before .before .locate .ensures s) (c .before .k .given .1) in
         words-head s _ _ q z),
-    in-use-head (start-from-known-told c .pre .1),
+    map-head (start-from-known-told c .pre .1),
   ),
 )
 
 same-length-4 : tie.Need-same-length-4
 same-length-4 c = search needs
 
+same-length-5 : tie.Need-same-length-5
+same-length-5 c = search needs
+
 returns-4 : tie.Need-returns-4
-returns-4 c = (
-  (λ s. let (q, h, t, le, d) = at-spot _ _ _
-      (locate-from-slice-known2 c .locate .ensures s)
-      (k2-from-slice-known2 c .k2 .given .1) in
-      ap covered (sym q)),
-  (
-    (λ s. let (q, h, t, le, d) = at-spot _ _ _ (locate-from-slice-known2 c .locate
-        .ensures s) (k2-from-slice-known2 c .k2 .given .1) in
-        c .before .before .remove .ensures .1 s h t),
-    c .before .before .remove .ensures .0,
-  ),
-)
+returns-4 c = let e = remove-from-slice-known4 c .remove .ensures in
+    let a = remove-from-slice-known4 c .before in (
+      (λ s. let (q, h, t, le, d) = at-spot _ _ _ (locate-from-remove-arg2 a .locate .ensures s)
+          (k2-from-remove-arg2 a .k2 .given .1) in ap covered (sym q)),
+      (
+        (λ s. let (q, h, t, le, d) = at-spot _ _ _ (locate-from-remove-arg2 a .locate .ensures s)
+            (k2-from-remove-arg2 a .k2 .given .1) in e .1 s h t),
+        e .0,
+      ),
+    )
 
 pub erase-spec : {M : Type 1} → statement M
 erase-spec =
@@ -143,4 +144,5 @@ erase-spec =
     same-length-3
     returns-3
     same-length-4
+    same-length-5
     returns-4)

@@ -1,78 +1,85 @@
 -- `prune_up`: frees node first, which lost the entry that covered i, and those over it, as far as they are empty.
-use Prim.Native.Nat.{ℕ, suc, _-_, _/_, _<_, _≤_}
+use Prim.Native.Nat.{ℕ, suc, _-_, _/_, _<_}
 use mathlib.Core.Path.{_≡_, refl, sym, _∙_}
 use mathlib.Core.List.{List}
 use native.Mathlib.Omega.{arith}
 use native.Mathlib.Numerals.{add-one}
-use lib.ListN.{length}
+use lib.ListN.{length, getD}
 use Rattle.tree.specs.Tree.{slots, topTier}
-use Rattle.layout.specs.Words.{maxNodes, lastPlace}
+use Rattle.layout.specs.Words.{maxNodes, lastPlace, countWord}
 use Rattle.layout.specs.WellFormed.{WellFormed}
+use Rattle.freemap.specs.FreeMap.{FreeMap}
+use Rattle.freemap.proofs.MapLaws.{free-sound}
 use Rattle.erase.specs.Leaving.{Cut, Cutting}
 use Rattle.erase.proofs.LeavingLaws.{cut-fits, cut-empty, cut-filled, cut-done, cut-top, cut-next, over-fits, over-counted}
-use Rattle.erase.proofs.FreedLaws.{freed-spares, unlinked-spares}
+use Rattle.erase.proofs.FreedLaws.{freed-sheds, unlinked-sheds, sheds-given}
 use Rattle.erase.proofs.prune_up.Statement.{statement}
 use Rattle.erase.proofs.prune_up.Tie as tie
-use Rattle.layout.specs.Spares.{Spares}
-use Rattle.layout.proofs.SparesLaws.{spares-same, spares-then}
 
 record Bounds (pool₀ pool : List ℕ) (n v : ℕ) : Type 0 where
   node-in : lastPlace n < length pool
   node-lt : n < maxNodes
   tier-lt : v < topTier
+  counted : n < getD pool countWord 0
   same : length pool ≡ length pool₀
 
 bounds : {pool₀ pool : List ℕ} {i v n : ℕ} → Cutting i v n pool → length pool ≡ length pool₀ → Bounds pool₀ pool n v
-bounds k e =
-    let f = cut-fits (k .formed) (k .state) in record { node-in = f .0; node-lt = f .1; tier-lt = f .2; same = e }
+bounds k e = let f = cut-fits (k .formed) (k .state) in
+    record { node-in = f .0; node-lt = f .1; tier-lt = f .2; counted = f .3; same = e }
 
 abbrev Inv-loop : tie.InvT-loop
-Inv-loop pool₀ i first tier low n₀ v₀ floor₀ pool n v floor =
-    Bounds pool₀ pool n v × Cutting i v n pool × (floor ≤ low) × Spares floor pool₀ pool ×
+Inv-loop pool₀ map₀ i first tier n₀ v₀ pool map n v =
+    Bounds pool₀ pool n v × Cutting i v n pool × (length map ≡ length map₀) × FreeMap pool map ×
     ((ws : List ℕ) (s : WellFormed ws) → Cut s i tier first pool₀ → Cut s i v n pool)
 
 abbrev μ-loop : tie.MeasureT-loop
-μ-loop pool₀ i first tier low n₀ v₀ floor₀ pool n v floor = topTier - v
+μ-loop pool₀ map₀ i first tier n₀ v₀ pool map n v = topTier - v
 
 -- THE PLACES IN THE CODE, each from one after it
+abbrev loop-from-give-arg : tie.After-give-arg Inv-loop μ-loop → tie.At-loop Inv-loop μ-loop
+loop-from-give-arg c = c .before .before .before .before
+
+abbrev give-arg-from-owner-of : tie.After-owner-of Inv-loop μ-loop → tie.After-give-arg Inv-loop μ-loop
+give-arg-from-owner-of c = c .before .before .before .before .before
+
+abbrev loop-from-owner-of : tie.After-owner-of Inv-loop μ-loop → tie.At-loop Inv-loop μ-loop
+loop-from-owner-of c = loop-from-give-arg (give-arg-from-owner-of c)
+
 abbrev loop-from-owner-of-arg : tie.After-owner-of-arg Inv-loop μ-loop → tie.At-loop Inv-loop μ-loop
-loop-from-owner-of-arg c = c .before .before .before .before .before
+loop-from-owner-of-arg c = loop-from-give-arg (c .before .before .before .before)
 
 abbrev loop-from-free-head-arg : tie.After-free-head-arg Inv-loop μ-loop → tie.At-loop Inv-loop μ-loop
-loop-from-free-head-arg c = c .before .before .before .before .before .before .before .before
+loop-from-free-head-arg c = loop-from-owner-of (c .before .before)
 
-abbrev else1-from-unlink-arg : tie.After-unlink-arg Inv-loop μ-loop → tie.Else1 Inv-loop μ-loop
-else1-from-unlink-arg c = c .before .before .before .before .before
+abbrev else1-from-owner-of : tie.After-owner-of Inv-loop μ-loop → tie.Else1 Inv-loop μ-loop
+else1-from-owner-of c = give-arg-from-owner-of c .before
 
-abbrev filled-of-from-unlink-arg : tie.After-unlink-arg Inv-loop μ-loop → tie.After-filled-of Inv-loop μ-loop
-filled-of-from-unlink-arg c = else1-from-unlink-arg c .before
+abbrev filled-of-from-owner-of : tie.After-owner-of Inv-loop μ-loop → tie.After-filled-of Inv-loop μ-loop
+filled-of-from-owner-of c = else1-from-owner-of c .before
 
-abbrev loop-from-unlink-arg : tie.After-unlink-arg Inv-loop μ-loop → tie.At-loop Inv-loop μ-loop
-loop-from-unlink-arg c = filled-of-from-unlink-arg c .before .before
+abbrev give-from-owner-of : tie.After-owner-of Inv-loop μ-loop → tie.After-give Inv-loop μ-loop
+give-from-owner-of c = c .before .before .before .before
 
-abbrev then2-from-slice-known2 : tie.After-slice-known2 Inv-loop μ-loop → tie.Then2 Inv-loop μ-loop
-then2-from-slice-known2 c = c .before .before .before .before
+abbrev then2-from-slice-known4 : tie.After-slice-known4 Inv-loop μ-loop → tie.Then2 Inv-loop μ-loop
+then2-from-slice-known4 c = c .before .before .before .before
 
-abbrev owner-of-from-slice-known2 : tie.After-slice-known2 Inv-loop μ-loop → tie.After-owner-of Inv-loop μ-loop
-owner-of-from-slice-known2 c = then2-from-slice-known2 c .before
+abbrev owner-of-from-slice-known4 : tie.After-slice-known4 Inv-loop μ-loop → tie.After-owner-of Inv-loop μ-loop
+owner-of-from-slice-known4 c = then2-from-slice-known4 c .before
 
-abbrev lesser-from-slice-known2 : tie.After-slice-known2 Inv-loop μ-loop → tie.After-lesser Inv-loop μ-loop
-lesser-from-slice-known2 c = owner-of-from-slice-known2 c .before .before
+abbrev else2-from-slice-known5 : tie.After-slice-known5 Inv-loop μ-loop → tie.Else2 Inv-loop μ-loop
+else2-from-slice-known5 c = c .before .before .before .before
 
-abbrev else1-from-slice-known2 : tie.After-slice-known2 Inv-loop μ-loop → tie.Else1 Inv-loop μ-loop
-else1-from-slice-known2 c = lesser-from-slice-known2 c .before
+abbrev owner-of-from-slice-known5 : tie.After-slice-known5 Inv-loop μ-loop → tie.After-owner-of Inv-loop μ-loop
+owner-of-from-slice-known5 c = else2-from-slice-known5 c .before
 
-abbrev filled-of-from-slice-known2 : tie.After-slice-known2 Inv-loop μ-loop → tie.After-filled-of Inv-loop μ-loop
-filled-of-from-slice-known2 c = else1-from-slice-known2 c .before
+abbrev loop-from-slice-known5 : tie.After-slice-known5 Inv-loop μ-loop → tie.At-loop Inv-loop μ-loop
+loop-from-slice-known5 c = loop-from-owner-of (owner-of-from-slice-known5 c)
 
-abbrev loop-from-slice-known2 : tie.After-slice-known2 Inv-loop μ-loop → tie.At-loop Inv-loop μ-loop
-loop-from-slice-known2 c = filled-of-from-slice-known2 c .before .before
-
-abbrev loop-from-slice-known3 : tie.After-slice-known3 Inv-loop μ-loop → tie.At-loop Inv-loop μ-loop
-loop-from-slice-known3 c = c .before .before .before .before .before .before .before .before .before .before .before
+abbrev start-from-slice-known5 : tie.After-slice-known5 Inv-loop μ-loop → tie.Start Inv-loop μ-loop
+start-from-slice-known5 c = loop-from-slice-known5 c .before .before .before
 
 loop-holds : tie.Need-loop-holds Inv-loop μ-loop
-loop-holds c = (bounds (c .before .pre) refl, c .before .pre, omega arith, spares-same _ _, λ ws s k. k)
+loop-holds c = let p = c .before .before .pre in (bounds (p .0) refl, p .0, refl, p .1, λ ws s k. k)
 
 filled-of-requires : tie.Need-filled-of-requires Inv-loop μ-loop
 filled-of-requires c κs = omega (arith, c .before .loop .inv .0 .node-in)
@@ -80,18 +87,18 @@ filled-of-requires c κs = omega (arith, c .before .loop .inv .0 .node-in)
 same-length : tie.Need-same-length Inv-loop μ-loop
 same-length c = c .before .before .before .loop .inv .0 .same
 
+same-length-2 : tie.Need-same-length-2 Inv-loop μ-loop
+same-length-2 c = c .before .before .before .loop .inv .2
+
 returns : tie.Need-returns Inv-loop μ-loop
 returns c = let w = c .before .before .before .loop .inv in (
-  w .2,
-  (
-    w .3,
-    λ ws s k. let k′ = w .4 ws s k in
-        cut-done s k′ (cut-filled s k′ (λ z. c .if1 .taken (c .before .filled-of .ensures ∙ z))),
-  ),
+  w .3,
+  λ ws s k. let k′ = w .4 ws s k in
+      cut-done s k′ (cut-filled s k′ (λ z. c .if1 .taken (c .before .filled-of .ensures ∙ z))),
 )
 
-lesser-requires : tie.Need-lesser-requires Inv-loop μ-loop
-lesser-requires c κs = tt
+give-requires : tie.Need-give-requires Inv-loop μ-loop
+give-requires c κs = let w = loop-from-give-arg c .loop .inv in (free-sound (w .3), omega (arith, w .0 .node-lt))
 
 owner-of-requires : tie.Need-owner-of-requires Inv-loop μ-loop
 owner-of-requires c κs = omega (arith, loop-from-owner-of-arg c .loop .inv .0 .node-in)
@@ -99,24 +106,23 @@ owner-of-requires c κs = omega (arith, loop-from-owner-of-arg c .loop .inv .0 .
 free-head-requires : tie.Need-free-head-requires Inv-loop μ-loop
 free-head-requires c κs = loop-from-free-head-arg c .loop .inv .0 .node-in
 
-same-length-2 : tie.Need-same-length-2 Inv-loop μ-loop
-same-length-2 c = c .before .before .free-head .kept .0 ∙ loop-from-slice-known2 c .loop .inv .0 .same
+same-length-3 : tie.Need-same-length-3 Inv-loop μ-loop
+same-length-3 c =
+    c .before .before .free-head .kept .0 ∙ loop-from-owner-of (owner-of-from-slice-known4 c) .loop .inv .0 .same
+
+same-length-4 : tie.Need-same-length-4 Inv-loop μ-loop
+same-length-4 c = let o = owner-of-from-slice-known4 c in
+    give-from-owner-of o .give .kept .0 ∙ loop-from-owner-of o .loop .inv .2
 
 returns-2 : tie.Need-returns-2 Inv-loop μ-loop
-returns-2 c = let w = loop-from-slice-known2 c .loop
-    .inv in
-    let d = c .before .before .free-head .ensures in
-    let e = lesser-from-slice-known2 c .lesser .ensures in
-    let le = w .2 in (
-      omega arith,
-      (
-        spares-then (omega arith) (w .3) (freed-spares d _ (omega arith)),
-        λ ws s k. let k′ = w .4 ws s k in
-            cut-top s k′ (cut-empty s k′ (sym (filled-of-from-slice-known2 c .filled-of .ensures) ∙
-            else1-from-slice-known2 c .if1 .left))
-            (sym (owner-of-from-slice-known2 c .owner-of .ensures) ∙ then2-from-slice-known2 c .if2
-            .taken) (c .before .before .free-head .kept .0) (d .gone) (d .head) (d .rest),
-      ),
+returns-2 c = let o = owner-of-from-slice-known4 c in
+    let w = loop-from-owner-of o .loop .inv in
+    let d = c .before .before .free-head .ensures in (
+      sheds-given (freed-sheds d) (w .3) refl (w .0 .counted) (give-from-owner-of o .give .ensures),
+      λ ws s k. let k′ = w .4 ws s k in
+          cut-top s k′ (cut-empty s k′ (sym (filled-of-from-owner-of o .filled-of .ensures) ∙
+          else1-from-owner-of o .if1 .left)) (sym (o .owner-of .ensures) ∙ then2-from-slice-known4 c .if2 .taken)
+          (c .before .before .free-head .kept .0) (d .gone) (d .head) (d .rest),
     )
 
 sub-m : tie.Need-sub-m Inv-loop μ-loop
@@ -126,79 +132,63 @@ sub-unlink : tie.Need-sub-unlink Inv-loop μ-loop
 sub-unlink c = omega arith
 
 unlink-requires : tie.Need-unlink-requires Inv-loop μ-loop
-unlink-requires c κs = let w = loop-from-unlink-arg c .loop .inv in
+unlink-requires c κs = let o = c .before .before in
+    let w = loop-from-owner-of o .loop .inv in
     let k = w .1 in
-    let g = cut-empty (k .formed) (k .state) (sym (filled-of-from-unlink-arg c .filled-of .ensures) ∙
-    else1-from-unlink-arg c .if1 .left) in (
+    let g = cut-empty (k .formed) (k .state) (sym (filled-of-from-owner-of o .filled-of .ensures) ∙
+    else1-from-owner-of o .if1 .left) in (
       w .0 .node-in,
       (
-        over-fits (k .formed) (k .state) g (c .before .before .owner-of .result) (c .before .before .owner-of .ensures)
-            (c .before .if2 .left) .0,
+        over-fits (k .formed) (k .state) g (o .owner-of .result) (o .owner-of .ensures) (c .before .if2 .left) .0,
         (
           omega arith,
-          over-counted (k .formed) (k .state) g (c .before .before .owner-of .result)
-              (c .before .before .owner-of .ensures) (c .before .if2 .left),
+          over-counted (k .formed) (k .state) g (o .owner-of .result) (o .owner-of .ensures) (c .before .if2 .left),
         ),
       ),
     )
 
 add-v : tie.Need-add-v Inv-loop μ-loop
-add-v c = omega (
-  arith,
-  loop-from-slice-known3 c
-      .loop .inv .0 .tier-lt,
-)
+add-v c = omega (arith, loop-from-slice-known5 c .loop .inv .0 .tier-lt)
 
--- the way up from the node that is freed
-step-cut : (c : tie.After-slice-known3 Inv-loop μ-loop) (ws : List ℕ) (s : WellFormed ws) →
-    Cut s (c .before .before .before .before .before .before .before .before .before .before .before .before .before
-    .args .i) (c .before .before .before .before .before .before .before .before .before .before .before .loop .v)
-    (c .before .before .before .before .before .before .before .before .before .before .before .loop .n)
-    (c .before .before .before .before .before .before .before .before .before .before .before .loop .pool) →
-    Cut s (c .before .before .before .before .before .before .before .before .before .before .before .before .before
-    .args .i) (suc (c .before .before .before .before .before .before .before .before .before .before .before
-    .loop .v)) ((c .before .before .before .before .before .owner-of .result - 1) / slots)
+-- the node over the one that is freed
+abbrev upper : tie.After-slice-known5 Inv-loop μ-loop → ℕ
+upper c = (owner-of-from-slice-known5 c .owner-of .result - 1) / slots
+
+-- the way up to it
+step-cut : (c : tie.After-slice-known5 Inv-loop μ-loop) (ws : List ℕ) (s : WellFormed ws) →
+    Cut s (start-from-slice-known5 c .args .i) (loop-from-slice-known5 c .loop .v) (loop-from-slice-known5 c .loop .n)
+    (loop-from-slice-known5 c .loop .pool) →
+    Cut s (start-from-slice-known5 c .args .i) (suc (loop-from-slice-known5 c .loop .v)) (upper c)
     (c .before .before .unlink .last .0)
 step-cut c ws s k =
+    let o = owner-of-from-slice-known5 c in
     let d = c .before .before .unlink .ensures in
-    let g = cut-empty s k (sym (c .before .before .before .before .before .before .before .before .before .filled-of
-    .ensures) ∙ c .before .before .before .before .before .before .before .before .if1 .left) in
-    let p = c .before .before .before .before .before .owner-of .result in
-    let r = c .before .before .before .before .before .owner-of .ensures in
-    let ne = c .before .before .before .before .if2 .left in
+    let g = cut-empty s k (sym (filled-of-from-owner-of o .filled-of .ensures) ∙ else1-from-owner-of o .if1 .left) in
+    let p = o .owner-of .result in
+    let r = o .owner-of .ensures in
+    let ne = else2-from-slice-known5 c .if2 .left in
     cut-next s k g p r ne (c .before .before .unlink .kept .0) (d .gone) (d .cleared (over-fits s k g p r ne .1))
     (d .counted (over-fits s k g p r ne .1)) (d .rest)
 
-next : (c : tie.After-slice-known3 Inv-loop μ-loop) →
-    Inv-loop (c .before .before .before .before .before .before .before .before .before .before .before .before
-    .before .args .pool .now) (c .before .before .before .before .before .before .before .before .before .before
-    .before .before .before .args .i) (c .before .before .before .before .before .before .before .before .before
-    .before .before .before .before .args .first) (c .before .before .before .before .before .before .before
-    .before .before .before .before .before .before .args .tier)
-    (c .before .before .before .before .before .before .before .before .before .before .before .before .before
-    .args .low)
-    (c .before .before .before .before .before .before .before .before .before .before .before .before .before .args
-    .first) (c .before .before .before .before .before .before .before .before .before .before .before .before
-    .before .args .tier) (c .before .before .before .before .before .before .before .before .before .before
-    .before .before .before .args .low) (c .before .before .unlink .last .0)
-    ((c .before .before .before .before .before .owner-of .result - 1) / slots)
-    (suc (c .before .before .before .before .before .before .before .before .before .before .before .loop .v))
-    (c .before .before .before .before .before .before .before .lesser .result)
+next : (c : tie.After-slice-known5 Inv-loop μ-loop) →
+    Inv-loop (start-from-slice-known5 c .args .pool .now) (start-from-slice-known5 c .args .map .now)
+    (start-from-slice-known5 c .args .i) (start-from-slice-known5 c .args .first)
+    (start-from-slice-known5 c .args .tier) (start-from-slice-known5 c .args .first)
+    (start-from-slice-known5 c .args .tier) (c .before .before .unlink .last .0)
+    (give-from-owner-of (owner-of-from-slice-known5 c) .give .last .0) (upper c)
+    (suc (loop-from-slice-known5 c .loop .v))
 next c =
-    let w = c .before .before .before .before .before .before .before .before .before .before .before .loop .inv in
+    let w = loop-from-slice-known5 c .loop .inv in
     let k = w .1 in
-    let k′ : Cutting (c .before .before .before .before .before .before .before .before .before .before .before
-    .before .before .args .i) (suc (c .before .before .before .before .before .before .before .before .before
-    .before .before .loop .v)) ((c .before .before .before .before .before .owner-of .result - 1) / slots)
+    let k′ : Cutting (start-from-slice-known5 c .args .i) (suc (loop-from-slice-known5 c .loop .v)) (upper c)
     (c .before .before .unlink .last .0) =
     record { before = k .before; formed = k .formed; state = step-cut c (k .before) (k .formed) (k .state) } in
-    let e = c .before .before .before .before .before .before .before .lesser .ensures in
-    let le = w .2 in (
+    let g = give-from-owner-of (owner-of-from-slice-known5 c) .give in (
       bounds k′ (c .before .before .unlink .kept .0 ∙ w .0 .same),
       k′,
-      omega arith,
-      spares-then (omega arith) (w .3) (unlinked-spares (omega arith) (c .before .before .unlink .ensures) _
-          (omega arith)),
+      g .kept .0 ∙ w .2,
+      sheds-given (unlinked-sheds (omega arith) (c .before .before .unlink .ensures)) (w .3) refl (w .0 .counted)
+          (g .ensures),
       λ ws s x. step-cut c ws s (w .4 ws s x),
     )
 
@@ -206,7 +196,7 @@ loop-less : tie.Need-loop-less Inv-loop μ-loop
 loop-less c = omega (
   arith,
   next c .0 .tier-lt,
-  loop-from-slice-known3 c .loop .inv .0 .tier-lt,
+  loop-from-slice-known5 c .loop .inv .0 .tier-lt,
 )
 
 loop-again : tie.Need-loop-again Inv-loop μ-loop
@@ -221,11 +211,13 @@ prune-up-spec =
     loop-holds
     filled-of-requires
     same-length
+    same-length-2
     returns
-    lesser-requires
+    give-requires
     owner-of-requires
     free-head-requires
-    same-length-2
+    same-length-3
+    same-length-4
     returns-2
     sub-m
     sub-unlink

@@ -1,18 +1,21 @@
--- `execute`: one command: its reply, and the number below which every node is in use.
+-- `execute`: one command: its reply, and the map after it.
 use Rattle.execute.proofs.ReplyLaws.{by-command, put-is, put-bare}
 use borrow.Author.Needs.{needs}
 use Rattle.execute.proofs.execute.Statement.{statement}
 use Rattle.execute.proofs.execute.Tie as tie
 
 -- THE PLACES IN THE CODE, each from one after it
-abbrev asked : tie.After-run-store-arg → tie.After-as-put
-asked c = c .before .before
+abbrev took : tie.After-run-store-arg2 → tie.Then1
+took c = c .before .before
+
+abbrev asked : tie.After-run-store-arg2 → tie.After-as-put
+asked c = took c .before
 
 abbrev start : tie.After-as-put → tie.Start
-start c = c .before .before
+start c = c .before .before .before
 
-abbrev stored : tie.After-slice-known2 → tie.After-run-store
-stored c = c .before .before
+abbrev stored : tie.After-slice-known4 → tie.After-run-store
+stored c = c .before .before .before .before
 
 as-put-requires : tie.Need-as-put-requires
 as-put-requires c κs = search needs
@@ -23,17 +26,23 @@ run-store-requires c κs = let x = asked c in let z = start x in (z .pre .0, (z 
 same-length : tie.Need-same-length
 same-length c = search needs
 
+same-length-2 : tie.Need-same-length-2
+same-length-2 c = search needs
+
 returns : tie.Need-returns
 returns c = let y = stored c in let x = asked (y .before) in (
-  (λ s. by-command s (put-is (start x .args .c) (x .as-put .ensures) (y .before .before .if1 .taken)) (y .run-store .ensures .0 s)),
+  (λ s. by-command s (put-is (start x .args .c) (x .as-put .ensures) (took (y .before) .if1 .taken)) (y .run-store .ensures .0 s)),
   y .run-store .ensures .1,
 )
 
 run-other-requires : tie.Need-run-other-requires
 run-other-requires c κs = search needs
 
-same-length-2 : tie.Need-same-length-2
-same-length-2 c = search needs
+same-length-3 : tie.Need-same-length-3
+same-length-3 c = search needs
+
+same-length-4 : tie.Need-same-length-4
+same-length-4 c = search needs
 
 returns-2 : tie.Need-returns-2
 returns-2 c = search needs
@@ -45,7 +54,9 @@ execute-spec =
     as-put-requires
     run-store-requires
     same-length
+    same-length-2
     returns
     run-other-requires
-    same-length-2
+    same-length-3
+    same-length-4
     returns-2)

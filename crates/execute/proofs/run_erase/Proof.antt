@@ -6,6 +6,9 @@ use borrow.Author.Needs.{needs}
 use Rattle.execute.proofs.run_erase.Statement.{statement}
 use Rattle.execute.proofs.run_erase.Tie as tie
 
+abbrev erased : tie.After-covered-reply → tie.After-erase
+erased c = c .before .before .before .before .before
+
 erase-requires : tie.Need-erase-requires
 erase-requires c κs = search needs
 
@@ -15,12 +18,15 @@ covered-reply-requires c κs = search needs
 same-length : tie.Need-same-length
 same-length c = search needs
 
+same-length-2 : tie.Need-same-length-2
+same-length-2 c = search needs
+
 returns : tie.Need-returns
 returns c = (
   (λ s. erases s _ (c .covered-reply .ensures ∙ ap (coveredReply 131)
-      (c .before .before .before .erase .ensures .0 s)) (c .before .before .before .erase .ensures .1 .0 s)),
-  c .before .before .before .erase .ensures .1 .1,
+      (erased c .erase .ensures .0 s)) (erased c .erase .ensures .1 .0 s)),
+  erased c .erase .ensures .1 .1,
 )
 
 pub run-erase-spec : {M : Type 1} → statement M
-run-erase-spec = tie.close (tie.spec erase-requires covered-reply-requires same-length returns)
+run-erase-spec = tie.close (tie.spec erase-requires covered-reply-requires same-length same-length-2 returns)

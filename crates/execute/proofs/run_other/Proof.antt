@@ -52,7 +52,7 @@ nothing-requires-2 : tie.Need-nothing-requires-2
 nothing-requires-2 c κs = search needs
 
 returns : tie.Need-returns
-returns c = absurd (clash (ap (λ (y : Command). putOf y .is) (c .before .enum-told .given .1)) (c .before .before .before .before .pre .1 .1))
+returns c = absurd (clash (ap (λ (y : Command). putOf y .is) (c .before .enum-told .given .1)) (c .before .before .before .before .before .pre .1 .1))
 
 same-length : tie.Need-same-length
 same-length c = search needs
@@ -61,48 +61,51 @@ returns-2 : tie.Need-returns-2
 returns-2 c = (
   (λ s. by-command s (c .before .before .before .c .given .1)
       (leaves-words s _ (load-list (s .n) (s .list) _) (c .run-load .ensures s))),
-  c .before .before .before .before .before .before .pre .1 .0,
+  c .before .before .before .before .before .before .before .pre .1 .0,
 )
 
 same-length-2 : tie.Need-same-length-2
 same-length-2 c = search needs
 
-returns-3 : tie.Need-returns-3
-returns-3 c = (
-  (λ s. by-command s (c .before .before .before .before .before .c2 .given .1) (c .before .before .run-erase .ensures .0 s)),
-  c .before .before .run-erase .ensures .1,
-)
-
 same-length-3 : tie.Need-same-length-3
 same-length-3 c = search needs
 
-returns-4 : tie.Need-returns-4
-returns-4 c = (
-  (λ s. by-command s (c .before .before .before .before .before .c3 .given .1) (c .before .before .run-remark .ensures .0 s)),
-  c .before .before .run-remark .ensures .1 _ (c .before .before .before .before .before .before .before .before .pre .1 .0),
+returns-3 : tie.Need-returns-3
+returns-3 c = let e = c .before .before .before .before in (
+  (λ s. by-command s (e .before .before .before .before .c2 .given .1) (e .run-erase .ensures .0 s)),
+  e .run-erase .ensures .1,
 )
 
 same-length-4 : tie.Need-same-length-4
 same-length-4 c = search needs
 
-returns-5 : tie.Need-returns-5
-returns-5 c = (
-  (λ s. by-command s (c .before .before .before .before .before .c4 .given .1) (c .before .before .run-remark2 .ensures .0 s)),
-  c .before .before .run-remark2 .ensures .1 _ (c .before .before .before .before .before .before .before .before .pre .1 .0),
+returns-4 : tie.Need-returns-4
+returns-4 c = (
+  (λ s. by-command s (c .before .before .before .before .before .c3 .given .1) (c .before .before .run-remark .ensures .0 s)),
+  c .before .before .run-remark .ensures .1 _ (c .before .before .before .before .before .before .before .before .before .pre .1 .0),
 )
 
 same-length-5 : tie.Need-same-length-5
 same-length-5 c = search needs
 
+returns-5 : tie.Need-returns-5
+returns-5 c = (
+  (λ s. by-command s (c .before .before .before .before .before .c4 .given .1) (c .before .before .run-remark2 .ensures .0 s)),
+  c .before .before .run-remark2 .ensures .1 _ (c .before .before .before .before .before .before .before .before .before .pre .1 .0),
+)
+
+same-length-6 : tie.Need-same-length-6
+same-length-6 c = search needs
+
 returns-6 : tie.Need-returns-6
 returns-6 c = (
   (λ s. by-command s (c .before .before .before .c5 .given .1)
       (leaves-words s _ (find-list (s .n) (s .list) _ _ _ _) (c .run-find .ensures s))),
-  c .before .before .before .before .before .before .pre .1 .0,
+  c .before .before .before .before .before .before .before .pre .1 .0,
 )
 
 returns-7 : tie.Need-returns-7
-returns-7 c = absurd (clash (ap (λ (y : Command). putOf y .is) (c .before .enum-told2 .given .1)) (c .before .before .before .before .pre .1 .1))
+returns-7 c = absurd (clash (ap (λ (y : Command). putOf y .is) (c .before .enum-told2 .given .1)) (c .before .before .before .before .before .pre .1 .1))
 
 pub run-other-spec : {M : Type 1} → statement M
 run-other-spec =
@@ -126,11 +129,12 @@ run-other-spec =
     same-length
     returns-2
     same-length-2
-    returns-3
     same-length-3
-    returns-4
+    returns-3
     same-length-4
-    returns-5
+    returns-4
     same-length-5
+    returns-5
+    same-length-6
     returns-6
     returns-7)

@@ -2,7 +2,7 @@
 use Prim.Native.Nat.{ℕ}
 use mathlib.Core.Path.{ap, ap₂, _∙_}
 use Rattle.batch.specs.Reply.{answered}
-use Rattle.erase.proofs.FreedLaws.{in-use-remark}
+use Rattle.erase.proofs.FreedLaws.{map-remark}
 use Rattle.execute.specs.Execute.{markAbove}
 use Rattle.execute.specs.Contracts.{coveredReply, remarking}
 use Rattle.execute.proofs.ReplyLaws.{leaves, remarks, remark-above, remark-runs}
@@ -31,7 +31,7 @@ returns c = let a = start-from-answered c .args in (
   (λ s. leaves s (remarking (a .index) (a .mark) (a .on))
       (remark-above (s .n) (s .list) (a .index) (a .mark) (a .on) (c .before .if1 .taken))
       (c .answered .ensures ∙ ap (λ (t : ℕ). answered t markAbove 0 0) (c .before .before .remarked-tag .ensures))),
-  λ low u. u,
+  λ ms u. u,
 )
 
 set-mark-requires : tie.Need-set-mark-requires
@@ -53,7 +53,7 @@ returns-2 c =
       (λ s. remarks s (remarking (a .index) (a .mark) (a .on)) _ _ _ (a .on)
           (remark-runs (s .n) (s .list) (a .index) (a .mark) (a .on) small)
           (c .covered-reply .ensures ∙ ap₂ coveredReply (tagged .remarked-tag .ensures) (made .0 s)) (made .1 s)),
-      λ low u. in-use-remark (z .pre) _ _ (a .on) small (made .1 (z .pre)) u,
+      λ ms u. map-remark (z .pre) _ _ (a .on) small (made .1 (z .pre)) u,
     )
 
 pub run-remark-spec : {M : Type 1} → statement M

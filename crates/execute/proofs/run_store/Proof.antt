@@ -2,16 +2,17 @@
 use mathlib.Core.Path.{sym, _∙_}
 use Rattle.batch.specs.declared.Command.the-variants.{Store}
 use Rattle.blocks.proofs.BoolLaws.{byT, not-true, not-false}
-use Rattle.execute.proofs.ReplyLaws.{leaves, store-order, store-index, store-word, store-formed, store-in-use, stores, reserves}
+use Rattle.execute.proofs.ReplyLaws.{leaves, store-order, store-index, store-word, store-formed, store-mapped, stores, reserves}
 use Rattle.execute.proofs.ReplyLaws.{put-store, put-reserve, put-order, put-index, put-word, put-enters, put-storable}
-use Rattle.execute.proofs.ReplyLaws.{words-stay, use-stays}
+use Rattle.freemap.proofs.FollowLaws.{map-stays}
+use Rattle.execute.proofs.ReplyLaws.{words-stay}
 use borrow.Author.Needs.{needs}
 use Rattle.execute.proofs.run_store.Statement.{statement}
 use Rattle.execute.proofs.run_store.Tie as tie
 
 -- THE PLACES IN THE CODE, each from one after it
 abbrev start : tie.Else1 → tie.Start
-start c = c .before .before
+start c = c .before .before .before
 
 abbrev ordered : tie.After-is-aligned → tie.Else1
 ordered c = c .before
@@ -19,20 +20,23 @@ ordered c = c .before
 abbrev asked : tie.After-is-enterable → tie.After-is-aligned
 asked c = c .before
 
-abbrev second : tie.After-store-arg → tie.Else2
-second c = c .before .before
+abbrev third : tie.After-store-arg2 → tie.Else3
+third c = c .before .before
+
+abbrev second : tie.After-store-arg2 → tie.Else2
+second c = third c .before
 
 abbrev stored : tie.After-put-reply-arg → tie.After-store
-stored c = c .before .before .before
+stored c = c .before .before .before .before .before
 
-abbrev replied : tie.After-slice-known3 → tie.After-put-reply
+abbrev replied : tie.After-slice-known5 → tie.After-put-reply
 replied c = c .before .before
 
 answered-requires : tie.Need-answered-requires
 answered-requires c κs = search needs
 
 returns : tie.Need-returns
-returns c = let z = c .before .before .before in let a = z .args in (
+returns c = let z = c .before .before .before .before in let a = z .args in (
   (λ s. put-store (a .index) (a .order) (a .word) s
       (put-order (a .index) (a .order) (a .word) (z .pre .1 .1) (c .before .if1 .taken))
       (leaves s (Store _ _ _) (store-order (s .n) (s .list) _ _ _ (c .before .if1 .taken)) (c .answered .ensures))),
@@ -79,7 +83,7 @@ store-requires c κs = let d = second c in let y = d .before in let x = asked y 
         (ordered x .if1 .left, sym (x .is-aligned .ensures) ∙ not-false _ (d .if2 .left)),
         (
           put-enters (a .index) (a .order) (a .word) (z .pre .1 .1)
-              (sym (y .is-enterable .ensures) ∙ not-false _ (c .before .if3 .left)),
+              (sym (y .is-enterable .ensures) ∙ not-false _ (third c .if3 .left)),
           z .pre .1 .0,
         ),
       ),
@@ -88,7 +92,7 @@ store-requires c κs = let d = second c in let y = d .before in let x = asked y 
 put-reply-requires : tie.Need-put-reply-requires
 put-reply-requires c κs =
     let r = stored c in let y = second (r .before) .before in let x = asked y in let z = start (ordered x) in
-    let a = z .args in let e = sym (y .is-enterable .ensures) ∙ not-false _ (r .before .before .if3 .left) in
+    let a = z .args in let e = sym (y .is-enterable .ensures) ∙ not-false _ (third (r .before) .if3 .left) in
     λ f. let st = put-storable (a .index) (a .order) (a .word) e f in
     store-formed (z .pre .0) _ _ _ (z .fits .index .fits) (z .fits .word .fits) (ordered x .if1 .left) st
     (r .store .ensures .0 (z .pre .0) .stores st)
@@ -96,22 +100,25 @@ put-reply-requires c κs =
 same-length : tie.Need-same-length
 same-length c = search needs
 
+same-length-2 : tie.Need-same-length-2
+same-length-2 c = search needs
+
 returns-4 : tie.Need-returns-4
 returns-4 c =
     let q = replied c in let r = stored (q .before) in let d = second (r .before) in let y = d .before in
     let x = asked y in let z = start (ordered x) in
     let a = z .args in let i = a .index in let k = a .order in let w = a .word in let p = q .put-reply .ensures in
     let i< = z .fits .index .fits in let w< = z .fits .word .fits in let k≤ = ordered x .if1 .left in
-    let e = sym (y .is-enterable .ensures) ∙ not-false _ (r .before .before .if3 .left) in
+    let e = sym (y .is-enterable .ensures) ∙ not-false _ (third (r .before) .if3 .left) in
     let al = sym (x .is-aligned .ensures) ∙ not-false _ (d .if2 .left) in (
       (λ s. byT (a .reserve)
           (λ t. put-reserve i k w s t (words-stay s (p .0 t .1)
           (reserves s i (r .store .ensures .0 s .reserves (z .pre .1 .1 t .1)) (p .0 t .0))))
           (λ f. let st = put-storable i k w e f in put-store i k w s f
           (stores s i k w i< w< k≤ st (r .store .ensures .0 s .stores st) (p .1 f) al))),
-      byT (a .reserve) (λ t. use-stays (p .0 t .1) (r .store .ensures .1))
+      byT (a .reserve) (λ t. map-stays (p .0 t .1) (r .store .ensures .1))
           (λ f. let st = put-storable i k w e f in
-          store-in-use (z .pre .0) i k w i< w< k≤ st (r .store .ensures .0 (z .pre .0) .stores st) (p .1 f)
+          store-mapped (z .pre .0) i k w i< w< k≤ st (r .store .ensures .0 (z .pre .0) .stores st) (p .1 f)
           (r .store .ensures .1)),
     )
 
@@ -130,4 +137,5 @@ run-store-spec =
     store-requires
     put-reply-requires
     same-length
+    same-length-2
     returns-4)

@@ -11,14 +11,14 @@ use Rattle.write.specs.declared.Seat.{Seat}
 use Rattle.write.specs.Writes.{settled}
 use Rattle.store.proofs.FilledWords.{filled-bound}
 use Rattle.store.proofs.ReachLaws.{reached-gap}
-use Rattle.store.proofs.AtGap.{slots-done, slots-used}
+use Rattle.store.proofs.AtGap.{slots-done, slots-map}
 use borrow.Author.Needs.{needs}
 use Rattle.store.proofs.store_at_gap.Statement.{statement}
 use Rattle.store.proofs.store_at_gap.Tie as tie
 
 -- THE PLACES IN THE CODE, each from one after it
 abbrev start : tie.Else2 → tie.Start
-start c = c .before .before .before .before
+start c = c .before .before .before .before .before
 
 abbrev seat : tie.After-vacant → tie.After-seat-of
 seat c = c .before .before .before
@@ -26,23 +26,23 @@ seat c = c .before .before .before
 abbrev asked : tie.After-settle → tie.After-vacant
 asked c = c .before .before .before
 
-abbrev settled-at : tie.After-slice-known5 → tie.After-settle
+abbrev settled-at : tie.After-slice-known9 → tie.After-settle
 settled-at c = c .before .before
 
-abbrev start-below : tie.After-store-below-arg → tie.Start
-start-below c = c .before .before .before .before
+abbrev start-below : tie.After-store-below-arg2 → tie.Start
+start-below c = c .before .before .before .before .before .before
 
-abbrev below : tie.After-slice-known2 → tie.After-store-below
-below c = c .before .before
+abbrev below : tie.After-slice-known4 → tie.After-store-below
+below c = c .before .before .before .before
 
-abbrev start-new : tie.After-store-new-arg → tie.Start
-start-new c = c .before .before .before .before .before
+abbrev start-new : tie.After-store-new-arg2 → tie.Start
+start-new c = c .before .before .before .before .before .before .before
 
-abbrev new : tie.After-slice-known3 → tie.After-store-new
-new c = c .before .before
+abbrev new : tie.After-slice-known6 → tie.After-store-new
+new c = c .before .before .before .before
 
-abbrev new-2 : tie.After-slice-known4 → tie.After-store-new2
-new-2 c = c .before .before
+abbrev new-2 : tie.After-slice-known8 → tie.After-store-new2
+new-2 c = c .before .before .before .before
 
 -- the entry's node is one of the pool's
 node-ok : (c : tie.After-seat-of) → lastPlace (c .seat-of .result .node) < length (start (c .before) .args .pool .now)
@@ -61,10 +61,13 @@ node-lt c = let p = start (c .before) .pre in omega (
 
 store-below-requires : tie.Need-store-below-requires
 store-below-requires c κs = let p = start-below c .pre in
-    (p .0, (p .1 .0, ((c .before .if1 .taken, p .1 .1 .0), p .1 .1 .1)))
+    (p .0, (p .1 .0, ((c .before .before .if1 .taken, p .1 .1 .0), p .1 .1 .1)))
 
 same-length : tie.Need-same-length
 same-length c = search needs
+
+same-length-2 : tie.Need-same-length-2
+same-length-2 c = search needs
 
 returns : tie.Need-returns
 returns c = below c .store-below .ensures
@@ -76,13 +79,16 @@ store-new-requires c κs = let p = start-new c .pre in (
     p .1 .0,
     λ s. (
       p .1 .1 .1 s .new,
-      reached-gap _ _ _ _ _ (p .1 .1 .1 s .at-node) (omega (arith, c .before .if2 .taken)),
+      reached-gap _ _ _ _ _ (p .1 .1 .1 s .at-node) (omega (arith, c .before .before .if2 .taken)),
     ),
   ),
 )
 
-same-length-2 : tie.Need-same-length-2
-same-length-2 c = search needs
+same-length-3 : tie.Need-same-length-3
+same-length-3 c = search needs
+
+same-length-4 : tie.Need-same-length-4
+same-length-4 c = search needs
 
 returns-2 : tie.Need-returns-2
 returns-2 c = new c .store-new .ensures
@@ -97,7 +103,7 @@ vacant-requires : tie.Need-vacant-requires
 vacant-requires c κs = let x = c .before .before in (node-ok x, (omega arith, omega (arith, x .seat-of .ensures .1 .0)))
 
 store-new-requires-2 : tie.Need-store-new-requires-2
-store-new-requires-2 c κs = let x = seat (c .before .before) in let p = start (x .before) .pre in (
+store-new-requires-2 c κs = let x = seat (c .before .before .before) in let p = start (x .before) .pre in (
   p .0,
   (
     p .1 .0,
@@ -108,8 +114,11 @@ store-new-requires-2 c κs = let x = seat (c .before .before) in let p = start (
   ),
 )
 
-same-length-3 : tie.Need-same-length-3
-same-length-3 c = search needs
+same-length-5 : tie.Need-same-length-5
+same-length-5 c = search needs
+
+same-length-6 : tie.Need-same-length-6
+same-length-6 c = search needs
 
 returns-3 : tie.Need-returns-3
 returns-3 c = new-2 c .store-new2 .ensures
@@ -121,8 +130,8 @@ settle-requires c κs = let x = seat (c .before .before) in
 entry-of-requires : tie.Need-entry-of-requires
 entry-of-requires c κs = start (seat (asked (settled-at c)) .before) .pre .1 .0 .0
 
-same-length-4 : tie.Need-same-length-4
-same-length-4 c = search needs
+same-length-7 : tie.Need-same-length-7
+same-length-7 c = search needs
 
 returns-4 : tie.Need-returns-4
 returns-4 c = let n = settled-at (c .before) in let y = asked n in let x = seat y in let z = start (x .before) in
@@ -136,7 +145,7 @@ returns-4 c = let n = settled-at (c .before) in let y = asked n in let x = seat 
     (t .word)) q in (
       λ s. slots-done s (t .index) (t .order) (t .word) (a .u) (a .a) (g .index-fits) (g .order-le) (p .1 .1 .1 s) tier-is
           none (g .is-entry) (c .entry-of .ensures) words,
-      slots-used (p .0) (t .index) (t .order) (t .word) (a .u) (a .a) (g .index-fits) (g .order-le) (p .1 .1 .1 (p .0))
+      slots-map (p .0) (t .index) (t .order) (t .word) (a .u) (a .a) (g .index-fits) (g .order-le) (p .1 .1 .1 (p .0))
           tier-is none (g .is-entry) (g .word-fits) (p .1 .0 .1) words,
     )
 
@@ -146,17 +155,20 @@ store-at-gap-spec =
     (tie.spec
     store-below-requires
     same-length
+    same-length-2
     returns
     store-new-requires
-    same-length-2
+    same-length-3
+    same-length-4
     returns-2
     seat-of-requires
     add-vacant
     vacant-requires
     store-new-requires-2
-    same-length-3
+    same-length-5
+    same-length-6
     returns-3
     settle-requires
     entry-of-requires
-    same-length-4
+    same-length-7
     returns-4)

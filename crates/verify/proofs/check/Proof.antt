@@ -1,112 +1,17 @@
--- `check`: 0 if some list of entries prescribes the words, with its nodes at some numbers.
-use native.Mathlib.Omega.{arith}
-use borrow.Author.Tests.{not-true, not-false}
+-- `check`: the check, with a map of its own.
 use borrow.Author.Needs.{needs}
-use Rattle.verify.specs.Answers.{wrong-size}
-use Rattle.verify.proofs.VerdictLaws.{bad-count, bad-spare, bad-node, bad-head, all-good}
-use Rattle.verify.proofs.AnswerLaws.{answered}
+use Rattle.freemap.proofs.MapLaws.{blank-map}
 use Rattle.verify.proofs.check.Statement.{statement}
 use Rattle.verify.proofs.check.Tie as tie
 
--- THE PLACES IN THE CODE, each from one after it
-abbrev else1-from-else3 : tie.Else3 → tie.Else1
-else1-from-else3 c = c .before .before .before .before
+slice-aggregate-check-map : tie.Need-slice-aggregate-check-map
+slice-aggregate-check-map c = search needs
 
-abbrev else1-from-then3 : tie.Then3 → tie.Else1
-else1-from-then3 c = c .before .before .before .before
-
-abbrev else1-from-else4 : tie.Else4 → tie.Else1
-else1-from-else4 c = c .before .before .before .before .before .before
-
-abbrev else1-from-then4 : tie.Then4 → tie.Else1
-else1-from-then4 c = c .before .before .before .before .before .before
-
-abbrev else1-from-then5 : tie.Then5 → tie.Else1
-else1-from-then5 c = c .before .before .before .before .before .before .before .before
-
-nodes-in-requires : tie.Need-nodes-in-requires
-nodes-in-requires c κs = search needs
+check-map-requires : tie.Need-check-map-requires
+check-map-requires c κs = blank-map
 
 returns : tie.Need-returns
-returns c = answered _ 1 (wrong-size (c .before .nodes-in .ensures .no-pool (c .if1 .taken)))
-
-shared-slice-read-if2 : tie.Need-shared-slice-read-if2
-shared-slice-read-if2 c = let s = c .before .before .nodes-in .ensures .sized (c .before .if1 .left) in
-    omega (arith, s .size, s .least)
-
-returns-2 : tie.Need-returns-2
-returns-2 c =
-    let c3 = c .before .before .before in
-    let s = c3 .nodes-in .ensures .sized (c .before .before .if1 .left) in
-    answered _ 2 (bad-count _ _ s (c .if2 .taken))
-
-shared-slice-read-if3 : tie.Need-shared-slice-read-if3
-shared-slice-read-if3 c =
-    let c3 = c .before .before .before in
-    let c4 = c3 .before in
-    let s = c4 .nodes-in .ensures .sized (c3 .if1 .left) in
-    omega (arith, s .size, s .least)
-
-returns-3 : tie.Need-returns-3
-returns-3 c =
-    let c4 = else1-from-then3 c in
-    let c5 = c4 .before in
-    let s = c5 .nodes-in .ensures .sized (c4 .if1 .left) in
-    answered _ 2 (bad-spare _ _ s (c .if3 .taken))
-
-nodes-ok-requires : tie.Need-nodes-ok-requires
-nodes-ok-requires c κs =
-    let c4 = else1-from-else3 c in
-    let c5 = c4 .before in
-    let s = c5 .nodes-in .ensures .sized (c4 .if1 .left) in
-    omega (arith, s .size, s .least, s .most)
-
-returns-4 : tie.Need-returns-4
-returns-4 c =
-    let c6 = else1-from-then4 c in
-    let c7 = c6 .before in
-    let s = c7 .nodes-in .ensures .sized (c6 .if1 .left) in
-    answered _ 2 (bad-node _ _ s (c .before .nodes-ok .ensures .1 (not-true _ (c .if4 .taken))))
-
-head-ok-requires : tie.Need-head-ok-requires
-head-ok-requires c κs =
-    let c6 = else1-from-else4 c in
-    let c7 = c6 .before in
-    let s = c7 .nodes-in .ensures .sized (c6 .if1 .left) in
-    (omega (arith, s .size, s .least, s .most), c .before .nodes-ok .ensures .0 (not-false _ (c .if4 .left)))
-
-returns-5 : tie.Need-returns-5
-returns-5 c =
-    let c8 = else1-from-then5 c in
-    let c9 = c8 .before in
-    let s = c9 .nodes-in .ensures .sized (c8 .if1 .left) in
-    answered _ 2 (bad-head _ _ s (c .before .head-ok .ensures .1 (not-true _ (c .if5 .taken))))
-
-returns-6 : tie.Need-returns-6
-returns-6 c =
-    let c3 = c .before .before .before in
-    let c4 = c3 .before in
-    let c6 = c4 .before .before in
-    let c8 = c6 .before .before in
-    let c9 = c8 .before in
-    let c10 = c9 .before in
-    let s = c9 .nodes-in .ensures .sized (c8 .if1 .left) in
-    answered _ 0 (all-good _ _ s (λ i. omega (arith, c10 .shared-slice-known .given i)) (c6 .if2 .left)
-    (c4 .if3 .left) (c3 .nodes-ok .ensures .0 (not-false _ (c .before .before .if4 .left)))
-    (c .before .head-ok .ensures .0 (not-false _ (c .if5 .left))))
+returns c = search needs
 
 pub check-spec : {M : Type 1} → statement M
-check-spec =
-    tie.close
-    (tie.spec
-    nodes-in-requires
-    returns
-    shared-slice-read-if2
-    returns-2
-    shared-slice-read-if3
-    returns-3
-    nodes-ok-requires
-    returns-4
-    head-ok-requires
-    returns-5
-    returns-6)
+check-spec = tie.close (tie.spec slice-aggregate-check-map check-map-requires returns)

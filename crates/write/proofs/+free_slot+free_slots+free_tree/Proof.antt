@@ -28,14 +28,13 @@ use Rattle.write.proofs.+free_slot+free_slots+free_tree.Lts-free_slots 
 use Rattle.write.proofs.free_tree.Reads as free-tree
 use Rattle.write.proofs.free_tree.Kinds as free-tree-kinds
 use Rattle.write.proofs.+free_slot+free_slots+free_tree.Lts-free_tree as free-tree-lts
-use Rattle.layout.proofs.slot_word.Reads as slot-word-reads
-use Rattle.layout.proofs.clear_node.Reads as clear-node-reads
+use Rattle.freemap.proofs.release.Reads as release-reads
 use Rattle.layout.proofs.read_slot.Reads as read-slot-reads
-use Rattle.layout.proofs.lesser.Reads as lesser-reads
+use Rattle.layout.proofs.slot_word.Reads as slot-word-reads
 use Rattle.write.proofs.+free_slot+free_slots+free_tree.{statement}
 use Rattle.write.proofs.+free_slot+free_slots+free_tree.Tie.{close}
-use Rattle.layout.specs.Spares.{Spared}
-use Rattle.layout.proofs.SparesLaws.{spared-all, spared-then, spared-zeroed}
+use Rattle.freemap.specs.FreeMap.{Follows}
+use Rattle.freemap.proofs.FollowLaws.{follows-same, follows-then, follows-sound}
 
 module _ (f : List ℕ → ℕ → List ℕ) (top : ℕ) (ws : List ℕ) (w : ℕ) {r : Slot} (e : r ≡ slotOf w) where
   -- nothing is freed
@@ -69,36 +68,36 @@ unfolding freeTree
 whole top ws pool n u h e = let d : u ≡ suc (u - 1) = omega arith in
     subst (λ (v : ℕ). cleared pool n ≡ freeTree top v ws n) (sym d) (rw e)
 
-abbrev μ-free-slot : Measures 1 free-slot-kinds.ps ℕ
-μ-free-slot κs a = 3 * a .1 .1 .1 .0 + 1
+abbrev μ-free-slot : Measures 2 free-slot-kinds.ps ℕ
+μ-free-slot κs a = 3 * a .1 .1 .1 .1 .0 + 1
 
-abbrev μ-free-slots : Measures 1 free-slots-kinds.ps ℕ
-μ-free-slots κs a = 3 * a .1 .1 .1 .1 .1 .0 + 2
+abbrev μ-free-slots : Measures 2 free-slots-kinds.ps ℕ
+μ-free-slots κs a = 3 * a .1 .1 .1 .1 .1 .1 .0 + 2
 
-abbrev μ-free-tree : Measures 1 free-tree-kinds.ps ℕ
-μ-free-tree κs a = 3 * a .1 .1 .1 .0
+abbrev μ-free-tree : Measures 2 free-tree-kinds.ps ℕ
+μ-free-tree κs a = 3 * a .1 .1 .1 .1 .0
 
-abbrev free-slot-at : ℕ → In 1 free-slot-kinds.ps
-free-slot-at t = and 1 free-slot-kinds.ps (is 1 free-slot-kinds.ps μ-free-slot t) free-slot.Pre
+abbrev free-slot-at : ℕ → In 2 free-slot-kinds.ps
+free-slot-at t = and 2 free-slot-kinds.ps (is 2 free-slot-kinds.ps μ-free-slot t) free-slot.Pre
 
-abbrev free-slot-below : ℕ → In 1 free-slot-kinds.ps
+abbrev free-slot-below : ℕ → In 2 free-slot-kinds.ps
 free-slot-below t =
-    and 1 free-slot-kinds.ps (falls 1 free-slot-kinds.ps _<_ μ-free-slot t) free-slot.Pre
+    and 2 free-slot-kinds.ps (falls 2 free-slot-kinds.ps _<_ μ-free-slot t) free-slot.Pre
 
-abbrev free-slots-at : ℕ → In 1 free-slots-kinds.ps
+abbrev free-slots-at : ℕ → In 2 free-slots-kinds.ps
 free-slots-at t =
-    and 1 free-slots-kinds.ps (is 1 free-slots-kinds.ps μ-free-slots t) free-slots.Pre
+    and 2 free-slots-kinds.ps (is 2 free-slots-kinds.ps μ-free-slots t) free-slots.Pre
 
-abbrev free-slots-below : ℕ → In 1 free-slots-kinds.ps
+abbrev free-slots-below : ℕ → In 2 free-slots-kinds.ps
 free-slots-below t =
-    and 1 free-slots-kinds.ps (falls 1 free-slots-kinds.ps _<_ μ-free-slots t) free-slots.Pre
+    and 2 free-slots-kinds.ps (falls 2 free-slots-kinds.ps _<_ μ-free-slots t) free-slots.Pre
 
-abbrev free-tree-at : ℕ → In 1 free-tree-kinds.ps
-free-tree-at t = and 1 free-tree-kinds.ps (is 1 free-tree-kinds.ps μ-free-tree t) free-tree.Pre
+abbrev free-tree-at : ℕ → In 2 free-tree-kinds.ps
+free-tree-at t = and 2 free-tree-kinds.ps (is 2 free-tree-kinds.ps μ-free-tree t) free-tree.Pre
 
-abbrev free-tree-below : ℕ → In 1 free-tree-kinds.ps
+abbrev free-tree-below : ℕ → In 2 free-tree-kinds.ps
 free-tree-below t =
-    and 1 free-tree-kinds.ps (falls 1 free-tree-kinds.ps _<_ μ-free-tree t) free-tree.Pre
+    and 2 free-tree-kinds.ps (falls 2 free-tree-kinds.ps _<_ μ-free-tree t) free-tree.Pre
 
 free-slot-read-slot-requires : (t : ℕ) → free-slot-lts.Need-read-slot-requires (
   read-slot-reads.Asked,
@@ -122,29 +121,8 @@ free-slot-free-tree-requires : (t : ℕ) → free-slot-lts.Need-free-tree-requir
   free-tree-below t,
   free-tree.Post,
 ) (free-slot-at t) free-slot.Post
-free-slot-free-tree-requires t c κs = omega arith
-
-free-slot-same-length : (t : ℕ) → free-slot-lts.Need-same-length (
-  read-slot-reads.Asked,
-  read-slot-reads.Learnt,
-  free-tree-below t,
-  free-tree.Post,
-) (free-slot-at t) free-slot.Post
-free-slot-same-length t c = c .before .before .free-tree .kept .0
-
-free-slot-returns : (t : ℕ) → free-slot-lts.Need-returns (
-  read-slot-reads.Asked,
-  read-slot-reads.Learnt,
-  free-tree-below t,
-  free-tree.Post,
-) (free-slot-at t) free-slot.Post
-free-slot-returns t c = (
-  c .before .before .free-tree .ensures .0 ∙ on _ _ _ _
-      (c .before .before .before .before .before .before .before .before .read-slot .ensures) _
-      (c .before .before .before .before .before .before .s .given .1)
-      (c .before .before .before .before .if1 .taken),
-  c .before .before .free-tree .ensures .1,
-)
+free-slot-free-tree-requires t c κs = let z = c .before .before .before .before .before .before .before .before .before in
+    (omega arith, (omega arith, (z .pre .1 .1 .0, (omega arith, omega arith))))
 
 free-slot-enum-told : (t : ℕ) → free-slot-lts.Need-enum-told (
   read-slot-reads.Asked,
@@ -178,6 +156,33 @@ free-slot-enum-told-4 : (t : ℕ) → free-slot-lts.Need-enum-told-4 (
 ) (free-slot-at t) free-slot.Post
 free-slot-enum-told-4 t c = search needs
 
+free-slot-same-length : (t : ℕ) → free-slot-lts.Need-same-length (
+  read-slot-reads.Asked,
+  read-slot-reads.Learnt,
+  free-tree-below t,
+  free-tree.Post,
+) (free-slot-at t) free-slot.Post
+free-slot-same-length t c = omega arith
+
+free-slot-same-length-2 : (t : ℕ) → free-slot-lts.Need-same-length-2 (
+  read-slot-reads.Asked,
+  read-slot-reads.Learnt,
+  free-tree-below t,
+  free-tree.Post,
+) (free-slot-at t) free-slot.Post
+free-slot-same-length-2 t c = omega arith
+
+free-slot-returns : (t : ℕ) → free-slot-lts.Need-returns (
+  read-slot-reads.Asked,
+  read-slot-reads.Learnt,
+  free-tree-below t,
+  free-tree.Post,
+) (free-slot-at t) free-slot.Post
+free-slot-returns t c = let f = c .before .before .before .before in let i = f .before .before .before in let k = i .before .before in (
+  f .free-tree .ensures .0 ∙ on _ _ _ _ (k .before .before .read-slot .ensures) _ (k .s .given .1) (i .if1 .taken),
+  f .free-tree .ensures .1,
+)
+
 free-slot-returns-2 : (t : ℕ) → free-slot-lts.Need-returns-2 (
   read-slot-reads.Asked,
   read-slot-reads.Learnt,
@@ -185,9 +190,8 @@ free-slot-returns-2 : (t : ℕ) → free-slot-lts.Need-returns-2 (
   free-tree.Post,
 ) (free-slot-at t) free-slot.Post
 free-slot-returns-2 t c = (
-  off _ _ _ _ (c .before .before .before .before .read-slot .ensures) _
-      (c .before .before .s .given .1) (c .if1 .left),
-  spared-all _ _,
+  off _ _ _ _ (c .before .before .before .before .read-slot .ensures) _ (c .before .before .s .given .1) (c .if1 .left),
+  follows-same _ _,
 )
 
 free-slot-returns-3 : (t : ℕ) → free-slot-lts.Need-returns-3 (
@@ -196,10 +200,7 @@ free-slot-returns-3 : (t : ℕ) → free-slot-lts.Need-returns-3 (
   free-tree-below t,
   free-tree.Post,
 ) (free-slot-at t) free-slot.Post
-free-slot-returns-3 t c = (
-  still _ _ _ _ (c .before .before .read-slot .ensures) (c .enum-told .given .1) refl,
-  spared-all _ _,
-)
+free-slot-returns-3 t c = (still _ _ _ _ (c .before .before .read-slot .ensures) (c .enum-told .given .1) refl, follows-same _ _)
 
 free-slot-returns-4 : (t : ℕ) → free-slot-lts.Need-returns-4 (
   read-slot-reads.Asked,
@@ -207,10 +208,7 @@ free-slot-returns-4 : (t : ℕ) → free-slot-lts.Need-returns-4 (
   free-tree-below t,
   free-tree.Post,
 ) (free-slot-at t) free-slot.Post
-free-slot-returns-4 t c = (
-  still _ _ _ _ (c .before .before .read-slot .ensures) (c .enum-told2 .given .1) refl,
-  spared-all _ _,
-)
+free-slot-returns-4 t c = (still _ _ _ _ (c .before .before .read-slot .ensures) (c .enum-told2 .given .1) refl, follows-same _ _)
 
 free-slot-returns-5 : (t : ℕ) → free-slot-lts.Need-returns-5 (
   read-slot-reads.Asked,
@@ -218,10 +216,7 @@ free-slot-returns-5 : (t : ℕ) → free-slot-lts.Need-returns-5 (
   free-tree-below t,
   free-tree.Post,
 ) (free-slot-at t) free-slot.Post
-free-slot-returns-5 t c = (
-  still _ _ _ _ (c .before .before .read-slot .ensures) (c .enum-told3 .given .1) refl,
-  spared-all _ _,
-)
+free-slot-returns-5 t c = (still _ _ _ _ (c .before .before .read-slot .ensures) (c .enum-told3 .given .1) refl, follows-same _ _)
 
 free-slot-returns-6 : (t : ℕ) → free-slot-lts.Need-returns-6 (
   read-slot-reads.Asked,
@@ -229,17 +224,14 @@ free-slot-returns-6 : (t : ℕ) → free-slot-lts.Need-returns-6 (
   free-tree-below t,
   free-tree.Post,
 ) (free-slot-at t) free-slot.Post
-free-slot-returns-6 t c = (
-  still _ _ _ _ (c .before .before .read-slot .ensures) (c .enum-told4 .given .1) refl,
-  spared-all _ _,
-)
+free-slot-returns-6 t c = (still _ _ _ _ (c .before .before .read-slot .ensures) (c .enum-told4 .given .1) refl, follows-same _ _)
 
 abbrev free-slots-Inv-loop : free-slots-lts.InvT-loop
-free-slots-Inv-loop pool₀ top n o c u low j₀ r₀ pool j r = (j ≤ c) × (length pool ≡ length pool₀) ×
-    (pool ≡ freeSlots (freeTree top u) top n o pool₀ j) × Spared low r pool₀ pool
+free-slots-Inv-loop pool₀ map₀ top n o c u j₀ pool map j = (j ≤ c) × (length pool ≡ length pool₀) × (length map ≡ length map₀) ×
+    (pool ≡ freeSlots (freeTree top u) top n o pool₀ j) × Follows pool₀ pool map₀ map
 
 abbrev free-slots-μ-loop : free-slots-lts.MeasureT-loop
-free-slots-μ-loop pool₀ top n o c u low j₀ r₀ pool j r = c - j
+free-slots-μ-loop pool₀ map₀ top n o c u j₀ pool map j = c - j
 
 free-slots-loop-holds : (t : ℕ) → free-slots-lts.Need-loop-holds (
   slot-word-reads.Asked,
@@ -247,7 +239,7 @@ free-slots-loop-holds : (t : ℕ) → free-slots-lts.Need-loop-holds (
   free-slot-below t,
   free-slot.Post,
 ) (free-slots-at t) free-slots.Post free-slots-Inv-loop free-slots-μ-loop
-free-slots-loop-holds t c = (omega arith, refl, slots-start _ _ _ _ _, spared-all _ _)
+free-slots-loop-holds t c = (omega arith, refl, refl, slots-start _ _ _ _ _, follows-same _ _)
 
 free-slots-add-slot-word : (t : ℕ) → free-slots-lts.Need-add-slot-word (
   slot-word-reads.Asked,
@@ -271,7 +263,8 @@ free-slots-free-slot-requires : (t : ℕ) → free-slots-lts.Need-free-slot-requ
   free-slot-below t,
   free-slot.Post,
 ) (free-slots-at t) free-slots.Post free-slots-Inv-loop free-slots-μ-loop
-free-slots-free-slot-requires t c κs = omega arith
+free-slots-free-slot-requires t c κs = let l = c .before .before .before .before .before in
+    (omega arith, (omega arith, (follows-sound (l .loop .inv .4) (l .before .before .before .pre .1 .1 .0), omega arith)))
 
 free-slots-add-j : (t : ℕ) → free-slots-lts.Need-add-j (
   slot-word-reads.Asked,
@@ -295,14 +288,14 @@ free-slots-loop-again : (t : ℕ) → free-slots-lts.Need-loop-again (
   free-slot-below t,
   free-slot.Post,
 ) (free-slots-at t) free-slots.Post free-slots-Inv-loop free-slots-μ-loop
-free-slots-loop-again t c = (
-  omega arith,
-  c .before .before .free-slot .kept .0 ∙ c .before .before .before .before .before .before .before .loop .inv .1,
-  c .before .before .free-slot .ensures .0 ∙ rw (c .before .before .before .before .slot-word .ensures)
-      (slots-step _ _ _ _ _ _ _ (c .before .before .before .before .before .before .before .loop .inv .2)),
-  spared-then (c .before .before .before .before .before .before .before .loop .inv .3)
-      (c .before .before .free-slot .ensures .1),
-)
+free-slots-loop-again t c = let s = c .before .before .before .before in let w = s .before .before .before in
+    let k = w .before .before .before .loop .inv in (
+      omega arith,
+      s .free-slot .kept .0 ∙ k .1,
+      s .free-slot .kept .1 .0 ∙ k .2,
+      s .free-slot .ensures .0 ∙ rw (w .slot-word .ensures) (slots-step _ _ _ _ _ _ _ (k .3)),
+      follows-then (k .4) (s .free-slot .ensures .1),
+    )
 
 free-slots-same-length : (t : ℕ) → free-slots-lts.Need-same-length (
   slot-word-reads.Asked,
@@ -310,7 +303,15 @@ free-slots-same-length : (t : ℕ) → free-slots-lts.Need-same-length (
   free-slot-below t,
   free-slot.Post,
 ) (free-slots-at t) free-slots.Post free-slots-Inv-loop free-slots-μ-loop
-free-slots-same-length t c = c .before .loop .inv .1
+free-slots-same-length t c = omega arith
+
+free-slots-same-length-2 : (t : ℕ) → free-slots-lts.Need-same-length-2 (
+  slot-word-reads.Asked,
+  slot-word-reads.Learnt,
+  free-slot-below t,
+  free-slot.Post,
+) (free-slots-at t) free-slots.Post free-slots-Inv-loop free-slots-μ-loop
+free-slots-same-length-2 t c = omega arith
 
 free-slots-returns : (t : ℕ) → free-slots-lts.Need-returns (
   slot-word-reads.Asked,
@@ -318,84 +319,69 @@ free-slots-returns : (t : ℕ) → free-slots-lts.Need-returns (
   free-slot-below t,
   free-slot.Post,
 ) (free-slots-at t) free-slots.Post free-slots-Inv-loop free-slots-μ-loop
-free-slots-returns t c = let e : c .before .loop .j ≡ c .before .before .before .args .c = omega arith in
-    (rw (← e) (c .before .loop .inv .2), c .before .loop .inv .3)
+free-slots-returns t c = let e : c .before .loop .j ≡ c .before .before .before .before .args .c = omega arith in
+    (rw (← e) (c .before .loop .inv .3), c .before .loop .inv .4)
 
 free-tree-returns : (t : ℕ) → free-tree-lts.Need-returns (
   free-slots-below t,
   free-slots.Post,
-  clear-node-reads.Asked,
-  clear-node-reads.Learnt,
-  lesser-reads.Asked,
-  lesser-reads.Learnt,
+  release-reads.Asked,
+  release-reads.Learnt,
 ) (free-tree-at t) free-tree.Post
-free-tree-returns t c = (none _ _ _ _ (c .if1 .taken), spared-all _ _)
+free-tree-returns t c = (none _ _ _ _ (c .if1 .taken), follows-same _ _)
 
 free-tree-sub-free-slots : (t : ℕ) → free-tree-lts.Need-sub-free-slots (
   free-slots-below t,
   free-slots.Post,
-  clear-node-reads.Asked,
-  clear-node-reads.Learnt,
-  lesser-reads.Asked,
-  lesser-reads.Learnt,
+  release-reads.Asked,
+  release-reads.Learnt,
 ) (free-tree-at t) free-tree.Post
 free-tree-sub-free-slots t c = omega arith
 
 free-tree-free-slots-requires : (t : ℕ) → free-tree-lts.Need-free-slots-requires (
   free-slots-below t,
   free-slots.Post,
-  clear-node-reads.Asked,
-  clear-node-reads.Learnt,
-  lesser-reads.Asked,
-  lesser-reads.Learnt,
+  release-reads.Asked,
+  release-reads.Learnt,
 ) (free-tree-at t) free-tree.Post
-free-tree-free-slots-requires t c κs = omega arith
+free-tree-free-slots-requires t c κs = let z = c .before .before .before .before .before in
+    (omega arith, (omega arith, (z .pre .1 .1 .0, (omega arith, omega arith, omega arith))))
 
-free-tree-clear-node-requires : (t : ℕ) → free-tree-lts.Need-clear-node-requires (
+free-tree-release-requires : (t : ℕ) → free-tree-lts.Need-release-requires (
   free-slots-below t,
   free-slots.Post,
-  clear-node-reads.Asked,
-  clear-node-reads.Learnt,
-  lesser-reads.Asked,
-  lesser-reads.Learnt,
+  release-reads.Asked,
+  release-reads.Learnt,
 ) (free-tree-at t) free-tree.Post
-free-tree-clear-node-requires t c κs = omega arith
-
-free-tree-lesser-requires : (t : ℕ) → free-tree-lts.Need-lesser-requires (
-  free-slots-below t,
-  free-slots.Post,
-  clear-node-reads.Asked,
-  clear-node-reads.Learnt,
-  lesser-reads.Asked,
-  lesser-reads.Learnt,
-) (free-tree-at t) free-tree.Post
-free-tree-lesser-requires t c κs = omega arith
+free-tree-release-requires t c κs = let s = c .before .before .before .before .before .before in
+    let z = s .before .before .before .before .before .before in
+    (omega arith, (follows-sound (s .free-slots .ensures .1) (z .pre .1 .1 .0), omega arith))
 
 free-tree-same-length : (t : ℕ) → free-tree-lts.Need-same-length (
   free-slots-below t,
   free-slots.Post,
-  clear-node-reads.Asked,
-  clear-node-reads.Learnt,
-  lesser-reads.Asked,
-  lesser-reads.Learnt,
+  release-reads.Asked,
+  release-reads.Learnt,
 ) (free-tree-at t) free-tree.Post
-free-tree-same-length t c = c .before .before .before .clear-node .kept .0 ∙ c .before .before .before .before .before
-    .before .before .free-slots .kept .0
+free-tree-same-length t c = omega arith
+
+free-tree-same-length-2 : (t : ℕ) → free-tree-lts.Need-same-length-2 (
+  free-slots-below t,
+  free-slots.Post,
+  release-reads.Asked,
+  release-reads.Learnt,
+) (free-tree-at t) free-tree.Post
+free-tree-same-length-2 t c = omega arith
 
 free-tree-returns-2 : (t : ℕ) → free-tree-lts.Need-returns-2 (
   free-slots-below t,
   free-slots.Post,
-  clear-node-reads.Asked,
-  clear-node-reads.Learnt,
-  lesser-reads.Asked,
-  lesser-reads.Learnt,
+  release-reads.Asked,
+  release-reads.Learnt,
 ) (free-tree-at t) free-tree.Post
-free-tree-returns-2 t c = (
-  c .before .before .before .clear-node .ensures ∙ whole _ _ _ _ _ (omega arith)
-      (c .before .before .before .before .before .before .before .free-slots .ensures .0),
-  spared-zeroed (c .before .before .before .before .before .before .before .before .before .before .before .args .n)
-      (c .before .before .before .before .before .before .before .free-slots .ensures .1)
-      (c .before .before .before .clear-node .ensures) (c .lesser .ensures),
+free-tree-returns-2 t c = let r = c .before .before .before .before in let s = r .before .before .before .before .before .before .before in (
+  r .release .ensures .0 ∙ whole _ _ _ _ _ (omega arith) (s .free-slots .ensures .0),
+  follows-then (s .free-slots .ensures .1) (r .release .ensures .1),
 )
 
 pub +free-slot+free-slots+free-tree-spec : {M : Type 1} → statement M
@@ -411,12 +397,13 @@ pub +free-slot+free-slots+free-tree-spec : {M : Type 1} → statement M
     (free-slot-read-slot-requires t)
     (free-slot-enum-known-s t)
     (free-slot-free-tree-requires t)
-    (free-slot-same-length t)
-    (free-slot-returns t)
     (free-slot-enum-told t)
     (free-slot-enum-told-2 t)
     (free-slot-enum-told-3 t)
     (free-slot-enum-told-4 t)
+    (free-slot-same-length t)
+    (free-slot-same-length-2 t)
+    (free-slot-returns t)
     (free-slot-returns-2 t)
     (free-slot-returns-3 t)
     (free-slot-returns-4 t)
@@ -440,21 +427,16 @@ pub +free-slot+free-slots+free-tree-spec : {M : Type 1} → statement M
     (free-slots-loop-less t)
     (free-slots-loop-again t)
     (free-slots-same-length t)
+    (free-slots-same-length-2 t)
     (free-slots-returns t))
-    λ t. free-tree-lts.spec (
-      free-slots-below t,
-      free-slots.Post,
-      clear-node-reads.Asked,
-      clear-node-reads.Learnt,
-      lesser-reads.Asked,
-      lesser-reads.Learnt,
-    )
+    λ t. free-tree-lts.spec
+    (free-slots-below t, free-slots.Post, release-reads.Asked, release-reads.Learnt)
     (free-tree-at t)
     free-tree.Post
     (free-tree-returns t)
     (free-tree-sub-free-slots t)
     (free-tree-free-slots-requires t)
-    (free-tree-clear-node-requires t)
-    (free-tree-lesser-requires t)
+    (free-tree-release-requires t)
     (free-tree-same-length t)
+    (free-tree-same-length-2 t)
     (free-tree-returns-2 t)

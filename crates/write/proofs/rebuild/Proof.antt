@@ -10,8 +10,7 @@ use Rattle.tree.specs.Tree.{slotBits}
 use Rattle.layout.specs.Words.{filledPlace}
 use Rattle.write.specs.declared.Seat.{Seat}
 use Rattle.write.specs.Writes.{seatOf, filledThen, cleared, givenWay, linked, topMarked, entered, foldAll, rebuilt}
-use Rattle.layout.specs.Spares.{Spared}
-use Rattle.layout.proofs.SparesLaws.{spared-as}
+use Rattle.freemap.specs.FreeMap.{Follows}
 use Rattle.write.proofs.rebuild.Statement.{statement}
 use Rattle.write.proofs.rebuild.Tie as tie
 
@@ -34,23 +33,24 @@ module _ (ws ps : List ℕ) (i k w n h top head m : ℕ) {s : Seat} (seat-is : s
         (filledThen ws (x .node) (x .slot) (x .count))) ps i (k / slotBits) top) ps m h top)
         (x .node) (x .slot) (x .count) w) (x .node) (x .slot) (x .count)) seat-is)
 
-    spared-is : {low r : ℕ} → Spared low r ws (cleared ws n (s .node) (s .slot) (s .count) (s .tier) (ltb h top) head h) →
-        Spared low r ws (givenWay ws ps i k n h top head)
-    spared-is {low} {r} = subst (λ (x : Seat). Spared low r ws
-        (cleared ws n (x .node) (x .slot) (x .count) (x .tier) (ltb h top) head h)) seat-is
+    follows-is : {ws₀ ms ms′ : List ℕ} →
+        ws₀ ≡ cleared ws n (s .node) (s .slot) (s .count) (s .tier) (ltb h top) head h → Follows ws ws₀ ms ms′ →
+        Follows ws (givenWay ws ps i k n h top head) ms ms′
+    follows-is {ms = ms} {ms′} e = subst (λ (y : List ℕ). Follows ws y ms ms′)
+        (e ∙ ap (λ (x : Seat). cleared ws n (x .node) (x .slot) (x .count) (x .tier) (ltb h top) head h) seat-is)
 
 -- THE PLACES IN THE CODE, each from one after it
 abbrev start : tie.After-shared-slice-known2 → tie.Start
-start c = c .before .before .before .before
+start c = c .before .before .before .before .before
 
 abbrev seated : tie.After-filled-then-arg → tie.After-seat-of
 seated c = c .before
 
-abbrev read : tie.After-clear-arg → tie.After-filled-then
-read c = c .before
+abbrev read : tie.After-clear-arg2 → tie.After-filled-then
+read c = c .before .before
 
 abbrev cleared-at : tie.After-put-filled-arg → tie.After-clear
-cleared-at c = c .before .before .before
+cleared-at c = c .before .before .before .before .before
 
 abbrev counted : tie.After-link-arg → tie.After-put-filled
 counted c = c .before .before .before
@@ -64,7 +64,7 @@ topped c = c .before .before .before
 abbrev entered-at : tie.After-fold-all-arg → tie.After-enter
 entered-at c = c .before .before .before
 
-abbrev folded : tie.After-slice-known7 → tie.After-fold-all
+abbrev folded : tie.After-slice-known9 → tie.After-fold-all
 folded c = c .before .before
 
 add-a : tie.Need-add-a
@@ -77,7 +77,7 @@ shared-slice-read-a : tie.Need-shared-slice-read-a
 shared-slice-read-a c = search needs
 
 seat-of-requires : tie.Need-seat-of-requires
-seat-of-requires c κs = start c .pre .1 .0 .0
+seat-of-requires c κs = start c .pre .1 .1 .1 .0 .0
 
 -- the entry's node is one of the pool's
 abbrev seat-at : tie.After-clear → tie.After-seat-of
@@ -91,16 +91,17 @@ node-lt : (c : tie.After-seat-of) → c .seat-of .result .node < start (c .befor
 node-lt c = let z = start (c .before) in omega (
   arith,
   node-is c,
-  z .pre .1 .1 .0 (z .args .target .order / slotBits + 1) (omega arith) (omega (arith, z .pre .1 .0 .1)),
+  z .pre .1 .1 .1 .1 .0 (z .args .target .order / slotBits + 1) (omega arith) (omega (arith, z .pre .1 .1 .1 .0 .1)),
 )
 
 filled-then-requires : tie.Need-filled-then-requires
 filled-then-requires c κs = let s = seated c in let p = start (s .before) .pre in
-    (omega (arith, p .0, node-lt s), (s .seat-of .ensures .1 .0, rw (node-is s) (p .1 .1 .1)))
+    (omega (arith, p .0, node-lt s), (s .seat-of .ensures .1 .0, rw (node-is s) (p .1 .1 .1 .1 .1)))
 
 clear-requires : tie.Need-clear-requires
 clear-requires c κs = let s = seated (read c .before) in
-    (omega (arith, start (s .before) .pre .0), (node-lt s, s .seat-of .ensures .1 .0))
+    let p = start (s .before) .pre in
+    (omega (arith, p .0), (p .1 .0, (p .1 .1 .0, node-lt s, s .seat-of .ensures .1 .0)))
 
 put-filled-requires : tie.Need-put-filled-requires
 put-filled-requires c κs = let k = cleared-at c in let s = seat-at k in
@@ -109,19 +110,19 @@ put-filled-requires c κs = let k = cleared-at c in let s = seat-at k in
 link-requires : tie.Need-link-requires
 link-requires c κs = let n = counted c in let k = cleared-at (n .before) in let p = start (seat-at k .before) .pre in
     let e = k .clear .kept .0 in let d = n .put-filled .kept .0 in
-    (p .1 .0 .1, (p .1 .0 .2, (omega arith, λ u a b. omega (arith, p .0, e, d, p .1 .1 .0 u a b))))
+    (p .1 .1 .1 .0 .1, (p .1 .1 .1 .0 .2, (omega arith, λ u a b. omega (arith, p .0, e, d, p .1 .1 .1 .1 .0 u a b))))
 
 mark-top-requires : tie.Need-mark-top-requires
 mark-top-requires c κs = let l = linked-at c in let n = counted (l .before) in let k = cleared-at (n .before) in
     let z = start (seat-at k .before) in let p = z .pre in (
-      (p .1 .0 .2, omega arith),
+      (p .1 .1 .1 .0 .2, omega arith),
       omega (
         arith,
         p .0,
         k .clear .kept .0,
         n .put-filled .kept .0,
         l .link .kept .0,
-        p .1 .1 .0 (z .args .heads .new) (omega (arith, p .1 .0 .1)) (omega arith),
+        p .1 .1 .1 .1 .0 (z .args .heads .new) (omega (arith, p .1 .1 .1 .0 .1)) (omega arith),
       ),
     )
 
@@ -161,6 +162,10 @@ same-length c = let f = folded c in let e = entered-at (f .before) in let t = to
     let l = linked-at (t .before) in let n = counted (l .before) in let k = cleared-at (n .before) in f .fold-all .kept .0 ∙
     (e .enter .kept .0 ∙ (t .mark-top .kept .0 ∙ (l .link .kept .0 ∙ (n .put-filled .kept .0 ∙ k .clear .kept .0))))
 
+same-length-2 : tie.Need-same-length-2
+same-length-2 c = let f = folded c in let e = entered-at (f .before) in let t = topped (e .before) in
+    let l = linked-at (t .before) in let n = counted (l .before) in cleared-at (n .before) .clear .kept .1 .0
+
 returns : tie.Need-returns
 returns c = let f = folded c in let e = entered-at (f .before) in let t = topped (e .before) in
     let l = linked-at (t .before) in let n = counted (l .before) in let k = cleared-at (n .before) in
@@ -169,8 +174,8 @@ returns c = let f = folded c in let e = entered-at (f .before) in let t = topped
       rebuilt-is (a .pool .now) (a .path .now) (x .index) (x .order) (x .word) (a .n) (h .old) (h .new) (h .word)
           (h .marks) q (d .filled-then .ensures) (k .clear .ensures .0) (n .put-filled .ensures) (l .link .ensures)
           (t .mark-top .ensures) (e .enter .ensures) (f .fold-all .ensures),
-      spared-is (a .pool .now) (a .path .now) (x .index) (x .order) (x .word) (a .n) (h .old) (h .new) (h .word)
-          (h .marks) q (spared-as (k .clear .ensures .1) (k .clear .ensures .0)),
+      follows-is (a .pool .now) (a .path .now) (x .index) (x .order) (x .word) (a .n) (h .old) (h .new) (h .word)
+          (h .marks) q (k .clear .ensures .0) (k .clear .ensures .1),
     )
 
 pub rebuild-spec : {M : Type 1} → statement M
@@ -189,4 +194,5 @@ rebuild-spec =
     enter-requires
     fold-all-requires
     same-length
+    same-length-2
     returns)

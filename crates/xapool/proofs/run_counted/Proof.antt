@@ -7,28 +7,22 @@ use Rattle.xapool.proofs.run_counted.Statement.{statement}
 use Rattle.xapool.proofs.run_counted.Tie as tie
 
 -- THE PLACES IN THE CODE, each from one after it
-abbrev start-from-then1 : tie.Then1 → tie.Start
-start-from-then1 c = c .before .before .before .before
+abbrev refused : tie.Then1 → tie.Start
+refused c = c .before .before .before .before .before
 
-abbrev start-from-run-all-arg2 : tie.After-run-all-arg2 → tie.Start
-start-from-run-all-arg2 c = c .before .before .before .before .before .before
+abbrev start : tie.After-run-all-arg3 → tie.Start
+start c = c .before .before .before .before .before .before .before .before
 
-abbrev run-all-from-slice-known4 : tie.After-slice-known4 → tie.After-run-all
-run-all-from-slice-known4 c = c .before .before .before .before
-
-abbrev start-from-slice-known4 : tie.After-slice-known4 → tie.Start
-start-from-slice-known4 c = run-all-from-slice-known4 c .before .before .before .before .before .before .before
+abbrev ran-all : tie.After-slice-known6 → tie.After-run-all
+ran-all c = c .before .before .before .before .before .before
 
 returns : tie.Need-returns
-returns c = as-ensures (comes-refused (run-short _ _ _ (start-from-then1 c .pre .0)
-    (was-read (start-from-then1 c .pre .1)) (omega arith)))
+returns c = let p = refused c .pre in
+    as-ensures (comes-refused (run-short _ _ _ (p .0) (was-read (p .1 .1)) (omega arith)))
 
 run-all-requires : tie.Need-run-all-requires
-run-all-requires c κs = (
-  accepted _ (start-from-run-all-arg2 c .pre .0),
-  ahead (start-from-run-all-arg2 c .args .reply .now)
-      (was-read (start-from-run-all-arg2 c .pre .1)) (omega arith),
-)
+run-all-requires c κs = let z = start c in
+    (accepted _ (z .pre .0), (z .pre .1 .0, ahead (z .args .reply .now) (was-read (z .pre .1 .1)) (omega arith)))
 
 same-length : tie.Need-same-length
 same-length c = search needs
@@ -36,13 +30,13 @@ same-length c = search needs
 same-length-2 : tie.Need-same-length-2
 same-length-2 c = search needs
 
+same-length-3 : tie.Need-same-length-3
+same-length-3 c = search needs
+
 returns-2 : tie.Need-returns-2
-returns-2 c = let r = was-read (start-from-slice-known4 c .pre .1) in
-    as-ensures (ran (start-from-slice-known4 c .pre
-    .0) r (omega arith) (run-all-from-slice-known4 c .run-all .ensures
-    (accepted _ (start-from-slice-known4 c .pre
-    .0)) (r .cs) (r .rest)))
+returns-2 c = let a = ran-all c in let p = start (a .before) .pre in let r = was-read (p .1 .1) in
+    as-ensures (ran (p .0) r (omega arith) (a .run-all .ensures (accepted _ (p .0)) (r .cs) (r .rest)))
 
 pub run-counted-spec : {M : Type 1} → statement M
 run-counted-spec =
-    tie.close (tie.spec returns run-all-requires same-length same-length-2 returns-2)
+    tie.close (tie.spec returns run-all-requires same-length same-length-2 same-length-3 returns-2)

@@ -1,0 +1,5 @@
+pub mod BitOneLaws
+pub mod CountLaws
+pub mod FlipLaws
+pub mod MapLaws
+pub mod FollowLaws

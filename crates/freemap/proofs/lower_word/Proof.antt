@@ -1,0 +1,42 @@
+-- `lower_word`: the bit of a word that is 0 now is cleared.
+use mathlib.Core.Bool.{false}
+use mathlib.Core.Path.{refl, sym, _∙_}
+use borrow.Author.Tests.{eq-eqb, ne-eqb}
+use Rattle.freemap.proofs.FlipLaws.{topped-same, topped-flips}
+use borrow.Author.Needs.{needs}
+use Rattle.freemap.proofs.lower_word.Statement.{statement}
+use Rattle.freemap.proofs.lower_word.Tie as tie
+
+mul-if1 : tie.Need-mul-if1
+mul-if1 c = search needs
+
+slice-read-if1 : tie.Need-slice-read-if1
+slice-read-if1 c = search needs
+
+add-clear-bit : tie.Need-add-clear-bit
+add-clear-bit c = search needs
+
+clear-bit-requires : tie.Need-clear-bit-requires
+clear-bit-requires c κs = search needs
+
+same-length : tie.Need-same-length
+same-length c = search needs
+
+returns : tie.Need-returns
+returns c = let p = c .before .before .before .before .before .before .before .pre in
+    topped-flips _ (p .0 .1) false (c .before .before .clear-bit .ensures) (sym (rw (eq-eqb _ _ (c .before .before .before .before .if1 .taken)) refl))
+
+returns-2 : tie.Need-returns-2
+returns-2 c = let p = c .before .before .before .pre in topped-same _ (p .0 .1) (p .1 ∙ sym (rw (ne-eqb _ _ (c .if1 .left)) refl))
+
+pub lower-word-spec : {M : Type 1} → statement M
+lower-word-spec =
+    tie.close
+    (tie.spec
+    mul-if1
+    slice-read-if1
+    add-clear-bit
+    clear-bit-requires
+    same-length
+    returns
+    returns-2)
