@@ -3,12 +3,14 @@
 // batch: the borrowed bytes; at: a place in them; a record is a tag byte, a length of two bytes and that many bytes of
 // fields; reply: the borrowed bytes of the replies.
 ghost use mathlib.Core.Path.{_≡_};
+ghost use mathlib.Core.Bool.{true};
 ghost use mathlib.Core.Logic.{_≢_};
 ghost use mathlib.Core.List.{[], _∷_};
 ghost use Prim.Native.Nat.{_+_, _*_, _<_, _≤_, _%_};
 ghost use lib.ListN.{length};
 ghost use Rattle.batch.specs.Bytes.{numberAt, bytesThen, overwrite};
 ghost use Rattle.batch.specs.Batch.{fieldBytes, headBytes, commandAt, isRecord, nextAt, readAt, restAt, counted, parse};
+ghost use Rattle.batch.specs.declared.Read.the-variants.{Next};
 ghost use Rattle.blocks.specs.Choice.{pick};
 ghost use Rattle.batch.specs.Reply.{replyBytes, encode, replyTag};
 
@@ -61,6 +63,12 @@ pub enum Read {
     Next(Command, Cursor),
     Bad,
     End,
+}
+
+// A command, and the place after its record.
+pub struct Step {
+    pub command: Command,
+    pub at: usize,
 }
 
 // What a whole batch comes to: how many commands, or the place of its first bad record.
@@ -246,6 +254,41 @@ pub fn read_at(batch: &[u8], at: usize) -> Read
     }
     let tag = number1(batch, at);
     Read::Next(command_at(batch, tag, at + HEAD_BYTES), Cursor { at: next })
+}
+
+// The command at a place where a good record stands: what `count` has looked at is not tested again. Stores and finds are
+// read here and not by command_at, whose other caller keeps it from being inlined.
+pub fn step_at(batch: &[u8], at: usize) -> Step
+    requires { ⌜ isRecord (now batch) at ≡ true ⌝ }
+    ensures { λ r. ⌜ Next (r .command) (record { at = r .at }) ≡ readAt (now (batch .entry)) at ⌝ }
+{
+    let tag = number1(batch, at);
+    let start = at + HEAD_BYTES;
+    if tag == 1 {
+        return Step {
+            command: Command::Store {
+                index: number8(batch, start),
+                order: number1(batch, start + 8),
+                word: number8(batch, start + 9),
+            },
+            at: start + 17,
+        };
+    }
+    if tag == 6 {
+        return Step {
+            command: Command::Find {
+                first: number8(batch, start),
+                last: number8(batch, start + 8),
+                filter: number1(batch, start + 16),
+                budget: number2(batch, start + 17),
+            },
+            at: start + 19,
+        };
+    }
+    Step {
+        command: command_at(batch, tag, start),
+        at: start + number2(batch, at + 1) as usize,
+    }
 }
 
 // The whole batch from its beginning, where it is not too long; no field is decoded.
