@@ -1,11 +1,15 @@
-//! Stores, erases, loads and marks over several trees, for the comparison of two builds.
+//! Stores, erases, loads and marks over several trees, for the comparison of two builds; some also
+//! for that with the engines.
 
 use crate::loads::*;
 use std::collections::BTreeSet;
-use xapool_host::{Command, Word};
+use xapool_host::{Command, Word, MOST_NODES};
 
 /// Stores below 2^64 take nine nodes each, and 17 for the first two shifts: 917 in all.
 const WIDE_STORES: usize = 100;
+
+/// The slots of a node.
+const SLOTS: u64 = 64;
 
 /// As many as are wanted of a dense load of so many indices.
 pub fn loads(indices: u64) -> Vec<Load> {
@@ -49,7 +53,7 @@ fn sparse_below(name: &'static str, bits: u32, a_pool: usize, stores: u64) -> Lo
     Load::new(name, about, pools)
 }
 
-fn mixed_orders(stores: u64) -> Load {
+pub fn mixed_orders(stores: u64) -> Load {
     let mut random = Random(9);
     let mut one = || {
         let (index, order) = (below_bits(&mut random, 20), random.below(13) as u8);
@@ -71,7 +75,7 @@ fn dense_of_order(name: &'static str, order: u8, indices: u64, pools: usize) -> 
     Load::new(name, about, (0..pools).map(work).collect())
 }
 
-fn overwrites(indices: u64) -> Load {
+pub fn overwrites(indices: u64) -> Load {
     let mut random = Random(10);
     let one = |index| Command::Store { index, order: 0, word: Word(4 * (index + 1)) };
     let timed = (0..indices / 2).map(|_| one(random.below(indices))).collect();
@@ -101,7 +105,7 @@ fn growing_and_shrinking() -> Load {
     Load::new("the head grows and shrinks", about, (0..10).map(work).collect())
 }
 
-fn erases(indices: u64) -> Load {
+pub fn erases(indices: u64) -> Load {
     let erase = |index| Command::Erase { index };
     let timed = Random(11).shuffled((0..indices).map(erase).collect());
     let pools = vec![Work { setup: dense_stores(indices), timed }];
@@ -117,7 +121,7 @@ fn different(random: &mut Random, count: usize) -> Vec<u64> {
     random.shuffled(all.into_iter().collect())
 }
 
-fn sparse_erases(erases: u64) -> Load {
+pub fn sparse_erases(erases: u64) -> Load {
     let mut random = Random(12);
     let mut work = |_| {
         let indices = different(&mut random, STORES_A_POOL);
@@ -158,7 +162,7 @@ fn sparse_pairs(commands: u64) -> Load {
     Load::new("erase and store pairs, sparse", about, vec![Work { setup, timed }])
 }
 
-fn hits(indices: u64) -> Load {
+pub fn hits(indices: u64) -> Load {
     let mut random = Random(15);
     let load = |index| Command::Load { index };
     let timed = (0..indices).map(|_| load(random.below(indices))).collect();
@@ -166,7 +170,7 @@ fn hits(indices: u64) -> Load {
     Load::new("loads", format!("at random of {indices} dense entries"), pools)
 }
 
-fn misses(indices: u64) -> Load {
+pub fn misses(indices: u64) -> Load {
     let mut random = Random(16);
     let setup: Vec<Command> = one_in_97(indices).map(store).collect();
     // One less than the last index of a stretch, at most.
@@ -179,7 +183,7 @@ fn misses(indices: u64) -> Load {
     Load { answer: 10, ..Load::new("loads that miss", about, vec![Work { setup, timed }]) }
 }
 
-fn marks(indices: u64) -> Load {
+pub fn marks(indices: u64) -> Load {
     let mut random = Random(17);
     let mut one = || {
         let (index, mark) = (random.below(indices), random.below(3) as u8);
@@ -191,4 +195,36 @@ fn marks(indices: u64) -> Load {
     let timed = (0..indices).map(|_| one()).collect();
     let pools = vec![Work { setup: dense_stores(indices), timed }];
     Load::new("marks and unmarks", format!("at random of {indices} dense entries"), pools)
+}
+
+/// The nodes over so many leaves side by side, with the leaves.
+fn nodes_over(leaves: u64) -> u64 {
+    match leaves {
+        1 => 1,
+        _ => leaves + nodes_over(leaves.div_ceil(SLOTS)),
+    }
+}
+
+/// Entries, each alone in its leaf, that take all nodes of a pool; then one after the other goes, and
+/// another comes in a leaf that there was not: each takes the one node that is free.
+pub fn churn(commands: u64) -> Load {
+    let fits = |leaves: &u64| nodes_over(*leaves) <= MOST_NODES as u64;
+    let leaves = (2..).take_while(fits).last().unwrap_or(2);
+    let blocks = leaves.next_multiple_of(SLOTS);
+    let mut random = Random(18);
+    let mut there: Vec<u64> = (0..blocks).collect();
+    let mut absent = there.split_off(leaves as usize);
+    let setup = there.iter().map(|block| store(SLOTS * block)).collect();
+    let mut timed = Vec::new();
+    for _ in 0..commands / 2 {
+        let gone = random.below(leaves) as usize;
+        let come = random.below(absent.len() as u64) as usize;
+        timed.push(Command::Erase { index: SLOTS * there[gone] });
+        timed.push(store(SLOTS * absent[come]));
+        std::mem::swap(&mut there[gone], &mut absent[come]);
+    }
+    let about =
+        format!("{leaves} leaves of one entry, one erased and another stored, no node left free");
+    let nodes = nodes_over(leaves) as usize;
+    Load { nodes, ..Load::new("churn in a full pool", about, vec![Work { setup, timed }]) }
 }

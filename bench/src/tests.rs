@@ -4,23 +4,28 @@ use crate::library::{Library, Linked};
 use crate::loads::{batches, dense, marked_finds, small, sparse, Load, Work};
 use crate::measure::{Cost, Trial};
 use crate::table::{self, ByNodes};
-use crate::{checks, finds, free, lists, regions, stores};
+use crate::{checks, engines, finds, free, lists, regions, stores};
 use std::collections::BTreeSet;
 use xapool_host::layout::node_place;
 use xapool_host::raw::RawResult;
-use xapool_host::{Command, Pool, MOST_BATCH_BYTES};
+use xapool_host::{Command, Pool, MOST_BATCH_BYTES, MOST_NODES};
 
 /// The nodes that stores of order 0 below 2^24 take, at most: a node of each shift over each.
 fn most_nodes(work: &Work) -> usize {
+    nodes_of(work.setup.iter().chain(&work.timed), &[6, 12, 18, 24])
+}
+
+/// The nodes over the indices of stores, with this many bits below each.
+fn nodes_of<'a>(commands: impl Iterator<Item = &'a Command>, bits: &[u32]) -> usize {
     let index = |command: &Command| match command {
         Command::Store { index, .. } => Some(*index),
         _ => None,
     };
-    let indices: Vec<u64> = work.setup.iter().chain(&work.timed).filter_map(index).collect();
+    let indices: Vec<u64> = commands.filter_map(index).collect();
     assert!(indices.iter().all(|index| *index < 1 << 24));
     let nodes =
         |bits: u32| indices.iter().map(|index| index >> bits).collect::<BTreeSet<_>>().len();
-    [6, 12, 18, 24].into_iter().map(nodes).sum()
+    bits.iter().map(|bits| nodes(*bits)).sum()
 }
 
 fn most(load: &Load) -> usize {
@@ -130,6 +135,29 @@ fn loads_for_free_nodes_run() -> Result<(), String> {
     let is_free = |node: &usize| pool.words()[node_place(*node)] == 0;
     assert_eq!((0..40).filter(is_free).collect::<Vec<_>>(), [7, 38, 39]);
     Ok(())
+}
+
+/// So is a reply of an engine that is not the library's.
+#[test]
+fn loads_beside_the_engines_run() -> Result<(), String> {
+    let rows = engines::rows(1000, 2)?;
+    assert_eq!(rows.len(), engines::loads(1000).len());
+    let good = |row: &engines::Row| {
+        row.commands > 0 && row.ratios_with_check().iter().all(|ratio| ratio.least > 0.0)
+    };
+    assert!(rows.iter().all(good));
+    assert!(engines::picture(&rows).contains("marked finds"));
+    assert_eq!(engines::table(&rows).lines().count(), rows.len() + 2);
+    Ok(())
+}
+
+/// All nodes are in use before each pair of commands.
+#[test]
+fn churn_is_in_a_full_pool() {
+    let load = stores::churn(1000);
+    // The head has shift 12.
+    assert_eq!(nodes_of(load.pools[0].setup.iter(), &[6, 12, 18]), load.nodes);
+    assert_eq!(load.nodes, MOST_NODES);
 }
 
 /// So is a list that has other bytes than its entries call for.
