@@ -1,7 +1,7 @@
-//! Batches as bytes: those of case 14, the longest, and each kind of bad record.
+//! Batches as bytes: those of case 14, and each kind of bad record.
 
 use crate::helpers::{batch_of, outcome, Both};
-use engine::{MOST_BATCH_BYTES, REPLY_BYTES};
+use engine::REPLY_BYTES;
 use reference::batch::Command;
 
 const STORE_64: [u8; 20] = [1, 0, 17, 0, 0, 0, 0, 0, 0, 0, 64, 0, 0, 0, 0, 0, 0, 0, 0, 5];
@@ -22,29 +22,6 @@ fn case_14_bytes() {
     assert_eq!(reply[..12], head);
     assert_eq!(reply[12..24], rest);
     assert_eq!(reply[24..], [0xAA; 5]);
-}
-
-/// Whole records of together so many bytes: some of 12 until records of 11 fill the rest.
-fn whole_records(bytes: usize) -> Vec<Command> {
-    let marks =
-        (0..11).find(|marks| (bytes - 12 * marks).is_multiple_of(11)).expect("one of eleven");
-    let mut commands = vec![Command::Mark { index: 0, mark: 0 }; marks];
-    commands.extend(vec![load(1); (bytes - 12 * marks) / 11]);
-    assert_eq!(batch_of(&commands).len(), bytes);
-    commands
-}
-
-#[test]
-fn the_longest_batch_and_one_byte_more() {
-    let mut both = Both::new(1);
-    let commands = whole_records(MOST_BATCH_BYTES);
-    let all = commands.len();
-    assert_eq!(both.run(&batch_of(&commands), REPLY_BYTES * all).0, outcome(0, all as u64));
-    for more in [1, 11, 500] {
-        let commands = whole_records(MOST_BATCH_BYTES + more);
-        let (refused, _) = both.run(&batch_of(&commands), REPLY_BYTES * commands.len());
-        assert_eq!(refused, outcome(3, MOST_BATCH_BYTES as u64));
-    }
 }
 
 #[test]

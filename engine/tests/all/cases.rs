@@ -1,7 +1,7 @@
 //! The cases of docs/RULES.md, with its figures.
 
 use crate::helpers::{Both, LAST};
-use engine::{HeadView, RawEngine, SafeEngine, MOST_BATCH_BYTES, MOST_NODES};
+use engine::HeadView;
 use reference::batch::{Command, Reply};
 
 fn store(index: u64, order: u8, word: u64) -> Command {
@@ -43,19 +43,6 @@ fn gives(reply: Reply) -> (u64, u8, u64, u8, u16) {
 fn head_slots(both: &Both) -> ([u64; 64], [u64; 3]) {
     let (_, nodes) = both.tree();
     (nodes[0].slots, nodes[0].marks)
-}
-
-#[test]
-fn limits_are_those_of_reference() {
-    assert_eq!(MOST_NODES, reference::pool::MOST_NODES);
-    assert_eq!(MOST_BATCH_BYTES, reference::batch::MOST_BATCH_BYTES);
-}
-
-#[test]
-fn nodes_are_as_many_as_a_pool_may_have() {
-    assert!(SafeEngine::new(0).is_none() && SafeEngine::new(MOST_NODES + 1).is_none());
-    assert!(RawEngine::new(0).is_none() && RawEngine::new(MOST_NODES + 1).is_none());
-    assert!(SafeEngine::new(MOST_NODES).is_some() && RawEngine::new(MOST_NODES).is_some());
 }
 
 #[test]

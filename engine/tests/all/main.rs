@@ -4,4 +4,5 @@ mod batches;
 mod cases;
 mod crowded;
 mod helpers;
+mod limits;
 mod random;
