@@ -220,16 +220,18 @@ fn every_answer_and_both_sides_of_11_are_met() {
 /// The largest pools and the longest batches are rare, since they take long, but they are met.
 #[test]
 fn the_largest_pools_and_full_batches_are_met() {
-    let (mut largest, mut larger, mut full) = (0, 0, 0);
-    for list in (0..3000).map(CallList::random) {
-        let nodes = node_count(list.words.len()).unwrap_or(0);
-        largest += usize::from(nodes == MOST_NODES);
-        larger += usize::from(nodes > 1000);
-        let is_full = |call: &&Call| matches!(call, Call::Run { batch, .. } if batch.len() == MOST_BATCH_BYTES);
-        full += list.calls.iter().filter(is_full).count();
+    for of in [CallList::random, engines::random_list] {
+        let (mut largest, mut larger, mut full) = (0, 0, 0);
+        for list in (0..3000).map(of) {
+            let nodes = node_count(list.words.len()).unwrap_or(0);
+            largest += usize::from(nodes == MOST_NODES);
+            larger += usize::from(nodes > 1000);
+            let is_full = |call: &&Call| matches!(call, Call::Run { batch, .. } if batch.len() == MOST_BATCH_BYTES);
+            full += list.calls.iter().filter(is_full).count();
+        }
+        let rare = largest >= 1 && (3..=20).contains(&larger);
+        assert!(rare && full >= 10, "{largest} and {larger} large pools, {full} full batches");
     }
-    let rare = largest >= 1 && (3..=20).contains(&larger);
-    assert!(rare && full >= 10, "{largest} and {larger} large pools, {full} full batches");
 }
 
 /// The program's inputs lie on both sides of what it takes, also as whole records.
