@@ -4,6 +4,7 @@
 use crate::engine_plot;
 use crate::library::Linked;
 use crate::loads::{dense, marked_finds, sparse, Load};
+use crate::loads::{BATCH_OF_ERASES, BATCH_OF_STORES, LARGEST};
 use crate::measure::{all_ready, empty_pool, nanoseconds, times, Ready};
 use crate::{finds, stores};
 use engine::{Calls, RawEngine, SafeEngine};
@@ -26,18 +27,19 @@ pub const LIMIT: f64 = 2.0;
 pub fn loads(indices: u64) -> Vec<Load> {
     vec![
         dense(indices),
-        sparse(indices),
+        sparse(indices, BATCH_OF_STORES),
         marked_finds(indices, indices),
+        Load { name: "sparse stores, largest pools", ..sparse(indices, LARGEST) },
         stores::hits(indices),
         stores::misses(indices),
         stores::erases(indices),
-        stores::sparse_erases(indices / 4),
+        stores::sparse_erases(indices / 2, BATCH_OF_ERASES),
         stores::marks(indices),
-        stores::mixed_orders(indices / 2),
+        stores::mixed_orders(indices / 2, BATCH_OF_STORES),
         stores::overwrites(indices),
         stores::churn(indices / 2),
         finds::over_gaps(indices, indices / 2),
-        finds::over_sparse(indices / 2),
+        finds::over_sparse(indices / 2, BATCH_OF_STORES),
         finds::over_runs(indices, indices / 2),
     ]
 }

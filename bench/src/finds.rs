@@ -10,7 +10,7 @@ pub fn loads(indices: u64) -> Vec<Load> {
         marked_finds(indices, indices),
         over_runs(indices, finds),
         over_gaps(indices, finds),
-        over_sparse(finds),
+        over_sparse(finds, OLDER),
     ]
 }
 
@@ -56,12 +56,13 @@ pub fn over_gaps(indices: u64, finds: u64) -> Load {
     Load::new("finds over gaps", about, vec![Work { setup, timed }])
 }
 
-pub fn over_sparse(finds: u64) -> Load {
+pub fn over_sparse(finds: u64, scatter: Scatter) -> Load {
+    let Scatter { entries, nodes } = scatter;
     let mut random = Random(6);
-    let indices: Vec<u64> = (0..STORES_A_POOL).map(|_| random.below(1 << 24)).collect();
+    let indices: Vec<u64> = (0..entries).map(|_| random.below(1 << 24)).collect();
     let most = indices.iter().max().map_or(1, |last| last + 1);
     let timed = (0..finds).map(|_| find(random.below(most), FIND_ANY)).collect();
     let setup = indices.into_iter().map(store).collect();
-    let about = format!("filter 3, {STORES_A_POOL} entries at random below 2^24");
-    Load::new("finds, sparse", about, vec![Work { setup, timed }])
+    let about = format!("filter 3, {entries} entries at random below 2^24");
+    Load { nodes, ..Load::new("finds, sparse", about, vec![Work { setup, timed }]) }
 }

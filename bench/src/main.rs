@@ -107,9 +107,9 @@ fn measure_all(options: &Options) -> Result<(), String> {
 /// The tables without the engines, and their picture.
 fn measure_alone(options: &Options) -> Result<(String, String), String> {
     let count = options.indices;
-    let full = [loads::dense(count), loads::sparse(count), loads::marked_finds(count, count)];
+    let sparse = loads::sparse(count, loads::BATCH_OF_STORES);
     let mut rows = Vec::new();
-    for load in full {
+    for load in [loads::dense(count), sparse, loads::marked_finds(count, count)] {
         rows.push(row(load, options.repeats)?);
     }
     let mut by_nodes = Vec::new();

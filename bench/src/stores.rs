@@ -16,17 +16,17 @@ pub fn loads(indices: u64) -> Vec<Load> {
     vec![
         dense(indices),
         shuffled(indices),
-        sparse_below("sparse stores below 2^20", 20, STORES_A_POOL, indices / 2),
-        sparse(indices / 2),
+        sparse_below("sparse stores below 2^20", 20, OLDER.entries, indices / 2),
+        sparse(indices / 2, OLDER),
         sparse_below("sparse stores below 2^64", 64, WIDE_STORES, indices / 4),
-        mixed_orders(indices / 2),
+        mixed_orders(indices / 2, OLDER),
         dense_of_order("stores of order 2", 2, indices, 1),
         dense_of_order("stores of order 5", 5, indices, 8),
         overwrites(indices),
         growing(),
         growing_and_shrinking(),
         erases(indices),
-        sparse_erases(indices / 4),
+        sparse_erases(indices / 4, OLDER),
         pairs(indices),
         sparse_pairs(indices / 2),
         hits(indices),
@@ -53,16 +53,17 @@ fn sparse_below(name: &'static str, bits: u32, a_pool: usize, stores: u64) -> Lo
     Load::new(name, about, pools)
 }
 
-pub fn mixed_orders(stores: u64) -> Load {
+pub fn mixed_orders(stores: u64, scatter: Scatter) -> Load {
+    let Scatter { entries, nodes } = scatter;
     let mut random = Random(9);
     let mut one = || {
         let (index, order) = (below_bits(&mut random, 20), random.below(13) as u8);
         store_order(index >> order << order, order)
     };
     let stores: Vec<Command> = (0..stores).map(|_| one()).collect();
-    let pools = stores_by_pool(&stores, STORES_A_POOL);
-    let about = format!("at random below 2^20, {STORES_A_POOL} to a pool, pools: {}", pools.len());
-    Load::new("stores of orders 0 to 12", about, pools)
+    let pools = stores_by_pool(&stores, entries);
+    let about = format!("at random below 2^20, {entries} to a pool, pools: {}", pools.len());
+    Load { nodes, ..Load::new("stores of orders 0 to 12", about, pools) }
 }
 
 /// Entries of one order side by side, on so many pools.
@@ -121,16 +122,17 @@ fn different(random: &mut Random, count: usize) -> Vec<u64> {
     random.shuffled(all.into_iter().collect())
 }
 
-pub fn sparse_erases(erases: u64) -> Load {
+pub fn sparse_erases(erases: u64, scatter: Scatter) -> Load {
+    let Scatter { entries, nodes } = scatter;
     let mut random = Random(12);
     let mut work = |_| {
-        let indices = different(&mut random, STORES_A_POOL);
+        let indices = different(&mut random, entries);
         let timed = indices.iter().map(|index| Command::Erase { index: *index }).collect();
         Work { setup: random.shuffled(indices.into_iter().map(store).collect()), timed }
     };
-    let pools: Vec<Work> = (0..=erases / STORES_A_POOL as u64).map(&mut work).collect();
-    let about = format!("{STORES_A_POOL} at random below 2^24 to a pool, pools: {}", pools.len());
-    Load::new("erases, sparse", about, pools)
+    let pools: Vec<Work> = (0..=erases / entries as u64).map(&mut work).collect();
+    let about = format!("{entries} at random below 2^24 to a pool, pools: {}", pools.len());
+    Load { nodes, ..Load::new("erases, sparse", about, pools) }
 }
 
 fn pairs(indices: u64) -> Load {
@@ -197,22 +199,22 @@ pub fn marks(indices: u64) -> Load {
     Load::new("marks and unmarks", format!("at random of {indices} dense entries"), pools)
 }
 
-/// The nodes over so many leaves side by side, with the leaves.
-fn nodes_over(leaves: u64) -> u64 {
-    match leaves {
+/// So many nodes side by side, and those over them up to a head.
+fn with_those_over(nodes: u64) -> u64 {
+    match nodes {
         1 => 1,
-        _ => leaves + nodes_over(leaves.div_ceil(SLOTS)),
+        _ => nodes + with_those_over(nodes.div_ceil(SLOTS)),
     }
 }
 
 /// Entries, each alone in its leaf, that take all nodes of a pool; then one after the other goes, and
 /// another comes in a leaf that there was not: each takes the one node that is free.
 pub fn churn(commands: u64) -> Load {
-    let fits = |leaves: &u64| nodes_over(*leaves) <= MOST_NODES as u64;
-    let leaves = (2..).take_while(fits).last().unwrap_or(2);
-    let blocks = leaves.next_multiple_of(SLOTS);
+    // Twice as many leaves as there can be: all nodes over them are there and stay.
+    let blocks = 2 * MOST_NODES as u64;
+    let leaves = MOST_NODES as u64 - with_those_over(blocks / SLOTS);
     let mut random = Random(18);
-    let mut there: Vec<u64> = (0..blocks).collect();
+    let mut there = random.shuffled((0..blocks).collect());
     let mut absent = there.split_off(leaves as usize);
     let setup = there.iter().map(|block| store(SLOTS * block)).collect();
     let mut timed = Vec::new();
@@ -225,6 +227,6 @@ pub fn churn(commands: u64) -> Load {
     }
     let about =
         format!("{leaves} leaves of one entry, one erased and another stored, no node left free");
-    let nodes = nodes_over(leaves) as usize;
-    Load { nodes, ..Load::new("churn in a full pool", about, vec![Work { setup, timed }]) }
+    let pools = vec![Work { setup, timed }];
+    Load { nodes: MOST_NODES, ..Load::new("churn in a full pool", about, pools) }
 }

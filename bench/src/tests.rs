@@ -1,31 +1,26 @@
 //! The loads fit the pools they run on.
 
 use crate::library::{Library, Linked};
-use crate::loads::{batches, dense, marked_finds, small, sparse, Load, Work};
+use crate::loads::*;
 use crate::measure::{Cost, Trial};
 use crate::table::{self, ByNodes};
 use crate::{checks, engines, finds, free, lists, regions, stores};
 use std::collections::BTreeSet;
 use xapool_host::layout::node_place;
 use xapool_host::raw::RawResult;
-use xapool_host::{Command, Pool, MOST_BATCH_BYTES, MOST_NODES};
+use xapool_host::{Command, Pool, MOST_BATCH_BYTES};
 
 /// The nodes that stores of order 0 below 2^24 take, at most: a node of each shift over each.
 fn most_nodes(work: &Work) -> usize {
-    nodes_of(work.setup.iter().chain(&work.timed), &[6, 12, 18, 24])
-}
-
-/// The nodes over the indices of stores, with this many bits below each.
-fn nodes_of<'a>(commands: impl Iterator<Item = &'a Command>, bits: &[u32]) -> usize {
     let index = |command: &Command| match command {
         Command::Store { index, .. } => Some(*index),
         _ => None,
     };
-    let indices: Vec<u64> = commands.filter_map(index).collect();
+    let indices: Vec<u64> = work.setup.iter().chain(&work.timed).filter_map(index).collect();
     assert!(indices.iter().all(|index| *index < 1 << 24));
     let nodes =
         |bits: u32| indices.iter().map(|index| index >> bits).collect::<BTreeSet<_>>().len();
-    bits.iter().map(|bits| nodes(*bits)).sum()
+    [6, 12, 18, 24].into_iter().map(nodes).sum()
 }
 
 fn most(load: &Load) -> usize {
@@ -33,9 +28,11 @@ fn most(load: &Load) -> usize {
 }
 
 #[test]
-fn full_loads_fit_1000_nodes() {
-    for load in [dense(60_000), sparse(60_000), marked_finds(60_000, 60_000)] {
-        assert!(most(&load) <= 1000, "{}: {}", load.name, most(&load));
+fn full_loads_fit_their_nodes() {
+    let sparse = |scatter| sparse(60_000, scatter);
+    let sparse = [sparse(OLDER), sparse(BATCH_OF_STORES), sparse(LARGEST)];
+    for load in [dense(60_000), marked_finds(60_000, 60_000)].into_iter().chain(sparse) {
+        assert!(most(&load) <= load.nodes, "{}: {}", load.name, most(&load));
         let commands: usize = load.pools.iter().map(|work| work.timed.len()).sum();
         assert_eq!(commands, 60_000);
     }
@@ -73,11 +70,11 @@ fn loads_for_two_builds_run() -> Result<(), String> {
     Ok(())
 }
 
-/// The nodes that these entries of order 0 take, one of them in the last block of a head of shift 18.
+/// The nodes that these entries of order 0 take, under a head of shift 18.
 fn nodes_over(indices: &BTreeSet<u64>) -> usize {
     let nodes =
         |bits: u32| indices.iter().map(|index| index >> bits).collect::<BTreeSet<_>>().len();
-    assert_eq!(indices.last().map(|last| last >> 18), Some(63));
+    assert!(indices.last().is_some_and(|last| (1..64).contains(&(last >> 18))));
     [6, 12, 18, 24].into_iter().map(nodes).sum()
 }
 
@@ -151,13 +148,11 @@ fn loads_beside_the_engines_run() -> Result<(), String> {
     Ok(())
 }
 
-/// All nodes are in use before each pair of commands.
+/// All nodes are in use before each pair of commands, and one is free in between.
 #[test]
 fn churn_is_in_a_full_pool() {
     let load = stores::churn(1000);
-    // The head has shift 12.
-    assert_eq!(nodes_of(load.pools[0].setup.iter(), &[6, 12, 18]), load.nodes);
-    assert_eq!(load.nodes, MOST_NODES);
+    assert_eq!((load.nodes, in_use(&load)), (16_384, (16_384, 16_384, 16_383)));
 }
 
 /// So is a list that has other bytes than its entries call for.
