@@ -5,7 +5,7 @@ use crate::engine_plot;
 use crate::library::Linked;
 use crate::loads::{dense, marked_finds, sparse, Load};
 use crate::loads::{BATCH_OF_ERASES, BATCH_OF_STORES, LARGEST};
-use crate::measure::{all_ready, empty_pool, nanoseconds, times, Ready};
+use crate::measure::{all_ready, blank, empty_pool, nanoseconds, times, Ready};
 use crate::{finds, stores};
 use engine::{Calls, RawEngine, SafeEngine};
 use std::time::Instant;
@@ -13,11 +13,11 @@ use xapool_host::{BatchBuilder, REPLY_BYTES};
 
 pub const USAGE: &str = "\
 usage: bench engines [--rounds N] [--indices N]
-  --rounds    of all loads by each, in turns; 30 if not named
+  --rounds    of all loads by each, in turns; 100 if not named
   --indices   of the dense loads, and the commands of most others; 60,000 if not named
 Exit status: 0 fine, 1 replies differ or a call was refused, 2 bad usage.";
 
-pub const ROUNDS: u32 = 30;
+pub const ROUNDS: u32 = 100;
 
 /// How many of the loads are those that a limit is asked for; they come first.
 pub const ASKED: usize = 3;
@@ -151,12 +151,13 @@ impl<'a> Trial<'a> {
 /// The time of each batch of one pool by an engine, after its setup.
 fn engine_times(engine: &mut dyn Calls, ready: &Ready, times: &mut Vec<f64>) -> Result<(), String> {
     engine.init();
+    let mut space = Vec::new();
     for batch in &ready.setup {
-        run(engine, batch, &mut vec![0; REPLY_BYTES * batch.len()])?;
+        run(engine, batch, blank(&mut space, REPLY_BYTES * batch.len()))?;
     }
     for (batch, expected) in ready.batches.iter().zip(&ready.replies) {
-        let mut reply = vec![0; expected.len()];
-        times.push(run(engine, batch, &mut reply)?);
+        let reply = blank(&mut space, expected.len());
+        times.push(run(engine, batch, reply)?);
         if reply != *expected {
             return Err("an engine replies differently from the library".into());
         }

@@ -35,7 +35,7 @@ usage: bench [--indices N] [--repeats N] [--small-repeats N] [--rounds N] [--wri
   --indices   of the dense load, and the commands of the others; 60,000 if not named
   --repeats   of each load; of each batch the shortest time counts; 5 if not named
   --small-repeats   of the small loads, which take microseconds; 200 if not named
-  --rounds    of the loads beside the engines; 30 if not named
+  --rounds    of the loads beside the engines; 100 if not named
   --write     writes BENCHMARKS.md, engines.svg and benchmarks.svg to this folder
        bench engines ..   the loads beside the engines alone
        bench against ..   two builds in one run: scripts/bench-against
@@ -194,8 +194,8 @@ fn put(folder: &str, name: &str, text: &str) -> Result<(), String> {
 const BESIDE: &str = "\
     Times and ratios are two: from the shortest time of each batch of all rounds, and from its median; each is the mean \
     over all batches. The library and the two engines of [engine/](../engine) take the same batches in one process, in \
-    turns, and every reply of an engine is compared with the library's byte for byte. An engine has nodes of its own and \
-    so no pool to check.";
+    turns, and every reply of an engine is compared with the library's byte for byte. All are release builds, the engines \
+    by rustc at opt-level 3 (bench/Cargo.toml). An engine has nodes of its own and so no pool to check.";
 
 /// What the others say.
 const ALONE: &str = "\

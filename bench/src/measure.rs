@@ -230,7 +230,7 @@ pub fn times(
     all: &[Ready],
     pool: &mut [u64],
 ) -> Result<Vec<Time>, String> {
-    let mut times = Vec::new();
+    let (mut times, mut space) = (Vec::new(), Vec::new());
     for ready in all {
         let pool = &mut pool[..ready.sizes[at]];
         match &ready.words {
@@ -238,8 +238,8 @@ pub fn times(
             None => done(library.init(pool))?,
         }
         for (batch, expected) in ready.batches.iter().zip(&ready.replies) {
-            let mut reply = vec![0; expected.len()];
-            times.push(timed_run(library, pool, batch, &mut reply)?);
+            let reply = blank(&mut space, expected.len());
+            times.push(timed_run(library, pool, batch, reply)?);
             if reply != *expected {
                 return Err("a build replies differently from round to round".into());
             }
@@ -249,6 +249,14 @@ pub fn times(
         }
     }
     Ok(times)
+}
+
+/// So many bytes of reply space, all 0. One space for all runs: of a new one the first touch of its
+/// pages would be timed too.
+pub fn blank(space: &mut Vec<u8>, bytes: usize) -> &mut [u8] {
+    space.clear();
+    space.resize(bytes, 0);
+    space
 }
 
 pub fn nanoseconds(since: Instant) -> f64 {
