@@ -6,7 +6,7 @@ use crate::library::Linked;
 use crate::loads::{dense, marked_finds, sparse, Load};
 use crate::loads::{BATCH_OF_ERASES, BATCH_OF_STORES, LARGEST};
 use crate::measure::{all_ready, blank, empty_pool, nanoseconds, times, Ready};
-use crate::{finds, stores};
+use crate::{finds, free, stores};
 use engine::{Calls, RawEngine, SafeEngine};
 use std::time::Instant;
 use xapool_host::{BatchBuilder, REPLY_BYTES};
@@ -25,7 +25,7 @@ pub const ASKED: usize = 3;
 pub const LIMIT: f64 = 2.0;
 
 pub fn loads(indices: u64) -> Vec<Load> {
-    vec![
+    let mut all = vec![
         dense(indices),
         sparse(indices, BATCH_OF_STORES),
         marked_finds(indices, indices),
@@ -41,7 +41,10 @@ pub fn loads(indices: u64) -> Vec<Load> {
         finds::over_gaps(indices, indices / 2),
         finds::over_sparse(indices / 2, BATCH_OF_STORES),
         finds::over_runs(indices, indices / 2),
-    ]
+    ];
+    // Where few nodes are free, in the largest pool.
+    all.extend(free::loads(free::NODES[2]));
+    all
 }
 
 /// The times of each batch, by rounds.
