@@ -123,7 +123,8 @@ number2-requires-2 : tie.Need-number2-requires-2
 number2-requires-2 c κs = omega (arith, whole-of (tagged (c .before)) .ends)
 
 add-t26 : tie.Need-add-t26
-add-t26 c = record { fits = omega (arith, whole-of (tagged (c .before .before)) .ends, whole-of (tagged (c .before .before)) .length-is, c .number22 .ensures .0, start (tagged (c .before .before)) .good) }
+add-t26 c = let n = tagged (c .before .before) in let w = whole-of n in
+    record { fits = omega (arith, w .ends, w .length-is, c .number22 .ensures .0, start n .good) }
 
 returns-3 : tie.Need-returns-3
 returns-3 c =
