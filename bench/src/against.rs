@@ -2,7 +2,7 @@
 
 use crate::checks;
 use crate::library::{Library, Loaded};
-use crate::loads::{dense, marked_finds, sparse, Load};
+use crate::loads::{dense, marked_finds, sparse, Load, OLDER};
 use crate::measure::{empty_pool, Cost, Trial};
 use crate::{finds, free, lists, stores};
 
@@ -67,7 +67,7 @@ impl Loads {
     fn wanted(options: &Options, most_nodes: usize) -> Loads {
         let wanted = |name: &str| options.wants(name);
         let count = options.indices;
-        let full = || vec![dense(count), sparse(count / 2), marked_finds(count, count / 2)];
+        let full = || vec![dense(count), sparse(count / 2, OLDER), marked_finds(count, count / 2)];
         Loads {
             find: if wanted("find") { finds::loads(count) } else { Vec::new() },
             store: if wanted("store") { stores::loads(count) } else { Vec::new() },

@@ -1,4 +1,4 @@
-//! Finds over several trees, for the comparison of two builds.
+//! Finds over several trees, for the comparison of two builds and that with the engines.
 
 use crate::loads::*;
 use xapool_host::{Command, FIND_ANY};
@@ -10,7 +10,7 @@ pub fn loads(indices: u64) -> Vec<Load> {
         marked_finds(indices, indices),
         over_runs(indices, finds),
         over_gaps(indices, finds),
-        over_sparse(finds),
+        over_sparse(finds, OLDER),
     ]
 }
 
@@ -29,7 +29,7 @@ pub fn runs(random: &mut Random, indices: u64) -> Vec<(u64, u8)> {
     }
 }
 
-fn over_runs(indices: u64, finds: u64) -> Load {
+pub fn over_runs(indices: u64, finds: u64) -> Load {
     let mut random = Random(4);
     let runs = runs(&mut random, indices);
     let every = MARKED_EVERY.min(runs.len() as u64) as usize;
@@ -46,7 +46,7 @@ fn over_runs(indices: u64, finds: u64) -> Load {
     Load::new("marked finds over runs", about, vec![Work { setup, timed }])
 }
 
-fn over_gaps(indices: u64, finds: u64) -> Load {
+pub fn over_gaps(indices: u64, finds: u64) -> Load {
     let mut random = Random(5);
     let setup = one_in_97(indices).map(store).collect();
     // From here on there is an entry.
@@ -56,12 +56,13 @@ fn over_gaps(indices: u64, finds: u64) -> Load {
     Load::new("finds over gaps", about, vec![Work { setup, timed }])
 }
 
-fn over_sparse(finds: u64) -> Load {
+pub fn over_sparse(finds: u64, scatter: Scatter) -> Load {
+    let Scatter { entries, nodes } = scatter;
     let mut random = Random(6);
-    let indices: Vec<u64> = (0..STORES_A_POOL).map(|_| random.below(1 << 24)).collect();
+    let indices: Vec<u64> = (0..entries).map(|_| random.below(1 << 24)).collect();
     let most = indices.iter().max().map_or(1, |last| last + 1);
     let timed = (0..finds).map(|_| find(random.below(most), FIND_ANY)).collect();
     let setup = indices.into_iter().map(store).collect();
-    let about = format!("filter 3, {STORES_A_POOL} entries at random below 2^24");
-    Load::new("finds, sparse", about, vec![Work { setup, timed }])
+    let about = format!("filter 3, {entries} entries at random below 2^24");
+    Load { nodes, ..Load::new("finds, sparse", about, vec![Work { setup, timed }]) }
 }

@@ -1,7 +1,7 @@
 //! What a load is, and the three loads of docs/BENCHMARKS.md: dense stores, sparse stores at random,
 //! marked finds. finds.rs and stores.rs have more, for the comparison of two builds.
 
-use xapool_host::{BatchBuilder, Command, Word};
+use xapool_host::{BatchBuilder, Command, Word, MOST_NODES};
 
 /// The work on one pool: what is run before the clock starts, and what is timed.
 pub struct Work {
@@ -32,8 +32,24 @@ pub const MARK: u8 = 0;
 /// The nodes of a pool, where a load does not say.
 pub const USUAL_NODES: usize = 1000;
 
-/// So many stores at random below 2^24 take about 860 nodes.
-pub const STORES_A_POOL: usize = 409;
+/// What stands at random in one pool: so many entries, and nodes enough for them.
+#[derive(Clone, Copy)]
+pub struct Scatter {
+    pub entries: usize,
+    pub nodes: usize,
+}
+
+/// Stores that fill a batch; below 2^24 they take about 3,050 nodes.
+pub const BATCH_OF_STORES: Scatter = Scatter { entries: 1638, nodes: 4096 };
+
+/// Erases that fill a batch; about 5,150 nodes.
+pub const BATCH_OF_ERASES: Scatter = Scatter { entries: 2978, nodes: 8192 };
+
+/// Seven full batches of stores, about 15,400 nodes.
+pub const LARGEST: Scatter = Scatter { entries: 7 * BATCH_OF_STORES.entries, nodes: MOST_NODES };
+
+/// For a build from before P8 as well: a full batch of its, about 860 nodes.
+pub const OLDER: Scatter = Scatter { entries: 409, nodes: USUAL_NODES };
 
 /// A small generator (splitmix64), the same numbers in every run.
 pub struct Random(pub u64);
@@ -85,13 +101,16 @@ pub fn stores_by_pool(stores: &[Command], a_pool: usize) -> Vec<Work> {
     stores.chunks(a_pool).map(work).collect()
 }
 
-pub fn sparse(stores: u64) -> Load {
+pub fn sparse(stores: u64, scatter: Scatter) -> Load {
+    let Scatter { entries, nodes } = scatter;
     let mut random = Random(1);
     let stores: Vec<Command> = (0..stores).map(|_| store(random.below(1 << 24))).collect();
-    let pools = stores_by_pool(&stores, STORES_A_POOL);
-    let about =
-        format!("order 0 at random below 2^24, {} pools of {STORES_A_POOL} each", pools.len());
-    Load::new("sparse stores", about, pools)
+    let pools = stores_by_pool(&stores, entries);
+    let about = format!(
+        "order 0 at random below 2^24, {entries} to a pool of {nodes} nodes, pools: {}",
+        pools.len()
+    );
+    Load { nodes, ..Load::new("sparse stores", about, pools) }
 }
 
 pub fn mark(index: u64) -> Command {
@@ -120,7 +139,7 @@ fn sparse_in_few_blocks() -> Load {
     let mut random = Random(3);
     let blocks: Vec<u64> = (0..12).map(|_| 64 * random.below(1 << 18)).collect();
     let mut index = || blocks[random.below(12) as usize] + random.below(64);
-    let timed = (0..STORES_A_POOL).map(|_| store(index())).collect();
+    let timed = (0..OLDER.entries).map(|_| store(index())).collect();
     let pools = vec![Work { setup: Vec::new(), timed }];
     Load::new("sparse stores", "at random in 12 blocks of 64", pools)
 }

@@ -1,8 +1,11 @@
-//! bench: three loads through xapool_run and lists, the same over a BTreeMap, the cost by nodes, that
-//! of free nodes, and digests and comparisons. With `against`, two builds of the library in one run.
+//! bench: loads through xapool_run beside the engines of engine/, three of them also over a BTreeMap,
+//! the cost by nodes, that of free nodes, lists, and digests and comparisons. With `engines` that with
+//! the engines alone; with `against` two builds of the library in one run.
 
 mod against;
 mod checks;
+mod engine_plot;
+mod engines;
 mod finds;
 mod free;
 mod library;
@@ -28,11 +31,13 @@ use table::{ByNodes, ListRow, Row, NODES};
 const MOST_INDICES: u64 = 60_000;
 
 const USAGE: &str = "\
-usage: bench [--indices N] [--repeats N] [--small-repeats N] [--write DIR]
+usage: bench [--indices N] [--repeats N] [--small-repeats N] [--rounds N] [--write DIR]
   --indices   of the dense load, and the commands of the others; 60,000 if not named
   --repeats   of each load; of each batch the shortest time counts; 5 if not named
   --small-repeats   of the small loads, which take microseconds; 200 if not named
-  --write     writes BENCHMARKS.md and benchmarks.svg to this folder
+  --rounds    of the loads beside the engines; 100 if not named
+  --write     writes BENCHMARKS.md, engines.svg and benchmarks.svg to this folder
+       bench engines ..   the loads beside the engines alone
        bench against ..   two builds in one run: scripts/bench-against
 Exit status: 0 fine, 1 a call was refused or a file could not be written, 2 bad usage.";
 
@@ -40,12 +45,13 @@ struct Options {
     indices: u64,
     repeats: u32,
     small_repeats: u32,
+    rounds: u32,
     write: Option<String>,
 }
 
 fn options() -> Option<Options> {
-    let mut options =
-        Options { indices: MOST_INDICES, repeats: 5, small_repeats: 200, write: None };
+    let (indices, rounds) = (MOST_INDICES, engines::ROUNDS);
+    let mut options = Options { indices, repeats: 5, small_repeats: 200, rounds, write: None };
     let mut words = env::args().skip(1);
     while let Some(name) = words.next() {
         let value = words.next()?;
@@ -55,6 +61,7 @@ fn options() -> Option<Options> {
             }
             "--repeats" => options.repeats = value.parse().ok().filter(|n| *n > 0)?,
             "--small-repeats" => options.small_repeats = value.parse().ok().filter(|n| *n > 0)?,
+            "--rounds" => options.rounds = value.parse().ok().filter(|n| *n > 0)?,
             "--write" => options.write = Some(value),
             _ => return None,
         }
@@ -63,10 +70,11 @@ fn options() -> Option<Options> {
 }
 
 fn main() -> ExitCode {
-    let is_against = env::args().nth(1).is_some_and(|word| word == "against");
-    let (measured, usage) = match is_against {
-        true => (against::run(env::args().skip(2)), against::USAGE),
-        false => (options().map(|options| measure_all(&options)), USAGE),
+    let mode = env::args().nth(1).unwrap_or_default();
+    let (measured, usage) = match mode.as_str() {
+        "against" => (against::run(env::args().skip(2)), against::USAGE),
+        "engines" => (engines::measure(env::args().skip(2)), engines::USAGE),
+        _ => (options().map(|options| measure_all(&options)), USAGE),
     };
     match measured {
         Some(Ok(())) => ExitCode::SUCCESS,
@@ -82,10 +90,26 @@ fn main() -> ExitCode {
 }
 
 fn measure_all(options: &Options) -> Result<(), String> {
+    let engines = engines::rows(options.indices, options.rounds)?;
+    let engines_text = format!("{}\n{}\n", engines::table(&engines), engines::verdict(&engines));
+    println!("{engines_text}");
+    let (tables, svg) = measure_alone(options)?;
+    println!("{tables}");
+    match &options.write {
+        Some(folder) => {
+            put(folder, "engines.svg", &engines::picture(&engines))?;
+            write(folder, &engines_text, &tables, &svg)
+        }
+        None => Ok(()),
+    }
+}
+
+/// The tables without the engines, and their picture.
+fn measure_alone(options: &Options) -> Result<(String, String), String> {
     let count = options.indices;
-    let full = [loads::dense(count), loads::sparse(count), loads::marked_finds(count, count)];
+    let sparse = loads::sparse(count, loads::BATCH_OF_STORES);
     let mut rows = Vec::new();
-    for load in full {
+    for load in [loads::dense(count), sparse, loads::marked_finds(count, count)] {
         rows.push(row(load, options.repeats)?);
     }
     let mut by_nodes = Vec::new();
@@ -106,12 +130,7 @@ fn measure_all(options: &Options) -> Result<(), String> {
         table::lists(&lists),
         table::regions(&regions),
     ];
-    let tables = texts.join("\n");
-    println!("{tables}");
-    match &options.write {
-        Some(folder) => write(folder, &tables, &plot::svg(&rows, &by_nodes)),
-        None => Ok(()),
-    }
+    Ok((texts.join("\n"), plot::svg(&rows, &by_nodes)))
 }
 
 fn lists(indices: u64, repeats: u32) -> Result<Vec<ListRow>, String> {
@@ -166,28 +185,40 @@ fn processor() -> String {
     named.unwrap_or("unknown processor").to_string()
 }
 
-fn write(folder: &str, tables: &str, svg: &str) -> Result<(), String> {
+fn put(folder: &str, name: &str, text: &str) -> Result<(), String> {
+    let path = Path::new(folder).join(name);
+    fs::write(&path, text).map_err(|error| format!("{}: {error}", path.display()))
+}
+
+/// What the first table says.
+const BESIDE: &str = "\
+    Times and ratios are two: from the shortest time of each batch of all rounds, and from its median; each is the mean \
+    over all batches. The library and the two engines of [engine/](../engine) take the same batches in one process, in \
+    turns, and every reply of an engine is compared with the library's byte for byte. All are release builds, the engines \
+    by rustc at opt-level 3 (bench/Cargo.toml). An engine has nodes of its own and so no pool to check.";
+
+/// What the others say.
+const ALONE: &str = "\
+    Where few nodes are free: an entry erased and another stored at random with nine tenths of the nodes in use (churn); a \
+    store that needs three nodes and its erase, with one low and the last two free; stores that end in answer 11. \
+    A run and a list check their pool first, whose time grows with N and not with the commands; it is timed by itself on \
+    the same pool just before each, and taken off. Of each batch the shortest time of all repeats counts. \
+    The library reads records and writes replies as bytes; the BTreeMap takes its commands from memory, knows \
+    order 0 alone and writes plain values. The GB/s of a \
+    comparison are of each of the two regions. The two in Rust are the usual loops over one table and over eight.";
+
+fn write(folder: &str, engines: &str, tables: &str, svg: &str) -> Result<(), String> {
     let command: Vec<String> = env::args().skip(1).collect();
     let text = format!(
         "# What a command costs\n\n\
          Made by `cd bench && cargo run --release -- {}`, on {}. Do not edit.\n\n\
-         {tables}\n\
-         Where few nodes are free: an entry erased and another stored at random with nine tenths of the nodes in use (churn); a \
-         store that needs three nodes and its erase, with one low and the last two free; stores that end in answer 11. \
-         A run and a list check their pool first, whose time grows with N and not with the commands; it is timed by itself on \
-         the same pool just before each, and taken off. Of each batch the shortest time of all repeats counts. \
-         The library reads records and writes replies as bytes; the BTreeMap takes its commands from memory, knows \
-         order 0 alone and writes plain values. The GB/s of a \
-         comparison are of each of the two regions. The two in Rust are the usual loops over one table and over eight.\n\n\
+         ## Beside an engine in ordinary Rust\n\n{engines}\n{BESIDE}\n\n\
+         ![times an engine's time](engines.svg)\n\n\
+         ## By itself\n\n{tables}\n{ALONE}\n\n\
          ![ns a command](benchmarks.svg)\n",
         command.join(" "),
         processor()
     );
-    let folder = Path::new(folder);
-    let put = |name: &str, text: &str| {
-        let path = folder.join(name);
-        fs::write(&path, text).map_err(|error| format!("{}: {error}", path.display()))
-    };
-    put("BENCHMARKS.md", &text)?;
-    put("benchmarks.svg", svg)
+    put(folder, "BENCHMARKS.md", &text)?;
+    put(folder, "benchmarks.svg", svg)
 }

@@ -61,16 +61,13 @@ pub struct Trial<'a> {
 }
 
 impl<'a> Trial<'a> {
-    /// On pools of so many nodes. That all libraries give the same replies and words is compared
-    /// here, batch by batch.
+    /// On pools of so many nodes.
     pub fn new(
         libraries: &[&dyn Library],
         load: &'a Load,
         nodes: usize,
     ) -> Result<Trial<'a>, String> {
-        let ready = load.pools.iter().map(|work| ready(libraries, load, work, nodes));
-        let ready: Vec<Ready> =
-            ready.collect::<Result<_, _>>().map_err(|error| format!("{}: {error}", load.name))?;
+        let ready = all_ready(libraries, load, nodes)?;
         let batches: usize = ready.iter().map(|ready| ready.batches.len()).sum();
         let best = vec![vec![Time::LONGEST; batches]; libraries.len()];
         let words = ready.iter().flat_map(|ready| &ready.sizes).max();
@@ -104,14 +101,27 @@ fn total(commands: u64, times: &[Time]) -> Cost {
     }
 }
 
-/// Work made ready to be timed: its batches and the replies to each; and of each library the size of
-/// its pool, the words after its setup (none: an empty pool), and a digest of the words at the end.
-struct Ready {
-    batches: Vec<BatchBuilder>,
-    replies: Vec<Vec<u8>>,
+/// Work made ready to be timed: the batches of its setup, its batches and the replies to each; and of
+/// each library the size of its pool, the words after its setup (none: an empty pool), and a digest of
+/// the words at the end.
+pub struct Ready {
+    pub setup: Vec<BatchBuilder>,
+    pub batches: Vec<BatchBuilder>,
+    pub replies: Vec<Vec<u8>>,
     sizes: Vec<usize>,
     words: Option<Vec<Vec<u64>>>,
     ends: Vec<u64>,
+}
+
+/// All work of a load. That all libraries give the same replies and words is compared here, batch by
+/// batch.
+pub fn all_ready(
+    libraries: &[&dyn Library],
+    load: &Load,
+    nodes: usize,
+) -> Result<Vec<Ready>, String> {
+    let ready = load.pools.iter().map(|work| ready(libraries, load, work, nodes));
+    ready.collect::<Result<_, _>>().map_err(|error| format!("{}: {error}", load.name))
 }
 
 fn ready(
@@ -125,8 +135,9 @@ fn ready(
         pools.push(empty_pool(*library, nodes)?);
     }
     let bytes = longest_batch(libraries)?;
-    for batch in batches(&work.setup, bytes) {
-        all_gave(&run_by_each(libraries, &mut pools, &batch)?, 0)?;
+    let setup = batches(&work.setup, bytes);
+    for batch in &setup {
+        all_gave(&run_by_each(libraries, &mut pools, batch)?, 0)?;
     }
     let words = (!work.setup.is_empty()).then(|| pools.clone());
     let batches = batches(&work.timed, bytes);
@@ -138,7 +149,7 @@ fn ready(
     }
     let sizes = pools.iter().map(Vec::len).collect();
     let ends = pools.iter().map(|pool| digest(pool)).collect();
-    Ok(Ready { batches, replies, sizes, words, ends })
+    Ok(Ready { setup, batches, replies, sizes, words, ends })
 }
 
 /// What a batch could have before it could have more.
@@ -213,7 +224,7 @@ fn digest(words: &[u64]) -> u64 {
 
 /// One round by one library, the one `at` that place: the time of each batch of all pools, one after the
 /// other.
-fn times(
+pub fn times(
     library: &dyn Library,
     at: usize,
     all: &[Ready],

@@ -8,7 +8,7 @@ const BASE: f64 = 300.0;
 const TALL: f64 = 220.0;
 const COLOURS: [&str; 3] = ["#2b6cb0", "#a0aec0", "#dd6b20"];
 
-fn text(x: f64, y: f64, anchor: &str, words: &str) -> String {
+pub fn text(x: f64, y: f64, anchor: &str, words: &str) -> String {
     format!("<text x=\"{x:.1}\" y=\"{y:.1}\" text-anchor=\"{anchor}\">{words}</text>\n")
 }
 
@@ -17,7 +17,7 @@ fn bar(x: f64, width: f64, tall: f64, colour: &str) -> String {
     format!("<rect x=\"{x:.1}\" y=\"{y:.1}\" width=\"{width}\" height=\"{tall:.1}\" fill=\"{colour}\"/>\n")
 }
 
-fn line(from: (f64, f64), to: (f64, f64), colour: &str) -> String {
+pub fn line(from: (f64, f64), to: (f64, f64), colour: &str) -> String {
     let ((a, b), (c, d)) = (from, to);
     format!("<line x1=\"{a:.1}\" y1=\"{b:.1}\" x2=\"{c:.1}\" y2=\"{d:.1}\" stroke=\"{colour}\" stroke-width=\"2\"/>\n")
 }

@@ -1,10 +1,10 @@
 //! The loads fit the pools they run on.
 
 use crate::library::{Library, Linked};
-use crate::loads::{batches, dense, marked_finds, small, sparse, Load, Work};
+use crate::loads::*;
 use crate::measure::{Cost, Trial};
 use crate::table::{self, ByNodes};
-use crate::{checks, finds, free, lists, regions, stores};
+use crate::{checks, engines, finds, free, lists, regions, stores};
 use std::collections::BTreeSet;
 use xapool_host::layout::node_place;
 use xapool_host::raw::RawResult;
@@ -28,9 +28,11 @@ fn most(load: &Load) -> usize {
 }
 
 #[test]
-fn full_loads_fit_1000_nodes() {
-    for load in [dense(60_000), sparse(60_000), marked_finds(60_000, 60_000)] {
-        assert!(most(&load) <= 1000, "{}: {}", load.name, most(&load));
+fn full_loads_fit_their_nodes() {
+    let sparse = |scatter| sparse(60_000, scatter);
+    let sparse = [sparse(OLDER), sparse(BATCH_OF_STORES), sparse(LARGEST)];
+    for load in [dense(60_000), marked_finds(60_000, 60_000)].into_iter().chain(sparse) {
+        assert!(most(&load) <= load.nodes, "{}: {}", load.name, most(&load));
         let commands: usize = load.pools.iter().map(|work| work.timed.len()).sum();
         assert_eq!(commands, 60_000);
     }
@@ -68,11 +70,11 @@ fn loads_for_two_builds_run() -> Result<(), String> {
     Ok(())
 }
 
-/// The nodes that these entries of order 0 take, one of them in the last block of a head of shift 18.
+/// The nodes that these entries of order 0 take, under a head of shift 18.
 fn nodes_over(indices: &BTreeSet<u64>) -> usize {
     let nodes =
         |bits: u32| indices.iter().map(|index| index >> bits).collect::<BTreeSet<_>>().len();
-    assert_eq!(indices.last().map(|last| last >> 18), Some(63));
+    assert!(indices.last().is_some_and(|last| (1..64).contains(&(last >> 18))));
     [6, 12, 18, 24].into_iter().map(nodes).sum()
 }
 
@@ -130,6 +132,27 @@ fn loads_for_free_nodes_run() -> Result<(), String> {
     let is_free = |node: &usize| pool.words()[node_place(*node)] == 0;
     assert_eq!((0..40).filter(is_free).collect::<Vec<_>>(), [7, 38, 39]);
     Ok(())
+}
+
+/// So is a reply of an engine that is not the library's.
+#[test]
+fn loads_beside_the_engines_run() -> Result<(), String> {
+    let rows = engines::rows(1000, 2)?;
+    assert_eq!(rows.len(), engines::loads(1000).len());
+    let good = |row: &engines::Row| {
+        row.commands > 0 && row.ratios_with_check().iter().all(|ratio| ratio.least > 0.0)
+    };
+    assert!(rows.iter().all(good));
+    assert!(engines::picture(&rows).contains("marked finds"));
+    assert_eq!(engines::table(&rows).lines().count(), rows.len() + 2);
+    Ok(())
+}
+
+/// All nodes are in use before each pair of commands, and one is free in between.
+#[test]
+fn churn_is_in_a_full_pool() {
+    let load = stores::churn(1000);
+    assert_eq!((load.nodes, in_use(&load)), (16_384, (16_384, 16_384, 16_383)));
 }
 
 /// So is a list that has other bytes than its entries call for.

@@ -38,11 +38,18 @@ pub enum Of {
     Reserves = 58,
     Listings = 64,
     ListedBytes = 65,
+    EngineLists = 66,
+    EngineBatches = 67,
+    EngineReplyBytes = 68,
 }
 
 /// The first number of the answers of calls and of those in replies.
 const CALL_ANSWERS: usize = 16;
 const REPLY_ANSWERS: usize = 32;
+
+/// The first number of the answers of the engine's calls, and of those in its replies.
+const ENGINE_CALL_ANSWERS: usize = 72;
+const ENGINE_REPLY_ANSWERS: usize = 80;
 
 /// The first number of the kinds of listings.
 const LISTING_KINDS: usize = 96;
@@ -87,9 +94,24 @@ impl Figures {
         self.add(Of::ReplyBytes, given.bytes.len());
         if given.answer == 0 {
             self.add(Of::Commands, given.number as usize);
-            for reply in given.bytes.chunks(24).take(given.number as usize) {
-                self.numbers[REPLY_ANSWERS + usize::from(reply[3])].fetch_add(1, Relaxed);
-            }
+            self.count_replies(REPLY_ANSWERS, given);
+        }
+    }
+
+    /// Counts the answers in the replies of a run that was done, from this number on.
+    fn count_replies(self, from: usize, given: &Given) {
+        for reply in given.bytes.chunks(24).take(given.number as usize) {
+            self.numbers[from + usize::from(reply[3])].fetch_add(1, Relaxed);
+        }
+    }
+
+    /// Counts a run by the engines, by what reference gave.
+    pub fn count_engine_run(self, given: &Given) {
+        self.add(Of::EngineBatches, 1);
+        self.add(Of::EngineReplyBytes, given.bytes.len());
+        self.numbers[ENGINE_CALL_ANSWERS + given.answer as usize].fetch_add(1, Relaxed);
+        if given.answer == 0 {
+            self.count_replies(ENGINE_REPLY_ANSWERS, given);
         }
     }
 
@@ -204,6 +226,19 @@ impl Figures {
     pub fn print_reserves(self) {
         println!("reservations: {} reserves in lists of both kinds", self.get(Of::Reserves));
         self.print_kinds(RESERVE_KINDS, &reserves::KINDS.map(|(_, name)| name));
+    }
+
+    pub fn print_engine(self) {
+        let replies = (0..16).map(|answer| ENGINE_REPLY_ANSWERS + answer);
+        let commands: u64 = replies.map(|number| self.numbers[number].load(Relaxed)).sum();
+        println!(
+            "engine: {} lists of calls, {} batches, {commands} commands, {} reply bytes compared, by each of two",
+            self.get(Of::EngineLists),
+            self.get(Of::EngineBatches),
+            self.get(Of::EngineReplyBytes)
+        );
+        println!("  answers of calls      {}", self.answers(ENGINE_CALL_ANSWERS, 0..5));
+        println!("  answers in replies    {}", self.answers(ENGINE_REPLY_ANSWERS, 0..16));
     }
 
     pub fn print_program(self) {

@@ -44,16 +44,21 @@ fn looks(random: &mut Random, list: &[Entry]) -> Vec<Call> {
 
 /// The stores and reserves, in any order, and then the marks.
 fn building(random: &mut Random, list: &[Entry]) -> Vec<Command> {
-    let mut commands: Vec<Command> = list.iter().map(|entry| store(*entry)).collect();
+    let mut commands = building_in_order(list);
     if random.one_in(2) {
-        shuffle(random, &mut commands);
+        shuffle(random, &mut commands[..list.len()]);
     }
-    commands.extend(list.iter().flat_map(|entry| marks(*entry)));
     commands
 }
 
+/// The same in index order.
+pub fn building_in_order(list: &[Entry]) -> Vec<Command> {
+    let stores = list.iter().map(|entry| store(*entry));
+    stores.chain(list.iter().flat_map(|entry| marks(*entry))).collect()
+}
+
 /// The commands in as few runs as they fit, each with the reply space that it needs.
-fn batches(commands: &[Command]) -> Vec<Call> {
+pub fn batches(commands: &[Command]) -> Vec<Call> {
     let mut all: Vec<(Vec<u8>, usize)> = Vec::new();
     for command in commands {
         let bytes = record(*command);

@@ -173,9 +173,8 @@ impl Lender {
         let expected = by_reference(call, pool);
         let found = self.call(call, pool.len());
         let lent = split(self.pool.words(), pool.len()).1;
-        let difference = results(&expected, &found)
-            .or_else(|| bytes(call, &expected.bytes, &found.bytes))
-            .or_else(|| words(pool, lent));
+        let difference =
+            given_differs(call, &expected, &found, "library").or_else(|| words(pool, lent));
         let difference = difference.or_else(|| self.edge_written(pool.len(), call.space()));
         let difference = difference.or_else(|| self.miscounted(call));
         (expected, difference)
@@ -205,23 +204,28 @@ pub fn by_reference(call: &Call, pool: &mut [u64]) -> Given {
     Given { answer: outcome.answer, number: outcome.number, bytes: space }
 }
 
-fn results(expected: &Given, found: &Given) -> Option<String> {
+/// The first difference between what reference gives and what is found by another.
+pub fn given_differs(call: &Call, expected: &Given, found: &Given, by: &str) -> Option<String> {
+    results(expected, found, by).or_else(|| bytes(call, &expected.bytes, &found.bytes, by))
+}
+
+fn results(expected: &Given, found: &Given, by: &str) -> Option<String> {
     let (a, b) = (expected, found);
     ((a.answer, a.number) != (b.answer, b.number)).then(|| {
         format!(
-            "reference gives answer {}, number {}; the library {}, {}",
+            "reference gives answer {}, number {}; the {by} {}, {}",
             a.answer, a.number, b.answer, b.number
         )
     })
 }
 
-fn bytes(call: &Call, expected: &[u8], found: &[u8]) -> Option<String> {
+fn bytes(call: &Call, expected: &[u8], found: &[u8], by: &str) -> Option<String> {
     let place = (0..expected.len()).find(|at| expected[*at] != found[*at])?;
     let (name, size) = call.unit();
     let from = place - place % size;
     let part = |bytes: &[u8]| hex(&bytes[from..bytes.len().min(from + size)]);
     Some(format!(
-        "{name} byte {place} differs, in {name} {}:\n    reference {}\n    library   {}",
+        "{name} byte {place} differs, in {name} {}:\n    reference {}\n    {by:9} {}",
         place / size,
         part(expected),
         part(found)

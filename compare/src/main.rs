@@ -1,4 +1,5 @@
-//! compare: the library libxapool.a and the program tamburish against reference/, on random input.
+//! compare: the library libxapool.a, the program tamburish and the engines of engine/ against
+//! reference/, on random input.
 //!
 //! The library is the one that XAPOOL_LIB named when this was built; the programs are named by
 //! TAMBURISH_BIN and REFERENCE_BIN. TAMBURISH_BIN=none leaves the program out.
@@ -6,6 +7,7 @@
 mod batches;
 mod cases;
 mod count_cases;
+mod engines;
 mod exhaustive;
 mod figures;
 mod finds;
@@ -37,8 +39,10 @@ const USAGE: &str = "\
 usage: compare [SECONDS [SEED]]     all of it, in about so many seconds (100 if none are named)
        compare cases                cases 2 to 15, the empty batch, the longest batches, those of requests
        compare changes              every single-word change of some pools
+       compare engine SECONDS [SEED]   the engines of engine/ alone
        compare again calls SEED     one list of calls, by the seed that was printed
        compare again finds SEED     one list of calls made for finds
+       compare again engine SEED    one list of calls by the engines
        compare again program SEED   one input of the program
 The long run: compare 3600
 Exit status: 0 no difference, 1 a difference, 2 bad usage or no program.";
@@ -52,6 +56,10 @@ fn main() -> ExitCode {
         [] => compare(DEFAULT_SECONDS, clock()),
         ["cases"] => with_program().map(compare_cases),
         ["changes"] => Ok(compare_changes(Figures::new())),
+        ["engine", seconds] => number(seconds).map(|seconds| compare_engine(seconds, clock())),
+        ["engine", seconds, seed] => {
+            number(seconds).and_then(|s| Ok(compare_engine(s, number(seed)?)))
+        }
         ["again", kind, seed] => again(kind, seed),
         [seconds] => number(seconds).and_then(|seconds| compare(seconds, clock())),
         [seconds, seed] => number(seconds).and_then(|s| compare(s, number(seed)?)),
@@ -104,13 +112,15 @@ fn compare(seconds: u64, seed: u64) -> Result<bool, String> {
     let all = Duration::from_secs(seconds);
     let left = all.saturating_sub(started.elapsed()).max(all / 2);
     let programs = if program { left / 4 } else { Duration::ZERO };
-    let finds = left / 4;
-    same &= random_trials(Kind::Calls, seed, left - programs - finds, figures);
+    let (finds, engines) = (left / 4, left / 8);
+    same &= random_trials(Kind::Calls, seed, left - programs - finds - engines, figures);
     figures.print_calls();
     same &= random_trials(Kind::Finds, seed, finds, figures);
     figures.print_finds();
     figures.print_listings();
     figures.print_reserves();
+    same &= random_trials(Kind::Engine, seed, engines, figures);
+    figures.print_engine();
     if program {
         same &= random_trials(Kind::Program, seed, programs, figures);
         figures.print_program();
@@ -120,6 +130,14 @@ fn compare(seconds: u64, seed: u64) -> Result<bool, String> {
     let verdict = if same { "no difference" } else { "a difference, see above" };
     println!("compare: {verdict}, seed {seed}, {} seconds", started.elapsed().as_secs());
     Ok(same)
+}
+
+fn compare_engine(seconds: u64, seed: u64) -> bool {
+    println!("compare engine: {seconds} seconds, seed {seed}");
+    let figures = Figures::new();
+    let same = random_trials(Kind::Engine, seed, Duration::from_secs(seconds), figures);
+    figures.print_engine();
+    same
 }
 
 /// In a child process, as all that calls the library is.
@@ -190,6 +208,7 @@ fn again(kind: &str, seed: &str) -> Result<bool, String> {
     let kind = match kind {
         "calls" => Kind::Calls,
         "finds" => Kind::Finds,
+        "engine" => Kind::Engine,
         "program" => Kind::Program,
         _ => return Err(USAGE.into()),
     };

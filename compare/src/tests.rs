@@ -1,5 +1,6 @@
 //! The random lists reach what they are to reach: this is a test of the test, by reference alone.
 
+use crate::engines;
 use crate::finds::random_list;
 use crate::lend::{by_reference, Call};
 use crate::list::CallList;
@@ -219,16 +220,18 @@ fn every_answer_and_both_sides_of_11_are_met() {
 /// The largest pools and the longest batches are rare, since they take long, but they are met.
 #[test]
 fn the_largest_pools_and_full_batches_are_met() {
-    let (mut largest, mut larger, mut full) = (0, 0, 0);
-    for list in (0..3000).map(CallList::random) {
-        let nodes = node_count(list.words.len()).unwrap_or(0);
-        largest += usize::from(nodes == MOST_NODES);
-        larger += usize::from(nodes > 1000);
-        let is_full = |call: &&Call| matches!(call, Call::Run { batch, .. } if batch.len() == MOST_BATCH_BYTES);
-        full += list.calls.iter().filter(is_full).count();
+    for of in [CallList::random, engines::random_list] {
+        let (mut largest, mut larger, mut full) = (0, 0, 0);
+        for list in (0..3000).map(of) {
+            let nodes = node_count(list.words.len()).unwrap_or(0);
+            largest += usize::from(nodes == MOST_NODES);
+            larger += usize::from(nodes > 1000);
+            let is_full = |call: &&Call| matches!(call, Call::Run { batch, .. } if batch.len() == MOST_BATCH_BYTES);
+            full += list.calls.iter().filter(is_full).count();
+        }
+        let rare = largest >= 1 && (3..=20).contains(&larger);
+        assert!(rare && full >= 10, "{largest} and {larger} large pools, {full} full batches");
     }
-    let rare = largest >= 1 && (3..=20).contains(&larger);
-    assert!(rare && full >= 10, "{largest} and {larger} large pools, {full} full batches");
 }
 
 /// The program's inputs lie on both sides of what it takes, also as whole records.
@@ -349,6 +352,22 @@ fn lists_for_finds_pass_reservations() {
     let count = |kind| *met.reserved.get(&kind).unwrap_or(&0);
     let (any, marks) = (count(reserves::Kind::PassedAny), count(reserves::Kind::PassedMarks));
     assert!(any >= 60 && marks >= 150, "{:?}", met.reserved);
+}
+
+/// The engines are not the library: this needs no child process.
+#[test]
+fn the_engines_run_lists_with_every_answer() {
+    let mut met = Met::default();
+    for list in (0..1500).map(engines::random_list) {
+        assert_eq!(engines::difference(&list, None), None, "{}", list.show());
+        assert!(recover(&list.words).is_some());
+        follow(&mut met, &list);
+    }
+    let many = |count: Option<&usize>| *count.unwrap_or(&0) >= 20;
+    assert!([0, 3, 4].iter().all(|answer| many(met.calls.get(answer))), "{:?}", met.calls);
+    let mut replies = [0].into_iter().chain(5..=15);
+    assert!(replies.all(|answer| many(met.replies.get(&answer))), "{:?}", met.replies);
+    assert!([-1, 0].iter().all(|spare| many(met.spare.get(spare))), "{:?}", met.spare);
 }
 
 /// By reference alone; every run of the list must be done, and every store in it.

@@ -1,5 +1,6 @@
 //! Something compared, of any kind; and the search for a smaller one that still differs.
 
+use crate::engines;
 use crate::figures::Figures;
 use crate::finds;
 use crate::list::CallList;
@@ -11,6 +12,7 @@ use std::time::{Duration, Instant};
 pub enum Kind {
     Calls,
     Finds,
+    Engine,
     Program,
 }
 
@@ -19,6 +21,7 @@ impl Kind {
         match self {
             Kind::Calls => "calls",
             Kind::Finds => "finds",
+            Kind::Engine => "engine",
             Kind::Program => "program",
         }
     }
@@ -28,6 +31,8 @@ impl Kind {
 pub enum Trial {
     Calls(CallList),
     Finds(CallList),
+    /// By the engines of engine/.
+    Engine(CallList),
     Program(Input),
 }
 
@@ -40,6 +45,7 @@ impl Trial {
         match kind {
             Kind::Calls => Trial::Calls(CallList::random(seed)),
             Kind::Finds => Trial::Finds(finds::random_list(seed)),
+            Kind::Engine => Trial::Engine(engines::random_list(seed)),
             Kind::Program => Trial::Program(Input::random(seed)),
         }
     }
@@ -48,6 +54,7 @@ impl Trial {
         match self {
             Trial::Calls(list) => list.difference(figures),
             Trial::Finds(list) => list.difference_in_finds(figures),
+            Trial::Engine(list) => engines::difference(list, figures),
             Trial::Program(input) => input.difference(figures),
         }
     }
@@ -56,13 +63,14 @@ impl Trial {
         match self {
             Trial::Calls(list) => Box::new(list.smaller().map(Trial::Calls)),
             Trial::Finds(list) => Box::new(list.smaller().map(Trial::Finds)),
+            Trial::Engine(list) => Box::new(list.smaller().map(Trial::Engine)),
             Trial::Program(input) => Box::new(input.smaller().map(Trial::Program)),
         }
     }
 
     fn show(&self) -> String {
         match self {
-            Trial::Calls(list) | Trial::Finds(list) => list.show(),
+            Trial::Calls(list) | Trial::Finds(list) | Trial::Engine(list) => list.show(),
             Trial::Program(input) => input.show(),
         }
     }

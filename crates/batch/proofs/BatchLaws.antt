@@ -82,12 +82,15 @@ module _ (s : List ℕ) (at : ℕ) where
   unfolding readAt
   read-end h = rw (le-leb (length s) at h)
 
+  pub read-no : at < length s → isRecord s at ≡ false → Bad ≡ readAt s at
+  unfolding readAt
+  read-no h r = rw (lt-leb (length s) at h, r)
+
   module _ (before : at < length s) (next : ℕ) (skipped : next ≡ pick (isRecord s at) (nextAt s at .at) 0) where
     pub read-bad : next ≡ 0 → Bad ≡ readAt s at
-    unfolding readAt
     read-bad z = byT (isRecord s at)
         (λ r. let e : next ≡ at + headBytes + fieldBytes (getD s at 0) = rw r at skipped in absurd (omega arith))
-        (λ r. rw (lt-leb (length s) at before, r))
+        (read-no before)
 
     pub skipped-whole : next ≢ 0 → isRecord s at ≡ true
     skipped-whole ne = byT (isRecord s at) (λ r. r)

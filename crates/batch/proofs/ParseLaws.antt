@@ -1,13 +1,13 @@
 -- Reading a batch from a place to its end, record by record.
 use Prim.Native.Nat.{ℕ, zero, suc, _+_, _-_, _≤_, _<_}
-use mathlib.Core.Path.{_≡_, refl, sym, ap, _∙_}
+use mathlib.Core.Path.{_≡_, refl, sym, ap, subst, _∙_}
 use mathlib.Core.Bool.{Bool, true, false, not}
 use mathlib.Core.Logic.{_≢_}
 use mathlib.Core.List.{List, []}
 use native.Mathlib.Omega.{arith}
 use lib.Dec.{leb, eqb}
 use lib.ListN.{length, getD}
-use borrow.Author.Tests.{leb-true, leb-false, eqb-true, eq-eqb, lt-ltb, le-ltb}
+use borrow.Author.Tests.{leb-true, leb-false, eqb-true, eq-eqb, lt-ltb, le-ltb, lt-leb}
 use Rattle.blocks.specs.Choice.{both}
 use Rattle.blocks.proofs.BoolLaws.{byT, clash, both-l, both-r}
 use Rattle.batch.specs.Bytes.{numberAt}
@@ -38,6 +38,7 @@ use Rattle.batch.specs.Batch.{
   Refused,
   counted,
 }
+use Rattle.batch.proofs.BatchLaws.{one-byte}
 
 -- a record that was read
 pub record WasRead (s : List ℕ) (at : ℕ) (c : Command) (k : Cursor) : Type 0 where
@@ -87,6 +88,16 @@ whole s at t =
       length-is = eqb-true _ _ (both-l c d t₂);
       ends = leb-true _ _ (both-r c d t₂);
     }
+
+-- what is read where a good record stands
+module _ (s : List ℕ) (at : ℕ) (r : isRecord s at ≡ true) where
+  pub known-room : {tag : ℕ} → tag ≡ numberAt s at 1 → (t : ℕ) → tag ≡ t → at + headBytes + fieldBytes t ≤ length s
+  known-room e t k = subst (λ (x : ℕ). at + headBytes + fieldBytes x ≤ length s) (sym (one-byte s at e) ∙ k) (whole s at r .ends)
+
+  pub read-good : {c : Command} {n : ℕ} → c ≡ commandAt s (getD s at 0) (at + headBytes) →
+      n ≡ at + headBytes + fieldBytes (getD s at 0) → Next c (record { at = n }) ≡ readAt s at
+  unfolding readAt
+  read-good q e = rw (lt-leb (length s) at (omega (arith, whole s at r .ends)), r) (λ i. Next (q i) (record { at = e i }))
 
 pub next-after : (s : List ℕ) (at : ℕ) {c : Command} {k : Cursor} → readAt s at ≡ Next c k → Onward s at (k .at)
 next-after s at {c} {k} e =

@@ -3,12 +3,14 @@
 // batch: the borrowed bytes; at: a place in them; a record is a tag byte, a length of two bytes and that many bytes of
 // fields; reply: the borrowed bytes of the replies.
 ghost use mathlib.Core.Path.{_≡_};
+ghost use mathlib.Core.Bool.{true};
 ghost use mathlib.Core.Logic.{_≢_};
 ghost use mathlib.Core.List.{[], _∷_};
 ghost use Prim.Native.Nat.{_+_, _*_, _<_, _≤_, _%_};
 ghost use lib.ListN.{length};
 ghost use Rattle.batch.specs.Bytes.{numberAt, bytesThen, overwrite};
 ghost use Rattle.batch.specs.Batch.{fieldBytes, headBytes, commandAt, isRecord, nextAt, readAt, restAt, counted, parse};
+ghost use Rattle.batch.specs.declared.Read.the-variants.{Next};
 ghost use Rattle.blocks.specs.Choice.{pick};
 ghost use Rattle.batch.specs.Reply.{replyBytes, encode, replyTag};
 
@@ -63,6 +65,12 @@ pub enum Read {
     End,
 }
 
+// A command, and the place after its record.
+pub struct Step {
+    pub command: Command,
+    pub at: usize,
+}
+
 // What a whole batch comes to: how many commands, or the place of its first bad record.
 pub enum Counted {
     Commands(u64),
@@ -115,34 +123,6 @@ fn number8(s: &[u8], at: usize) -> u64
     let g = wide(s[at + 6]);
     let h = wide(s[at + 7]);
     ((((((a * 256 + b) * 256 + c) * 256 + d) * 256 + e) * 256 + f) * 256 + g) * 256 + h
-}
-
-// The length of a record's fields, by tag; 0 where no command has the tag.
-fn field_bytes(tag: u64) -> usize
-    ensures { λ r. ⌜ (r ≡ fieldBytes tag) × (r ≤ 19) ⌝ }
-{
-    if tag == 1 {
-        return 17;
-    }
-    if tag == 2 {
-        return 8;
-    }
-    if tag == 3 {
-        return 8;
-    }
-    if tag == 4 {
-        return 9;
-    }
-    if tag == 5 {
-        return 9;
-    }
-    if tag == 6 {
-        return 19;
-    }
-    if tag == 7 {
-        return 8;
-    }
-    0
 }
 
 fn store_at(s: &[u8], at: usize) -> Command
@@ -209,7 +189,25 @@ fn command_at(s: &[u8], tag: u64, at: usize) -> Command
     }
 }
 
-// The place after the record at a place, by its tag and length alone; 0 where the record is bad.
+// The place after the record at a place, whose tag has fields of a length wanted and whose length is given; 0 where the
+// record is bad.
+fn skip_of(batch: &[u8], at: usize, size: u64, want: usize) -> usize
+    requires { ⌜ at + headBytes ≤ length (now batch) ⌝ }
+    requires { ⌜ (size ≡ numberAt (now batch) (at + 1) 2) × (want ≡ fieldBytes (numberAt (now batch) at 1)) ⌝ }
+    requires { ⌜ (0 < want) × (want ≤ 19) ⌝ }
+    ensures { λ r. ⌜ r ≡ pick (isRecord (now (batch .entry)) at) (nextAt (now (batch .entry)) at .at) 0 ⌝ }
+{
+    if size != want as u64 {
+        return 0;
+    }
+    if batch.len() - at < HEAD_BYTES + want {
+        return 0;
+    }
+    at + HEAD_BYTES + want
+}
+
+// The place after the record at a place, by its tag and length alone; 0 where the record is bad. Each tag has an arm with
+// its own length: with a table of them every record would wait for the one before it.
 fn skip_at(batch: &[u8], at: usize) -> usize
     requires { ⌜ at < length (now batch) ⌝ }
     ensures { λ r. ⌜ r ≡ pick (isRecord (now (batch .entry)) at) (nextAt (now (batch .entry)) at .at) 0 ⌝ }
@@ -218,18 +216,29 @@ fn skip_at(batch: &[u8], at: usize) -> usize
         return 0;
     }
     let tag = number1(batch, at);
-    let size = field_bytes(tag);
-    if size == 0 {
-        return 0;
+    let size = number2(batch, at + 1);
+    if tag == 1 {
+        return skip_of(batch, at, size, 17);
     }
-    if number2(batch, at + 1) != size as u64 {
-        return 0;
+    if tag == 2 {
+        return skip_of(batch, at, size, 8);
     }
-    let start = at + HEAD_BYTES;
-    if batch.len() - start < size {
-        return 0;
+    if tag == 3 {
+        return skip_of(batch, at, size, 8);
     }
-    start + size
+    if tag == 4 {
+        return skip_of(batch, at, size, 9);
+    }
+    if tag == 5 {
+        return skip_of(batch, at, size, 9);
+    }
+    if tag == 6 {
+        return skip_of(batch, at, size, 19);
+    }
+    if tag == 7 {
+        return skip_of(batch, at, size, 8);
+    }
+    0
 }
 
 // What stands at a place of a batch.
@@ -245,6 +254,41 @@ pub fn read_at(batch: &[u8], at: usize) -> Read
     }
     let tag = number1(batch, at);
     Read::Next(command_at(batch, tag, at + HEAD_BYTES), Cursor { at: next })
+}
+
+// The command at a place where a good record stands: what `count` has looked at is not tested again. Stores and finds are
+// read here and not by command_at, whose other caller keeps it from being inlined.
+pub fn step_at(batch: &[u8], at: usize) -> Step
+    requires { ⌜ isRecord (now batch) at ≡ true ⌝ }
+    ensures { λ r. ⌜ Next (r .command) (record { at = r .at }) ≡ readAt (now (batch .entry)) at ⌝ }
+{
+    let tag = number1(batch, at);
+    let start = at + HEAD_BYTES;
+    if tag == 1 {
+        return Step {
+            command: Command::Store {
+                index: number8(batch, start),
+                order: number1(batch, start + 8),
+                word: number8(batch, start + 9),
+            },
+            at: start + 17,
+        };
+    }
+    if tag == 6 {
+        return Step {
+            command: Command::Find {
+                first: number8(batch, start),
+                last: number8(batch, start + 8),
+                filter: number1(batch, start + 16),
+                budget: number2(batch, start + 17),
+            },
+            at: start + 19,
+        };
+    }
+    Step {
+        command: command_at(batch, tag, start),
+        at: start + number2(batch, at + 1) as usize,
+    }
 }
 
 // The whole batch from its beginning, where it is not too long; no field is decoded.
@@ -289,10 +333,14 @@ pub fn put2(out: &mut [u8], at: usize, x: u64)
     out[at + 1] = (x / 1 % 256) as u8;
 }
 
+// The test is never met: it parts the eight bytes from those written before, and so the compiler writes them as one word.
 pub fn put8(out: &mut [u8], at: usize, x: u64)
     requires { ⌜ at + 8 ≤ length (now out) ⌝ }
     ensures { λ _. ⌜ now (out .exit) ≡ overwrite (now (out .entry)) at (bytesThen 8 x []) ⌝ }
 {
+    if out.len() <= at {
+        return;
+    }
     out[at + 0] = (x / 72057594037927936 % 256) as u8;
     out[at + 1] = (x / 281474976710656 % 256) as u8;
     out[at + 2] = (x / 1099511627776 % 256) as u8;

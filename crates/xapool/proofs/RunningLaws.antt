@@ -1,9 +1,11 @@
 -- The loop over a batch's commands: where it starts, one turn, and where it ends.
-use Prim.Native.Nat.{ℕ, suc, _+_, _*_, _≤_}
+use Prim.Native.Nat.{ℕ, suc, _+_, _*_, _≤_, _<_}
 use mathlib.Core.Path.{_≡_, refl, sym, ap, ap₂, subst, _∙_}
+use mathlib.Core.Bool.{true}
 use mathlib.Core.List.{List, [], _∷_}
 use native.Mathlib.Omega.{arith}
 use lib.ListN.{length, length-append}
+use Rattle.blocks.proofs.BoolLaws.{byT}
 use Rattle.model.specs.declared.Entry.{Entry}
 use Rattle.layout.specs.WellFormed.{WellFormed, Prescribed}
 use Rattle.freemap.specs.FreeMap.{FreeMap}
@@ -13,10 +15,11 @@ use Rattle.batch.specs.Bytes.{writeFrom, overwrite}
 use Rattle.batch.specs.Fits.{Fits}
 use Rattle.batch.specs.declared.Command.{Command}
 use Rattle.batch.specs.declared.Cursor.{Cursor}
-use Rattle.batch.specs.declared.Read.the-variants.{Next, Bad, End}
+use Rattle.batch.specs.declared.Read.the-variants.{Next}
 use Rattle.batch.specs.declared.Reply.{Reply}
-use Rattle.batch.specs.Batch.{Parsed, Parsed.commands, Parsed.refused, consTo, readAt, restAt}
+use Rattle.batch.specs.Batch.{Parsed, Parsed.commands, Parsed.refused, consTo, isRecord, readAt, restAt}
 use Rattle.batch.specs.Reply.{replyBytes, encode}
+use Rattle.batch.proofs.BatchLaws.{read-end, read-no}
 use Rattle.batch.proofs.ParseLaws.{rest-end, rest-bad, rest-next, not-refused}
 use Rattle.batch.proofs.WriteLaws.{overwrite-append}
 use Rattle.execute.specs.Execute.{execute}
@@ -150,19 +153,20 @@ module _ {pool₀ reply₀ batch pool map reply : List ℕ} {at out : ℕ}
               }));
         }
 
+    -- a good record stands at a place before the end
+    pub stands : at < length batch → isRecord batch at ≡ true
+    stands lt = byT (isRecord batch at) (λ t. t)
+        (λ t. absurd (not-refused (sym (rest-bad batch at (read-no batch at lt t)) ∙ r .ahead .rest-is)))
+
     -- THE END
-    pub running-end : End ≡ readAt batch at → (s₀ : WellFormed pool₀) (cs : List Command) →
+    pub running-end : length batch ≤ at → (s₀ : WellFormed pool₀) (cs : List Command) →
         restAt batch 0 ≡ Parsed.commands cs → Ends s₀ cs 0 reply₀ pool reply
     unfolding writeFrom
     running-end e s₀ cs g =
-        let none : r .ahead .rest ≡ [] = same-commands (r .ahead .rest-is) (rest-end batch at e) in
+        let none : r .ahead .rest ≡ [] = same-commands (r .ahead .rest-is) (rest-end batch at (read-end batch at e)) in
         r .leads s₀ cs g pool reply
         (subst (λ (ys : List Command). Ends (r .formed) ys out reply pool reply) (sym none)
         (record { words-are = r .formed .words-are; reply-is = refl }))
-
-    -- a batch that was read whole has no bad record
-    pub never-bad : Bad ≡ readAt batch at → ⊥
-    never-bad e = not-refused (sym (rest-bad batch at e) ∙ r .ahead .rest-is)
 
 -- a command that was executed, and its reply written
 pub turned : {ws ws′ : List ℕ} (s : WellFormed ws) {c : Command} {out : ℕ} {reply reply′ : List ℕ} {x y : Reply} →

@@ -6,7 +6,6 @@
 use batch::Command;
 use batch::Counted;
 use batch::REPLY_BYTES;
-use batch::Read;
 use freemap::MAP_WORDS;
 use listing::Listed;
 ghost use mathlib.Core.Path.{_≡_};
@@ -68,21 +67,12 @@ fn run_all(pool: &mut [u64], map: &mut [u64], batch: &[u8], reply: &mut [u8])
 {
     let mut at: usize = 0;
     let mut out: usize = 0;
-    loop {
-        let r = batch::read_at(batch, at);
-        match r {
-            Read::Next(c, next) => {
-                run_one(pool, map, c, reply, out);
-                at = next.at;
-                out = out + REPLY_BYTES;
-            }
-            Read::Bad => {
-                return;
-            }
-            Read::End => {
-                return;
-            }
-        }
+    while at < batch.len() {
+        let s = batch::step_at(batch, at);
+        let c = s.command;
+        run_one(pool, map, c, reply, out);
+        at = s.at;
+        out = out + REPLY_BYTES;
     }
 }
 

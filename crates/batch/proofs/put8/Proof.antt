@@ -7,6 +7,9 @@ use borrow.Author.Needs.{needs}
 use Rattle.batch.proofs.put8.Statement.{statement}
 use Rattle.batch.proofs.put8.Tie as tie
 
+returns : tie.Need-returns
+returns c = absurd (omega arith)
+
 cast-out : tie.Need-cast-out
 cast-out c = search needs
 
@@ -82,14 +85,15 @@ slice-write-out-8 c = simp length-set (omega arith)
 same-length : tie.Need-same-length
 same-length c = simp length-set
 
-returns : tie.Need-returns
+returns-2 : tie.Need-returns-2
 unfolding writeFrom
-returns c = refl
+returns-2 c = refl
 
 pub put8-spec : {M : Type 1} → statement M
 put8-spec =
     tie.close
     (tie.spec
+    returns
     cast-out
     add-out
     slice-write-out
@@ -115,4 +119,4 @@ put8-spec =
     add-out-8
     slice-write-out-8
     same-length
-    returns)
+    returns-2)

@@ -1,38 +1,40 @@
 -- `skip_at`: the place after the record at a place, by its tag and length alone.
 use native.Mathlib.Omega.{arith}
-use mathlib.Core.Path.{sym, _∙_}
-use Rattle.batch.proofs.BatchLaws.{no-head, no-tag, other-length, is-cut, skip-bad, skip-whole}
+use mathlib.Core.Path.{refl, sym, ap, _∙_}
+use borrow.Author.Tests.{ne-eqb}
+use Rattle.batch.specs.Batch.{fieldBytes}
+use Rattle.batch.proofs.BatchLaws.{no-head, no-tag, skip-bad}
 use borrow.Author.Needs.{needs}
 use Rattle.batch.proofs.skip_at.Statement.{statement}
 use Rattle.batch.proofs.skip_at.Tie as tie
 
 -- THE PLACES IN THE CODE, each from one after it
-abbrev start-from-then2 : tie.Then2 → tie.Start
-start-from-then2 c = c .before .before .before .before .before
+abbrev start : tie.After-number2 → tie.Start
+start c = c .before .before .before .before
 
-abbrev number1-from-then3 : tie.Then3 → tie.After-number1
-number1-from-then3 c = c .before .before .before .before
+abbrev sized1 : tie.Then2 → tie.After-number2
+sized1 c = c .before
 
-abbrev start-from-then3 : tie.Then3 → tie.Start
-start-from-then3 c = number1-from-then3 c .before .before .before
+abbrev sized2 : tie.Then3 → tie.After-number2
+sized2 c = c .before .before
 
-abbrev field-bytes-from-else4 : tie.Else4 → tie.After-field-bytes
-field-bytes-from-else4 c = c .before .before .before .before
+abbrev sized3 : tie.Then4 → tie.After-number2
+sized3 c = c .before .before .before
 
-abbrev number1-from-else4 : tie.Else4 → tie.After-number1
-number1-from-else4 c = field-bytes-from-else4 c .before
+abbrev sized4 : tie.Then5 → tie.After-number2
+sized4 c = c .before .before .before .before
 
-abbrev start-from-else4 : tie.Else4 → tie.Start
-start-from-else4 c = number1-from-else4 c .before .before .before
+abbrev sized5 : tie.Then6 → tie.After-number2
+sized5 c = c .before .before .before .before .before
 
-abbrev field-bytes-from-then4 : tie.Then4 → tie.After-field-bytes
-field-bytes-from-then4 c = c .before .before .before .before
+abbrev sized6 : tie.Then7 → tie.After-number2
+sized6 c = c .before .before .before .before .before .before
 
-abbrev number1-from-then4 : tie.Then4 → tie.After-number1
-number1-from-then4 c = field-bytes-from-then4 c .before
+abbrev sized7 : tie.Then8 → tie.After-number2
+sized7 c = c .before .before .before .before .before .before .before
 
-abbrev start-from-then4 : tie.Then4 → tie.Start
-start-from-then4 c = number1-from-then4 c .before .before .before
+abbrev sized : tie.Else8 → tie.After-number2
+sized c = c .before .before .before .before .before .before .before
 
 sub-if1 : tie.Need-sub-if1
 sub-if1 c = search needs
@@ -44,46 +46,108 @@ returns c = let a = c .before .before .args in
 number1-requires : tie.Need-number1-requires
 number1-requires c κs = search needs
 
-field-bytes-requires : tie.Need-field-bytes-requires
-field-bytes-requires c κs = search needs
-
-returns-2 : tie.Need-returns-2
-returns-2 c = let a = start-from-then2 c .args in
-    skip-bad (a .batch .now) (a .at) (no-tag (a .batch .now) (a .at) _ _ (c .before .before .number1 .ensures .0) (c .before .field-bytes .ensures .0)
-    (omega arith) (c .if2 .taken))
-
 add-number2 : tie.Need-add-number2
 add-number2 c = search needs
 
 number2-requires : tie.Need-number2-requires
 number2-requires c κs = search needs
 
+skip-of-requires : tie.Need-skip-of-requires
+skip-of-requires c κs = let n = sized1 c in (
+  omega arith,
+  (
+    (n .number2 .ensures .0, ap fieldBytes (sym (c .if2 .taken) ∙ n .before .number1 .ensures .0)),
+    (omega arith, omega arith),
+  ),
+)
+
+returns-2 : tie.Need-returns-2
+returns-2 c = c .skip-of .ensures
+
+skip-of-requires-2 : tie.Need-skip-of-requires-2
+skip-of-requires-2 c κs = let n = sized2 c in (
+  omega arith,
+  (
+    (n .number2 .ensures .0, ap fieldBytes (sym (c .if3 .taken) ∙ n .before .number1 .ensures .0)),
+    (omega arith, omega arith),
+  ),
+)
+
 returns-3 : tie.Need-returns-3
-returns-3 c = let a = start-from-then3 c .args in
-    skip-bad (a .batch .now) (a .at) (other-length (a .batch .now) (a .at) _ _ (number1-from-then3 c .number1 .ensures .0)
-    (c .before .before .before .field-bytes .ensures .0) (omega arith) (c .before .before .if2 .left)
-    (λ e. c .if3 .taken (c .before .number2 .ensures .0 ∙ e)))
+returns-3 c = c .skip-of2 .ensures
 
-add-start : tie.Need-add-start
-add-start c = search needs
-
-sub-if4 : tie.Need-sub-if4
-sub-if4 c = search needs
+skip-of-requires-3 : tie.Need-skip-of-requires-3
+skip-of-requires-3 c κs = let n = sized3 c in (
+  omega arith,
+  (
+    (n .number2 .ensures .0, ap fieldBytes (sym (c .if4 .taken) ∙ n .before .number1 .ensures .0)),
+    (omega arith, omega arith),
+  ),
+)
 
 returns-4 : tie.Need-returns-4
-returns-4 c = let a = start-from-then4 c .args in
-    skip-bad (a .batch .now) (a .at) (is-cut (a .batch .now) (a .at) _ _ (number1-from-then4 c .number1 .ensures .0)
-    (field-bytes-from-then4 c .field-bytes .ensures .0) (omega arith) (c .before .before .before .if2 .left)
-    (sym (c .before .before .number2 .ensures .0) ∙ c .before .if3 .left) (omega arith))
+returns-4 c = c .skip-of3 .ensures
 
-add-result : tie.Need-add-result
-add-result c = search needs
+skip-of-requires-4 : tie.Need-skip-of-requires-4
+skip-of-requires-4 c κs = let n = sized4 c in (
+  omega arith,
+  (
+    (n .number2 .ensures .0, ap fieldBytes (sym (c .if5 .taken) ∙ n .before .number1 .ensures .0)),
+    (omega arith, omega arith),
+  ),
+)
 
 returns-5 : tie.Need-returns-5
-returns-5 c = let a = start-from-else4 c .args in
-    skip-whole (a .batch .now) (a .at) _ _ (number1-from-else4 c .number1 .ensures .0)
-    (field-bytes-from-else4 c .field-bytes .ensures .0) (omega arith) (c .before .before .before .if2 .left)
-    (sym (c .before .before .number2 .ensures .0) ∙ c .before .if3 .left) (omega arith)
+returns-5 c = c .skip-of4 .ensures
+
+skip-of-requires-5 : tie.Need-skip-of-requires-5
+skip-of-requires-5 c κs = let n = sized5 c in (
+  omega arith,
+  (
+    (n .number2 .ensures .0, ap fieldBytes (sym (c .if6 .taken) ∙ n .before .number1 .ensures .0)),
+    (omega arith, omega arith),
+  ),
+)
+
+returns-6 : tie.Need-returns-6
+returns-6 c = c .skip-of5 .ensures
+
+skip-of-requires-6 : tie.Need-skip-of-requires-6
+skip-of-requires-6 c κs = let n = sized6 c in (
+  omega arith,
+  (
+    (n .number2 .ensures .0, ap fieldBytes (sym (c .if7 .taken) ∙ n .before .number1 .ensures .0)),
+    (omega arith, omega arith),
+  ),
+)
+
+returns-7 : tie.Need-returns-7
+returns-7 c = c .skip-of6 .ensures
+
+skip-of-requires-7 : tie.Need-skip-of-requires-7
+skip-of-requires-7 c κs = let n = sized7 c in (
+  omega arith,
+  (
+    (n .number2 .ensures .0, ap fieldBytes (sym (c .if8 .taken) ∙ n .before .number1 .ensures .0)),
+    (omega arith, omega arith),
+  ),
+)
+
+returns-8 : tie.Need-returns-8
+returns-8 c = c .skip-of7 .ensures
+
+returns-9 : tie.Need-returns-9
+returns-9 c = let n = sized c in let a = start n .args in
+    skip-bad (a .batch .now) (a .at) (no-tag (a .batch .now) (a .at) _ _ (n .before .number1 .ensures .0) refl (omega arith)
+    (rw (
+      ne-eqb _ 1 (c .before .before .before .before .before .before .if2 .left),
+      ne-eqb _ 2 (c .before .before .before .before .before .if3 .left),
+      ne-eqb _ 3 (c .before .before .before .before .if4 .left),
+      ne-eqb _ 4 (c .before .before .before .if5 .left),
+      ne-eqb _ 5 (c .before .before .if6 .left),
+      ne-eqb _ 6 (c .before .if7 .left),
+      ne-eqb _ 7 (c .if8 .left),
+    )))
 
 pub skip-at-spec : {M : Type 1} → statement M
 skip-at-spec =
@@ -92,13 +156,20 @@ skip-at-spec =
     sub-if1
     returns
     number1-requires
-    field-bytes-requires
-    returns-2
     add-number2
     number2-requires
+    skip-of-requires
+    returns-2
+    skip-of-requires-2
     returns-3
-    add-start
-    sub-if4
+    skip-of-requires-3
     returns-4
-    add-result
-    returns-5)
+    skip-of-requires-4
+    returns-5
+    skip-of-requires-5
+    returns-6
+    skip-of-requires-6
+    returns-7
+    skip-of-requires-7
+    returns-8
+    returns-9)
