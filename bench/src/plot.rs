@@ -43,7 +43,7 @@ fn greatest(numbers: impl Iterator<Item = f64>) -> f64 {
 fn bars(rows: &[Row]) -> String {
     let values = |row: &Row| [row.cost.run_less_check(), row.cost.check_a_command(), row.map];
     let most = greatest(rows.iter().flat_map(values));
-    let mut out = text(20.0, 22.0, "start", "ns a command, pools of 1,000 nodes");
+    let mut out = text(20.0, 22.0, "start", "ns a command, full batches");
     out += &legend(
         20.0,
         &["xapool, without the check", "xapool, the check's share in a full batch", "BTreeMap"],

@@ -7,7 +7,7 @@ use layout::clear_node;
 use layout::next_marked;
 use layout::pow2;
 use layout::shift_of;
-ghost use Prim.Native.Nat.{ℕ, _+_, _*_, _/_, _<_, _≤_};
+ghost use Prim.Native.Nat.{ℕ, _+_, _*_, _/_, _<_};
 ghost use mathlib.Core.Path.{_≡_};
 ghost use mathlib.Core.Bool.{Bool, true, false, not};
 ghost use lib.Dec.{eqb};

@@ -1,6 +1,6 @@
 -- Pieces of demand 3: for every list of calls on one pool, the words after it are those that the model fed the same
 -- calls prescribes at some places, with all other nodes free. ClaimLaws has the whole.
-use Prim.Native.Nat.{ℕ, zero, suc, _*_, _≤_}
+use Prim.Native.Nat.{ℕ, _*_, _≤_}
 use mathlib.Core.Path.{_≡_, refl, sym, ap, subst, _∙_}
 use mathlib.Core.List.{List, [], _∷_, _++_}
 use mathlib.Core.Option.{Option, none}

@@ -6,7 +6,6 @@ use lib.ListN.{length, getD}
 use Rattle.batch.specs.Batch.{fieldBytes, headBytes, commandAt, Store, Find}
 use Rattle.batch.proofs.BatchLaws.{one-byte}
 use Rattle.batch.proofs.ParseLaws.{Whole, whole, known-room, read-good}
-use borrow.Author.Needs.{needs}
 use Rattle.batch.proofs.step_at.Statement.{statement}
 use Rattle.batch.proofs.step_at.Tie as tie
 
