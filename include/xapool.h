@@ -43,9 +43,9 @@ extern "C" {
 /* ---- Version ---- */
 
 #define XAPOOL_VERSION_MAJOR 0
-#define XAPOOL_VERSION_MINOR 2
+#define XAPOOL_VERSION_MINOR 3
 #define XAPOOL_VERSION_PATCH 0
-#define XAPOOL_VERSION "0.2.0"
+#define XAPOOL_VERSION "0.3.0"
 
 /* ---- Limits ---- */
 
