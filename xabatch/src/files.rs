@@ -2,10 +2,16 @@
 
 use crate::failure::{malformed, Failure};
 use crate::os;
-use std::ffi::OsStr;
+use std::ffi::{OsStr, OsString};
 use std::fs::{self, File};
 use std::io::{self, ErrorKind, Read, Write};
 use std::os::fd::AsFd;
+use xapool_host::words_of_bytes;
+
+/// The name that stands for it.
+pub fn standard_input() -> OsString {
+    "-".into()
+}
 
 /// How a file is called in messages.
 pub fn name(file: &OsStr) -> String {
@@ -60,4 +66,11 @@ pub fn try_write(bytes: &[u8]) -> io::Result<()> {
 
 pub fn write_lines(lines: &[String]) -> Result<(), Failure> {
     write(lines.iter().map(|line| format!("{line}\n")).collect::<String>().as_bytes())
+}
+
+/// The words of a pool file.
+pub fn words_of(file: &OsStr, bytes: &[u8]) -> Result<Vec<u64>, Failure> {
+    let left = bytes.len() % 8;
+    let cut = || of_file(file, format!("{left} bytes after the last whole word"));
+    words_of_bytes(bytes).ok_or_else(cut)
 }

@@ -6,6 +6,7 @@ mod failure;
 mod files;
 mod help;
 mod os;
+mod pool_file;
 mod regions;
 mod source;
 
