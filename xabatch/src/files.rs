@@ -6,6 +6,7 @@ use std::ffi::{OsStr, OsString};
 use std::fs::{self, File};
 use std::io::{self, ErrorKind, Read, Write};
 use std::os::fd::AsFd;
+use xabatch::escape;
 use xapool_host::words_of_bytes;
 
 /// The name that stands for it.
@@ -46,6 +47,12 @@ pub fn output_is_open() -> Result<(), Failure> {
         return Err(malformed("standard output: it is closed"));
     }
     Ok(())
+}
+
+/// One line on standard error. One that cannot be written stops nothing: the exit status tells.
+pub fn complain(message: &str) {
+    let line = format!("xabatch: {}\n", escape::plain(message));
+    let _ = io::stderr().write_all(line.as_bytes());
 }
 
 /// Writes to standard output. Where the reader went away, as `head` does, the status tells it alone.

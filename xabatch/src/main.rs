@@ -13,7 +13,6 @@ mod source;
 use failure::{usage, Failure};
 use std::ffi::OsString;
 use std::process::ExitCode;
-use xabatch::escape;
 
 fn main() -> ExitCode {
     os::size_limit_is_an_error();
@@ -22,7 +21,7 @@ fn main() -> ExitCode {
         Ok(()) => ExitCode::SUCCESS,
         Err(failure) => {
             if !failure.message.is_empty() {
-                eprintln!("xabatch: {}", escape::plain(&failure.message));
+                files::complain(&failure.message);
             }
             ExitCode::from(failure.status)
         }
