@@ -33,7 +33,8 @@ fn act(arguments: &[OsString]) -> Result<(), Failure> {
         return Err(usage("no command; try 'xabatch --help'"));
     };
     let command = command.to_string_lossy();
-    let asks = rest.iter().take_while(|word| *word != "--").any(|word| word == "--help");
+    let is_asking = |word: &OsString| word == "--help" || word == "-h";
+    let asks = rest.iter().take_while(|word| *word != "--").any(is_asking);
     match &*command {
         "--help" | "-h" | "help" => help::write(rest.first()),
         "--version" | "-V" => files::write(help::VERSION.as_bytes()),

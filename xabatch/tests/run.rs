@@ -1,7 +1,7 @@
-//! `xabatch run` loses nothing: whatever fails, whenever it is killed, however many run at once.
+//! `xabatch run` loses nothing, however many run at once, and says what it did. (faults.rs has what
+//! fails and what is killed.)
 
 mod tool;
-mod trace;
 
 use std::fs::{self, File, Permissions};
 use std::io::{Read, Write};
@@ -10,15 +10,6 @@ use std::os::unix::process::CommandExt;
 use std::path::Path;
 use std::process::{Command, Stdio};
 use tool::{bash, batch, run, tool, Folder, TOOL};
-use trace::{trace, Fault, Trace};
-
-const READ: u64 = 0;
-const WRITE: u64 = 1;
-const FLOCK: u64 = 73;
-const FSYNC: u64 = 74;
-const RENAME: u64 = 82;
-const EIO: i64 = 5;
-const ENOSPC: i64 = 28;
 
 fn with(text: &str) -> String {
     format!("{text}\n")
@@ -75,100 +66,6 @@ fn sixteen_at_once() {
     let lost: Vec<&u64> = done.iter().filter(is_lost).collect();
     assert!(lost.is_empty(), "{} were done, but these are lost: {lost:?}", done.len());
     assert_eq!(done.len(), 16, "each waits for its turn");
-}
-
-/// The old pool, a batch that changes it, the pool after that, and a batch to go on with.
-struct Job {
-    old: Vec<u8>,
-    new: Vec<u8>,
-    batch: Vec<u8>,
-    next: Vec<u8>,
-}
-
-impl Job {
-    fn new() -> Job {
-        let folder = Folder::new();
-        let pool = folder.pool(40);
-        run(&pool, &with("store 7 order 0 value 1"));
-        let old = fs::read(&pool).expect("a pool");
-        let batch = batch("store 64 order 0 value 2\nload 7\n");
-        assert_eq!(tool(&["run", &folder.name("p.pool")], &batch).0, 0);
-        let new = fs::read(&pool).expect("a pool");
-        assert!(old != new);
-        let next = tool::batch("store 9 order 0 value 3\nload 7\n");
-        Job { old, new, batch, next }
-    }
-
-    /// Runs it with a fault in a new folder; gives the trace, and holds what is left to the promise.
-    fn with_fault(&self, fault: Fault) -> Trace {
-        let folder = Folder::new();
-        let (pool, replies) = (folder.path("p.pool"), folder.path("replies"));
-        fs::write(&pool, &self.old).expect("written");
-        fs::write(folder.path("batch"), &self.batch).expect("written");
-        let mut command = Command::new(TOOL);
-        // Without an environment the loader makes fewer calls.
-        command.env_clear().arg("run").arg(&pool).arg(folder.path("batch"));
-        command.stdin(Stdio::null()).stderr(Stdio::null());
-        command.stdout(File::create(&replies).expect("a file"));
-        let trace = trace(&mut command, fault);
-        let left = fs::read(&pool).expect("a pool is there");
-        let replied = fs::read(&replies).expect("a file").len();
-        assert!(left == self.old || left == self.new, "{fault:?}: {} bytes", left.len());
-        assert!(replied == 0 || left == self.new, "{fault:?}: replies, but the old pool");
-        if trace.status == Some(0) {
-            assert!((replied, left == self.new) == (48, true), "{fault:?}: status 0");
-        }
-        // What comes next works, and leaves nothing beside the pool.
-        let (status, replies, errors) = tool(&["run", &folder.name("p.pool")], &self.next);
-        assert_eq!((status, replies.len()), (0, 48), "{fault:?}: {errors}");
-        // Byte 44 is the last of the loaded word, and value 1 the word 3.
-        assert_eq!((replies[27], replies[44]), (0, 3), "{fault:?}: the old entry is lost");
-        assert_eq!(folder.names(), ["batch", "p.pool", "replies"], "{fault:?}");
-        trace
-    }
-}
-
-fn position(trace: &Trace, call: (u64, Option<u64>), from: usize) -> usize {
-    let is = |at: &(u64, u64)| at.0 == call.0 && call.1.is_none_or(|first| at.1 == first);
-    let found = trace.calls.iter().skip(from).position(is);
-    from + found.unwrap_or_else(|| panic!("no call {call:?} from {from}: {:?}", trace.calls))
-}
-
-#[test]
-fn lock_read_flush_rename_flush_reply() {
-    let trace = Job::new().with_fault(Fault::Never);
-    let mut at = position(&trace, (FLOCK, None), 0);
-    for call in [(READ, None), (WRITE, None), (FSYNC, None), (RENAME, None), (FSYNC, None)] {
-        at = position(&trace, call, at + 1);
-    }
-    // The replies are the last thing that is written, and to standard output or a copy of it.
-    let last = trace.calls.iter().rposition(|call| call.0 == WRITE).expect("a write");
-    assert!(last > at, "replies before the pool is safe: {:?}", trace.calls);
-    let writes = trace.calls.iter().skip(at).filter(|call| call.0 == WRITE).count();
-    assert_eq!(writes, 1, "{:?}", trace.calls);
-}
-
-#[test]
-fn killed_at_each_system_call() {
-    let job = Job::new();
-    let calls = job.with_fault(Fault::Never).calls.len();
-    assert!(calls > 20, "{calls}");
-    for call in 0..calls {
-        assert_eq!(job.with_fault(Fault::KillBefore(call)).status, None, "call {call}");
-        job.with_fault(Fault::KillAfter(call));
-    }
-}
-
-#[test]
-fn each_system_call_fails() {
-    let job = Job::new();
-    let calls = job.with_fault(Fault::Never).calls;
-    for (call, (number, _)) in calls.iter().enumerate() {
-        job.with_fault(Fault::Fail(call, EIO));
-        if [WRITE, FSYNC, RENAME].contains(number) {
-            job.with_fault(Fault::Fail(call, ENOSPC));
-        }
-    }
 }
 
 #[test]
