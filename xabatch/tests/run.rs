@@ -3,6 +3,7 @@
 
 mod tool;
 
+use std::ffi::CStr;
 use std::fs::{self, File, Permissions};
 use std::io::{Read, Write};
 use std::os::unix::fs::{chown, symlink, MetadataExt, PermissionsExt};
@@ -10,6 +11,7 @@ use std::os::unix::process::CommandExt;
 use std::path::Path;
 use std::process::{Command, Stdio};
 use tool::{bash, batch, run, tool, Folder, TOOL};
+use xabatch::system::{attribute, attribute_names, set_attribute};
 
 fn with(text: &str) -> String {
     format!("{text}\n")
@@ -130,7 +132,7 @@ fn who_may_not_write_changes_nothing() {
         let (status, errors) = nobody("store 5 order 0 value 9\n");
         assert_eq!((status, errors.contains(message)), (Some(1), true), "{errors}");
         assert!(errors.contains("the file is as it was"), "{errors}");
-        assert_eq!(nobody("load 5\n"), (Some(0), String::new()));
+        assert_eq!(nobody("find 5..5 any budget 9\n"), (Some(0), String::new()));
         assert!(fs::read(&pool).expect("a pool") == before);
         assert_eq!(folder.names(), ["p.pool", "xabatch"]);
     }
@@ -268,4 +270,95 @@ fn the_file_at_fault_is_named() {
     fs::write(&pool, bytes).expect("written");
     let (_, _, errors) = tool(&["run", &folder.name("p.pool"), &folder.name("bad.batch")], &[]);
     assert!(errors.contains("p.pool: pool is not well-formed"), "{errors}");
+}
+
+/// An access control list: a version, and then the tag, rights and number of each line.
+fn access(lines: &[(u16, u16, u32)]) -> Vec<u8> {
+    let mut bytes = 2u32.to_le_bytes().to_vec();
+    for (tag, rights, number) in lines {
+        bytes.extend(tag.to_le_bytes());
+        bytes.extend(rights.to_le_bytes());
+        bytes.extend(number.to_le_bytes());
+    }
+    bytes
+}
+
+const ACCESS: &CStr = c"system.posix_acl_access";
+const DEFAULT: &CStr = c"system.posix_acl_default";
+
+/// Owner rw, user 65534 r, group -, mask r, others -.
+fn access_of_another() -> Vec<u8> {
+    let none = u32::MAX;
+    access(&[(1, 6, none), (2, 4, 65_534), (4, 0, none), (16, 4, none), (32, 0, none)])
+}
+
+#[test]
+fn attributes_and_access_lists_stay() {
+    let folder = Folder::new();
+    let pool = folder.pool(2);
+    let open = || File::open(&pool).expect("a pool");
+    let with = "a file system with attributes";
+    set_attribute(&open(), c"user.note", b"kept").expect(with);
+    set_attribute(&open(), c"user.empty", b"").expect(with);
+    set_attribute(&open(), c"user.long", &[7; 3000]).expect(with);
+    set_attribute(&open(), ACCESS, &access_of_another()).expect(with);
+    let before = attribute_names(&open()).expect("names");
+    let mode = fs::metadata(&pool).expect("a pool").mode();
+    assert!(run(&pool, &self::with("store 5 order 0 value 9")).contains("done"));
+    assert_eq!(attribute_names(&open()).expect("names"), before);
+    let value = |name: &CStr| attribute(&open(), name).expect("a value").expect("it is there");
+    assert_eq!((value(c"user.note"), value(c"user.empty")), (b"kept".to_vec(), Vec::new()));
+    assert_eq!(value(c"user.long"), [7; 3000]);
+    assert_eq!(value(ACCESS), access_of_another());
+    assert_eq!(fs::metadata(&pool).expect("a pool").mode(), mode);
+}
+
+/// What a folder hands down to new files is no right to a pool that did not have it.
+#[test]
+fn no_access_list_is_added() {
+    let folder = Folder::new();
+    let pool = folder.pool(2);
+    let parent = File::open(&folder.0).expect("a folder");
+    set_attribute(&parent, DEFAULT, &access_of_another()).expect("a file system with attributes");
+    assert!(run(&pool, &with("store 5 order 0 value 9")).contains("done"));
+    let pool = File::open(&pool).expect("a pool");
+    assert_eq!(attribute(&pool, ACCESS).expect("a value"), None);
+}
+
+/// Sixteen make the pool at once: one has made it, and the others say so.
+#[test]
+fn one_of_many_makes_the_pool() {
+    let folder = Folder::new();
+    let start = |_| {
+        let mut command = Command::new(TOOL);
+        command.args(["new", "3", "p.pool"]).current_dir(&folder.0).stderr(Stdio::null());
+        command.spawn().expect("the tool starts")
+    };
+    let processes: Vec<_> = (0..16).map(start).collect();
+    let status = |mut process: std::process::Child| process.wait().expect("it ends").code();
+    let made: Vec<_> = processes.into_iter().map(status).collect();
+    assert_eq!(made.iter().filter(|status| **status == Some(0)).count(), 1, "{made:?}");
+    assert!(made.iter().all(|status| [Some(0), Some(1)].contains(status)), "{made:?}");
+    assert!(run(&folder.path("p.pool"), &with("store 5 order 0 value 9")).contains("done"));
+    assert_eq!(folder.names(), ["p.pool"]);
+}
+
+/// As any new file: what the mask lets through.
+#[test]
+fn a_new_pool_has_the_mode_of_the_mask() {
+    let folder = Folder::new();
+    let line = format!("cd {}; umask 027; \"$X\" new 3 p.pool", folder.0.display());
+    assert_eq!(bash(&line, &[]).0, 0);
+    let mode = fs::metadata(folder.path("p.pool")).expect("a pool").mode();
+    assert_eq!(mode & 0o7777, 0o640);
+}
+
+#[test]
+fn help_is_given_after_a_command() {
+    let help = tool(&["help", "run"], &[]);
+    assert_eq!((help.0, help.1.starts_with(b"usage: xabatch run")), (0, true));
+    assert_eq!(tool(&["run", "-h"], &[]), help);
+    assert_eq!(tool(&["run", "p.pool", "--help"], &[]), help);
+    // After -- it is a file.
+    assert_eq!(tool(&["run", "--", "-h"], &[]).0, 1);
 }
