@@ -49,19 +49,21 @@ pub fn run(arguments: Arguments) -> Result<(), Failure> {
     let mut locked = LockedFile::open(Path::new(file), job.locking).map_err(failed)?;
     let words = files::pool_words(file, locked.read(MOST_POOL_BYTES).map_err(failed)?)?;
     let mut pool = Pool::from_words(words.clone());
-    let outcome = job.run(&mut pool, &words)?;
-    // Either way the lock is free before anything is written to who may be slow to read it.
-    if job.strict && !outcome.tally.is_all_done() {
-        drop(locked);
-        return Err(job.not_done(&outcome, words));
-    }
+    let outcome = job.run(&mut pool, words)?;
+    // After this the lock is free: who reads what is written may be slow.
     outcome.keep(locked, &pool).map_err(|error| not_kept(file, &error))?;
-    if let Some(complaint) = outcome.tally.complaint() {
-        files::complain(&complaint);
-    }
-    match job.json {
-        true => outcome.write(outcome.json(true, &pool).as_bytes()),
+    job.complain_of(&outcome);
+    let written = match job.json {
+        true => outcome.write(outcome.json(&pool).as_bytes()),
         false => outcome.write(&outcome.replies),
+    };
+    match outcome.kept {
+        true => written,
+        // What else went wrong is told, but this is what the status is for.
+        false => Err(Failure {
+            status: NOT_DONE,
+            message: written.map_or_else(|failure| failure.message, |()| String::new()),
+        }),
     }
 }
 
@@ -92,8 +94,9 @@ impl Job {
         Ok(Job { file, batch_file, batch, locking, strict, json })
     }
 
-    /// Runs the batch in memory, on a pool that has these words.
-    fn run(&self, pool: &mut Pool, before: &[u64]) -> Result<Outcome, Failure> {
+    /// Runs the batch in memory, on a pool that has these words; it has them again if nothing is to
+    /// be kept.
+    fn run(&self, pool: &mut Pool, before: Vec<u64>) -> Result<Outcome, Failure> {
         let replies = run_batches(pool, &self.batch).map_err(|refusal| match refusal {
             Refusal::BadBatch { place } => bad_batch(&self.batch_file, &self.batch, place),
             _ => of_file(&self.file, refusal),
@@ -101,21 +104,25 @@ impl Job {
         let read: Option<Vec<Reply>> = replies.chunks(REPLY_BYTES).map(Reply::read).collect();
         // Cannot be: the library is proved to write replies. Is it the right one?
         let read = read.ok_or_else(|| of_file(&self.file, "the library gave what is no reply"))?;
-        Ok(Outcome { tally: read.iter().collect(), changed: pool.words() != before, replies })
+        let tally: Tally = read.iter().collect();
+        let kept = !self.strict || tally.is_all_done();
+        let changed = kept && pool.words() != before;
+        if !kept {
+            *pool = Pool::from_words(before);
+        }
+        Ok(Outcome { replies, tally, kept, changed })
     }
 
-    /// Says what was not done. No reply is written: where one says `done`, nothing of that is kept.
-    fn not_done(&self, outcome: &Outcome, words: Vec<u64>) -> Failure {
-        name_not_done(&self.batch, &outcome.replies);
-        if self.json {
-            let json = outcome.json(false, &Pool::from_words(words));
-            if let Err(failure) = files::write(json.as_bytes()) {
-                files::complain(&failure.message);
-            }
+    /// Says how many commands were not done and, where nothing is kept for that, which.
+    fn complain_of(&self, outcome: &Outcome) {
+        let Some(complaint) = outcome.tally.complaint() else {
+            return;
+        };
+        if outcome.kept {
+            return files::complain(&complaint);
         }
-        let complaint = outcome.tally.complaint().unwrap_or_default();
-        let failure = of_file(&self.file, format!("nothing is kept: {complaint}"));
-        Failure { status: NOT_DONE, ..failure }
+        name_not_done(&self.batch, &outcome.replies);
+        files::complain(&format!("{}: nothing is kept: {complaint}", files::name(&self.file)));
     }
 }
 
@@ -156,6 +163,9 @@ fn bad_batch(file: &OsStr, batch: &[u8], place: u64) -> Failure {
 struct Outcome {
     replies: Vec<u8>,
     tally: Tally,
+    /// Whether it is to be kept.
+    kept: bool,
+    /// Whether it is, and there is something to keep.
     changed: bool,
 }
 
@@ -168,19 +178,20 @@ impl Outcome {
         }
     }
 
-    /// Writes what is to be said of a batch that is kept.
+    /// Writes the replies, or what is written in their place.
     fn write(&self, bytes: &[u8]) -> Result<(), Failure> {
+        let replies = self.tally.commands();
+        let ran = if self.kept { "the batch ran" } else { "nothing is kept" };
         files::try_write(bytes).map_err(|error| {
-            let replies = self.tally.commands();
             malformed(format!(
-                "standard output: {error}; the batch ran and the pool is safe, but its {replies} \
-                 replies are lost"
+                "standard output: {error}; {ran} and the pool is safe, but its {replies} replies \
+                 are lost"
             ))
         })
     }
 
-    /// One line; the nodes are those of the pool that the file has now.
-    fn json(&self, kept: bool, pool: &Pool) -> String {
+    /// One line; the pool is the one that the file has now.
+    fn json(&self, pool: &Pool) -> String {
         let answer = |(answer, count): (Answer, u64)| {
             let number = answer.number();
             format!(r#"{{"answer":{number},"text":"{answer}","count":{count}}}"#)
@@ -189,7 +200,7 @@ impl Outcome {
         let (answers, commands) = (answers.join(","), self.tally.commands());
         let not_done = self.tally.not_done();
         let done = commands - not_done;
-        let changed = kept && self.changed;
+        let (kept, changed) = (self.kept, self.changed);
         let (nodes, in_use) = (pool.nodes().unwrap_or(0), pool.nodes_in_use());
         let free = nodes.saturating_sub(in_use);
         format!(

@@ -66,9 +66,14 @@ impl Place {
     }
 
     fn run(&self, fault: Fault) -> Trace {
+        self.run_with(&[], fault)
+    }
+
+    fn run_with(&self, options: &[&str], fault: Fault) -> Trace {
         let mut command = Command::new(TOOL);
         // Without an environment the loader makes fewer calls.
-        command.env_clear().arg("run").arg(self.0.path("p.pool")).arg(self.0.path("batch"));
+        command.env_clear().arg("run").args(options);
+        command.arg(self.0.path("p.pool")).arg(self.0.path("batch"));
         command.stdin(Stdio::null());
         command.stderr(File::create(self.0.path("errors")).expect("a file"));
         command.stdout(File::create(self.0.path("replies")).expect("a file"));
@@ -242,6 +247,16 @@ fn a_run_that_only_reads_flushes_too() {
         assert_eq!((trace.status, place.replied(), key(&pool)), (Some(0), 48, before));
         place.acknowledged_is_flushed(&trace, "loads");
     }
+}
+
+/// Its replies are of the pool that stays: that one is on disk.
+#[test]
+fn a_strict_run_that_keeps_nothing_flushes_too() {
+    let job = Job::new();
+    let place = Place::of(&job.old, &batch("store 64 order 0 value 2\nload 8\n"));
+    let trace = place.run_with(&["--strict"], Fault::Never);
+    assert_eq!((trace.status, place.replied(), place.pool() == job.old), (Some(4), 48, true));
+    place.acknowledged_is_flushed(&trace, "strict");
 }
 
 /// It has a status of its own, is said, and no reply is written; what stands is said as well.

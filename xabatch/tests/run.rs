@@ -136,6 +136,14 @@ fn who_may_not_write_changes_nothing() {
         assert!(fs::read(&pool).expect("a pool") == before);
         assert_eq!(folder.names(), ["p.pool", "xabatch"]);
     }
+    // A folder that may not be read cannot be flushed, and what is not flushed is not acknowledged.
+    modes(0o711, 0o666);
+    let (status, errors) = nobody("find 5..5 any budget 9\n");
+    assert_eq!(
+        (status, errors.contains("flush to disk: Permission denied")),
+        (Some(3), true),
+        "{errors}"
+    );
 }
 
 #[test]
