@@ -302,6 +302,7 @@ fn new_holds(empty: &[u8], fault: Fault) -> Trace {
     }
     if left.is_none() {
         assert_eq!(tool(&["new", "3", &folder.name("p.pool")], &[]).0, 0, "{fault:?}");
+        assert_eq!(folder.names(), ["p.pool"], "{fault:?}");
     }
     assert!(tool::run(&pool, "store 5 order 0 value 9\n").contains("done"), "{fault:?}");
     assert_eq!(folder.names(), ["p.pool"], "{fault:?}");

@@ -187,7 +187,7 @@ fn the_lock_is_free_while_replies_are_written() {
     for text in ["load 1\n".repeat(6000), "store 1 order 0 value 1\n".repeat(6000)] {
         let mut command = Command::new(TOOL);
         command.arg("run").arg(&pool).stdin(Stdio::piped()).stdout(Stdio::piped());
-        let mut slow = command.spawn().expect("the tool starts");
+        let mut slow = command.stderr(Stdio::null()).spawn().expect("the tool starts");
         slow.stdin.take().expect("a pipe").write_all(&batch(&text)).expect("it reads");
         // More replies than a pipe holds: once the first is there, the rest waits for us.
         let mut output = slow.stdout.take().expect("a pipe");
@@ -349,6 +349,18 @@ fn one_of_many_makes_the_pool() {
     assert!(made.iter().all(|status| [Some(0), Some(1)].contains(status)), "{made:?}");
     assert!(run(&folder.path("p.pool"), &with("store 5 order 0 value 9")).contains("done"));
     assert_eq!(folder.names(), ["p.pool"]);
+}
+
+/// What another process is writing is locked, and stays.
+#[test]
+fn new_removes_what_is_left_over_and_no_more() {
+    let folder = Folder::new();
+    let names =
+        [".p.pool.xabatch-1", ".p.pool.xabatch-2", ".p.pool.xabatch-x", ".q.pool.xabatch-1"];
+    let files = names.map(|name| File::create(folder.path(name)).expect("a file"));
+    files[1].lock().expect("the lock");
+    assert_eq!(tool(&["new", "3", &folder.name("p.pool")], &[]).0, 0);
+    assert_eq!(folder.names(), [names[1], names[2], names[3], "p.pool"]);
 }
 
 /// As any new file: what the mask lets through.
