@@ -128,7 +128,7 @@ killed leaves the old pool or the new one, whole, and runs at the same time go o
               and standard error names the commands, up to twenty. The replies are written, to show
               which were not done; a 'done' among them is then of nothing that is in the pool
   --json      in place of the replies a line of JSON: commands, done, not_done, answers (answer, text
-              and count of each), kept, changed, nodes, nodes_in_use, nodes_free
+              and replies of each), kept, changed, nodes, in_use, free
 
 A command was done if its answer is 0; of a find also 12, ended, and 13, paused. All else was not,
 also a load of what is absent. Without --strict the status is 0 then, and a line on standard error

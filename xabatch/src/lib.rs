@@ -1,5 +1,6 @@
 //! What the tool xabatch does: text to batches, records to text, pool files and their inside.
 
+pub mod answered;
 pub mod attributes;
 pub mod bad_batch;
 pub mod beside;
@@ -10,5 +11,4 @@ pub mod inspect;
 pub mod locked;
 pub mod progress;
 pub mod system;
-pub mod tally;
 pub mod text;

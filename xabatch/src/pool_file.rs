@@ -5,10 +5,10 @@ use crate::failure::{malformed, usage, Failure, NOT_DONE, NOT_FLUSHED};
 use crate::files::{self, of_file, MOST_POOL_BYTES};
 use std::ffi::{OsStr, OsString};
 use std::path::Path;
+use xabatch::answered::{is_done, Answered};
 use xabatch::bad_batch;
 use xabatch::locked::{self, KeepError, LockedFile, Locking};
 use xabatch::progress::Progress;
-use xabatch::tally::{is_done, Tally};
 use xapool_host::{split_batches, Answer, Commands, Pool, Refusal, Reply, REPLY_BYTES};
 
 pub const RUN_OPTIONS: [Known; 3] = [("--no-wait", false), ("--strict", false), ("--json", false)];
@@ -104,18 +104,18 @@ impl Job {
         let read: Option<Vec<Reply>> = replies.chunks(REPLY_BYTES).map(Reply::read).collect();
         // Cannot be: the library is proved to write replies. Is it the right one?
         let read = read.ok_or_else(|| of_file(&self.file, "the library gave what is no reply"))?;
-        let tally: Tally = read.iter().collect();
-        let kept = !self.strict || tally.is_all_done();
+        let answered: Answered = read.iter().collect();
+        let kept = !self.strict || answered.is_all_done();
         let changed = kept && pool.words() != before;
         if !kept {
             *pool = Pool::from_words(before);
         }
-        Ok(Outcome { replies, tally, kept, changed })
+        Ok(Outcome { replies, answered, kept, changed })
     }
 
     /// Says how many commands were not done and, where nothing is kept for that, which.
     fn complain_of(&self, outcome: &Outcome) {
-        let Some(complaint) = outcome.tally.complaint() else {
+        let Some(complaint) = outcome.answered.complaint() else {
             return;
         };
         if outcome.kept {
@@ -162,7 +162,7 @@ fn bad_batch(file: &OsStr, batch: &[u8], place: u64) -> Failure {
 /// What a batch did to a pool in memory.
 struct Outcome {
     replies: Vec<u8>,
-    tally: Tally,
+    answered: Answered,
     /// Whether it is to be kept.
     kept: bool,
     /// Whether it is, and there is something to keep.
@@ -180,7 +180,7 @@ impl Outcome {
 
     /// Writes the replies, or what is written in their place.
     fn write(&self, bytes: &[u8]) -> Result<(), Failure> {
-        let replies = self.tally.commands();
+        let replies = self.answered.commands();
         let ran = if self.kept { "the batch ran" } else { "nothing is kept" };
         files::try_write(bytes).map_err(|error| {
             malformed(format!(
@@ -194,11 +194,11 @@ impl Outcome {
     fn json(&self, pool: &Pool) -> String {
         let answer = |(answer, count): (Answer, u64)| {
             let number = answer.number();
-            format!(r#"{{"answer":{number},"text":"{answer}","count":{count}}}"#)
+            format!(r#"{{"answer":{number},"text":"{answer}","replies":{count}}}"#)
         };
-        let answers: Vec<String> = self.tally.answers().map(answer).collect();
-        let (answers, commands) = (answers.join(","), self.tally.commands());
-        let not_done = self.tally.not_done();
+        let answers: Vec<String> = self.answered.answers().map(answer).collect();
+        let (answers, commands) = (answers.join(","), self.answered.commands());
+        let not_done = self.answered.not_done();
         let done = commands - not_done;
         let (kept, changed) = (self.kept, self.changed);
         let (nodes, in_use) = (pool.nodes().unwrap_or(0), pool.nodes_in_use());
@@ -206,7 +206,7 @@ impl Outcome {
         format!(
             "{{\"commands\":{commands},\"done\":{done},\"not_done\":{not_done},\
              \"answers\":[{answers}],\"kept\":{kept},\"changed\":{changed},\
-             \"nodes\":{nodes},\"nodes_in_use\":{in_use},\"nodes_free\":{free}}}\n"
+             \"nodes\":{nodes},\"in_use\":{in_use},\"free\":{free}}}\n"
         )
     }
 }

@@ -127,16 +127,16 @@ fn counts_as_json() {
     let text = "store 0 order 0 value 1\nstore 64 order 0 value 2\nload 5\nload 6\n\
                 find 65..max any budget 9000\n";
     let counts =
-        r#""commands":5,"done":3,"not_done":2,"answers":[{"answer":0,"text":"done","count":2},"#;
-    let others = r#"{"answer":10,"text":"no entry covers the index","count":2},{"answer":12,"text":"ended","count":1}]"#;
+        r#""commands":5,"done":3,"not_done":2,"answers":[{"answer":0,"text":"done","replies":2},"#;
+    let others = r#"{"answer":10,"text":"no entry covers the index","replies":2},{"answer":12,"text":"ended","replies":1}]"#;
     let (status, output, errors, is_same) = run(&["--json"], 5, text);
     assert_eq!((status, is_same), (0, false));
-    let end = r#""kept":true,"changed":true,"nodes":5,"nodes_in_use":3,"nodes_free":2"#;
+    let end = r#""kept":true,"changed":true,"nodes":5,"in_use":3,"free":2"#;
     assert_eq!(String::from_utf8_lossy(&output), format!("{{{counts}{others},{end}}}\n"));
     assert_eq!(errors, "xabatch: 2 of 5 commands were not done: 2 no entry covers the index\n");
     let (status, output, _, is_same) = run(&["--json", "--strict"], 5, text);
     assert_eq!((status, is_same), (NOT_DONE, true));
-    let end = r#""kept":false,"changed":false,"nodes":5,"nodes_in_use":0,"nodes_free":5"#;
+    let end = r#""kept":false,"changed":false,"nodes":5,"in_use":0,"free":5"#;
     assert_eq!(String::from_utf8_lossy(&output), format!("{{{counts}{others},{end}}}\n"));
 }
 

@@ -4,7 +4,7 @@ use xapool_host::{Answer, Reply, Tag};
 
 /// The answers to a number of commands, counted.
 #[derive(Clone, Debug, Default, PartialEq, Eq)]
-pub struct Tally {
+pub struct Answered {
     commands: u64,
     /// At place k those with answer k.
     answers: [u64; Answer::ALL.len()],
@@ -23,7 +23,7 @@ pub fn is_done(reply: &Reply) -> bool {
     }
 }
 
-impl Tally {
+impl Answered {
     pub fn add(&mut self, reply: &Reply) {
         let place = usize::from(reply.answer.number());
         self.commands += 1;
@@ -66,11 +66,11 @@ impl Tally {
     }
 }
 
-impl<'a> FromIterator<&'a Reply> for Tally {
-    fn from_iter<T: IntoIterator<Item = &'a Reply>>(replies: T) -> Tally {
-        let mut tally = Tally::default();
-        replies.into_iter().for_each(|reply| tally.add(reply));
-        tally
+impl<'a> FromIterator<&'a Reply> for Answered {
+    fn from_iter<T: IntoIterator<Item = &'a Reply>>(replies: T) -> Answered {
+        let mut answered = Answered::default();
+        replies.into_iter().for_each(|reply| answered.add(reply));
+        answered
     }
 }
 
