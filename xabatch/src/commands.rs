@@ -2,7 +2,7 @@
 
 use crate::args::Arguments;
 use crate::failure::{malformed, usage, Failure};
-use crate::files::{self, of_file, words_of};
+use crate::files::{self, of_file};
 use crate::{pool_file, regions};
 use std::ffi::{OsStr, OsString};
 use std::path::Path;
@@ -20,7 +20,7 @@ pub fn act(name: &str, words: &[OsString]) -> Result<(), Failure> {
         )?),
         "list" => list(Arguments::of(words, &[("--bytes", false)])?),
         "new" => pool_file::create(Arguments::of(words, &[])?),
-        "run" => pool_file::run(Arguments::of(words, &[("--no-wait", false)])?),
+        "run" => pool_file::run(Arguments::of(words, &pool_file::RUN_OPTIONS)?),
         "crc" => regions::crc(Arguments::of(words, &[])?),
         "compare" => regions::compare(Arguments::of(words, &[])?),
         _ => Err(usage(format!("'{name}': no such command; try 'xabatch --help'"))),
@@ -124,7 +124,7 @@ fn answers_all(file: &OsStr, tags: &[Tag], replies: &[Tag]) -> Result<(), Failur
 fn show(arguments: Arguments) -> Result<(), Failure> {
     let file = &arguments.between(1, 1)?[0];
     let view = view_of(&arguments)?;
-    let words = words_of(file, &files::read(file)?)?;
+    let words = files::read_pool(file)?;
     let report = inspect::inspect(&words);
     files::write_lines(&draw::lines_of(&report, &view))?;
     match (Pool::from_words(words).check(), report.findings.is_empty()) {
@@ -162,7 +162,7 @@ fn list(arguments: Arguments) -> Result<(), Failure> {
     let named = arguments.between(1, 2)?;
     let (first, last) = range_of("", named.get(1).map(OsString::as_os_str))?;
     let file = &named[0];
-    let pool = Pool::from_words(words_of(file, &files::read(file)?)?);
+    let pool = Pool::from_words(files::read_pool(file)?);
     let list = pool.list(first..=last).map_err(|refusal| of_file(file, refusal))?;
     if arguments.has("--bytes") {
         return files::write(list.bytes());

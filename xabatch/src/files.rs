@@ -6,7 +6,10 @@ use std::ffi::{OsStr, OsString};
 use std::fs::{self, File};
 use std::io::{self, ErrorKind, Read, Write};
 use std::os::fd::AsFd;
-use xapool_host::words_of_bytes;
+use xabatch::escape;
+use xabatch::locked::read_at_most;
+use xapool_host::layout::{ANCHOR_WORDS, NODE_WORDS};
+use xapool_host::{words_of_bytes, MOST_NODES};
 
 /// The name that stands for it.
 pub fn standard_input() -> OsString {
@@ -48,6 +51,12 @@ pub fn output_is_open() -> Result<(), Failure> {
     Ok(())
 }
 
+/// One line on standard error. One that cannot be written stops nothing: the exit status tells.
+pub fn complain(message: &str) {
+    let line = format!("xabatch: {}\n", escape::plain(message));
+    let _ = io::stderr().write_all(line.as_bytes());
+}
+
 /// Writes to standard output. Where the reader went away, as `head` does, the status tells it alone.
 pub fn write(bytes: &[u8]) -> Result<(), Failure> {
     output_is_open()?;
@@ -68,9 +77,25 @@ pub fn write_lines(lines: &[String]) -> Result<(), Failure> {
     write(lines.iter().map(|line| format!("{line}\n")).collect::<String>().as_bytes())
 }
 
-/// The words of a pool file.
-pub fn words_of(file: &OsStr, bytes: &[u8]) -> Result<Vec<u64>, Failure> {
+/// No pool file has more bytes than this.
+pub const MOST_POOL_BYTES: u64 = 8 * (ANCHOR_WORDS + NODE_WORDS * MOST_NODES) as u64;
+
+/// The words of a pool file; `-` is standard input. One that is too long for a pool is not read.
+pub fn read_pool(file: &OsStr) -> Result<Vec<u64>, Failure> {
+    let opened = match file == "-" {
+        true if os::was_closed(0) => Err(io::Error::other("it is closed")),
+        true => io::stdin().as_fd().try_clone_to_owned().map(File::from),
+        false => File::open(file),
+    };
+    let read = opened.and_then(|opened| read_at_most(&opened, MOST_POOL_BYTES));
+    pool_words(file, read.map_err(|error| of_file(file, error))?)
+}
+
+/// The words of the bytes of a pool file; none are given of one that has too many.
+pub fn pool_words(file: &OsStr, bytes: Option<Vec<u8>>) -> Result<Vec<u64>, Failure> {
+    let too_long = || of_file(file, format!("no pool: too long, over {MOST_POOL_BYTES} bytes"));
+    let bytes = bytes.ok_or_else(too_long)?;
     let left = bytes.len() % 8;
     let cut = || of_file(file, format!("{left} bytes after the last whole word"));
-    words_of_bytes(bytes).ok_or_else(cut)
+    words_of_bytes(&bytes).ok_or_else(cut)
 }

@@ -12,7 +12,7 @@ usage: xabatch encode [--long | --split PREFIX] [FILE]     text to a batch
        xabatch show [OPTIONS] POOLFILE                     a pool as a tree, and what is wrong with it
        xabatch list [--bytes] POOLFILE [FIRST..LAST]       the entries of a pool, as evidence
        xabatch new NODES [POOLFILE]                        an empty pool of 1 to 16,384 nodes
-       xabatch run [--no-wait] POOLFILE [FILE]             a batch on a pool file; replies to standard output
+       xabatch run [OPTIONS] POOLFILE [FILE]               a batch on a pool file; replies to standard output
        xabatch crc [FILE..]                                the digest CRC-32C of each file
        xabatch compare OLD NEW                             whether two files match: before you erase one
        xabatch help COMMAND                                more on one of these; also xabatch COMMAND --help
@@ -22,7 +22,8 @@ A FILE that is not named, or is -, is standard input. Results go to standard out
 
 Exit status: 0 fine; 1 the input is malformed, the pool is not well-formed, the call was refused,
 or a file or the output cannot be read or written; 2 bad usage or a syntax error in the text, which
-is named by FILE:LINE:COLUMN. Of compare: 0 matched; 1 different; 2 nothing to compare, or a fault.
+is named by FILE:LINE:COLUMN; 3 of run and new: a flush to disk failed; 4 of run --strict: not every
+command was done, and nothing is kept. Of compare: 0 matched; 1 different; 2 nothing to compare, or a fault.
 ";
 
 const ENCODE: &str = "\
@@ -106,24 +107,44 @@ usage: xabatch new NODES [POOLFILE]
 Writes an empty pool of 1 to 16,384 nodes to a new file, or to standard output. A file that is there
 already is not touched. A pool file has the pool's 64-bit words in order, each as 8 bytes, lowest
 byte first.
+
+The file has its name only when it is whole and flushed to disk; then the folder is flushed. A new
+that fails or is killed leaves nothing at that name, or the whole pool. Exit status 3: a flush
+failed; what stands is said.
 ";
 
 const RUN: &str = "\
-usage: xabatch run [--no-wait] POOLFILE [FILE]
+usage: xabatch run [--no-wait] [--strict] [--json] POOLFILE [FILE]
 
 Runs a batch on a pool file and writes the replies to standard output. In this order: the batch is
 read; the pool file is locked and read; the batch runs in memory; the new pool is written beside the
 old one, flushed to disk and renamed to its name, and the folder is flushed; the lock is given back;
-the replies are written. So a reply that you read is of a pool that is safe, a run that fails or is
+the replies are written. Where the batch changes nothing, the file stays, and it and its folder are
+flushed all the same. So a reply that you read is of a pool that is safe, a run that fails or is
 killed leaves the old pool or the new one, whole, and runs at the same time go one after another.
 
   --no-wait   where another run has the lock, fail in place of waiting
+  --strict    nothing is kept unless there is a command and each was done: else the exit status is 4
+              and standard error names the commands, up to twenty. The replies are written, to show
+              which were not done; a 'done' among them is then of nothing that is in the pool
+  --json      in place of the replies a line of JSON: commands, done, not_done, answers (answer, text
+              and replies of each), kept, changed, nodes, in_use, free
+
+A command was done if its answer is 0; of a find also 12, ended, and 13, paused. All else was not,
+also a load of what is absent. Without --strict the status is 0 then, and a line on standard error
+says how many of how many were not done, and why.
 
 A row of records longer than a batch (32,768 bytes) is run as several batches; all or none reach the
-file. The new file has the owner and mode of the old one; a symbolic link stays and the file that it
-leads to is replaced; another hard link of the old file keeps the old pool. A batch that changes
-nothing writes nothing. If the replies cannot be written, the exit status is 1 and the pool is
-changed: 'xabatch show' says what it holds.
+file. The new file has the owner, the mode and the extended attributes of the old one, access control
+lists among them (but for security.ima and security.evm, which are of the old bytes); where they
+cannot be kept, the pool stays as it was. A symbolic link stays and the file that it leads to is
+replaced; another hard link of the old file keeps the old pool. A file that may not be written serves
+loads and finds.
+
+Exit status 3: the file or its folder cannot be flushed; no reply is written, and what stands is said.
+Run the batch again when that is mended; show and list read a pool that cannot be flushed. If the
+replies cannot be written, the exit status is 1 and the pool is changed: 'xabatch show' says what it
+holds.
 ";
 
 const CRC: &str = "\

@@ -1,4 +1,5 @@
-//! What the standard library has no name for. All `unsafe` code of this crate is here.
+//! What the standard library has no name for. The `unsafe` code of the program is here; that of the
+//! library part is in system.rs.
 
 use std::sync::atomic::{AtomicU8, Ordering};
 

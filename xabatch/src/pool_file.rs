@@ -1,11 +1,20 @@
 //! The commands that write a pool file: a new one, and a batch run on one.
 
-use crate::args::Arguments;
-use crate::failure::{malformed, usage, Failure};
-use crate::files::{self, of_file, words_of};
+use crate::args::{Arguments, Known};
+use crate::failure::{malformed, usage, Failure, NOT_DONE, NOT_FLUSHED};
+use crate::files::{self, of_file, MOST_POOL_BYTES};
+use std::ffi::{OsStr, OsString};
 use std::path::Path;
-use xabatch::locked::{self, LockedFile, Locking};
-use xapool_host::{split_batches, Pool, Refusal, REPLY_BYTES};
+use xabatch::answered::{is_done, Answered};
+use xabatch::bad_batch;
+use xabatch::locked::{self, KeepError, LockedFile, Locking};
+use xabatch::progress::Progress;
+use xapool_host::{split_batches, Answer, Commands, Pool, Refusal, Reply, REPLY_BYTES};
+
+pub const RUN_OPTIONS: [Known; 3] = [("--no-wait", false), ("--strict", false), ("--json", false)];
+
+/// So many commands that were not done are named one by one.
+const MOST_NAMED: usize = 20;
 
 /// `new`: an empty pool.
 pub fn create(arguments: Arguments) -> Result<(), Failure> {
@@ -17,56 +26,197 @@ pub fn create(arguments: Arguments) -> Result<(), Failure> {
     match words.get(1) {
         None => files::write(&bytes),
         Some(file) if file == "-" => files::write(&bytes),
-        Some(file) => locked::create(Path::new(file), &bytes).map_err(|error| of_file(file, error)),
+        Some(file) => {
+            locked::create(Path::new(file), &bytes).map_err(|error| not_kept(file, &error))
+        }
     }
+}
+
+/// A flush that failed has a status of its own.
+fn not_kept(file: &OsStr, error: &KeepError) -> Failure {
+    let failure = of_file(file, error);
+    if error.is_of_flush() {
+        return Failure { status: NOT_FLUSHED, ..failure };
+    }
+    failure
 }
 
 /// `run`: a batch on a pool file.
 pub fn run(arguments: Arguments) -> Result<(), Failure> {
-    let named = arguments.between(1, 2)?;
-    let file = &named[0];
-    if file == "-" {
-        return Err(usage("run changes a pool file: it must have a name"));
-    }
-    files::output_is_open()?;
-    let batch_file = named.get(1).cloned().unwrap_or_else(files::standard_input);
-    // Read before the lock is taken: what comes through a pipe may be long in coming.
-    let batch = files::read(&batch_file)?;
-    let locking = if arguments.has("--no-wait") { Locking::Refuse } else { Locking::Wait };
+    let job = Job::of(&arguments)?;
+    let file = &job.file;
     let failed = |error| of_file(file, error);
-    let mut locked = LockedFile::open(Path::new(file), locking).map_err(failed)?;
-    let words = words_of(file, &locked.read().map_err(failed)?)?;
+    let mut locked = LockedFile::open(Path::new(file), job.locking).map_err(failed)?;
+    let words = files::pool_words(file, locked.read(MOST_POOL_BYTES).map_err(failed)?)?;
     let mut pool = Pool::from_words(words.clone());
-    let replies = run_batches(&mut pool, &batch).map_err(|refusal| match refusal {
-        Refusal::BadBatch { .. } => of_file(&batch_file, refusal),
-        _ => of_file(file, refusal),
-    })?;
-    // Either way the lock is free before the replies are written, which may take long.
-    if pool.words() == words {
-        drop(locked);
-    } else {
-        locked.replace(&pool.to_bytes()).map_err(|error| of_file(file, error))?;
+    let outcome = job.run(&mut pool, words)?;
+    // After this the lock is free: who reads what is written may be slow.
+    outcome.keep(locked, &pool).map_err(|error| not_kept(file, &error))?;
+    job.complain_of(&outcome);
+    let written = match job.json {
+        true => outcome.write(outcome.json(&pool).as_bytes()),
+        false => outcome.write(&outcome.replies),
+    };
+    match outcome.kept {
+        true => written,
+        // What else went wrong is told, but this is what the status is for.
+        false => Err(Failure {
+            status: NOT_DONE,
+            message: written.map_or_else(|failure| failure.message, |()| String::new()),
+        }),
     }
-    files::try_write(&replies).map_err(|error| {
-        let replies = replies.len() / REPLY_BYTES;
-        malformed(format!(
-            "standard output: {error}; the batch ran and the pool is safe, but its {replies} \
-             replies are lost"
-        ))
-    })
+}
+
+/// What a run is asked to do.
+struct Job {
+    file: OsString,
+    batch_file: OsString,
+    batch: Vec<u8>,
+    locking: Locking,
+    strict: bool,
+    json: bool,
+}
+
+impl Job {
+    /// The batch is read before the lock is taken: what comes through a pipe may be long in coming.
+    fn of(arguments: &Arguments) -> Result<Job, Failure> {
+        let named = arguments.between(1, 2)?;
+        let file = named[0].clone();
+        if file == "-" {
+            return Err(usage("run changes a pool file: it must have a name"));
+        }
+        files::output_is_open()?;
+        let batch_file = named.get(1).cloned().unwrap_or_else(files::standard_input);
+        let batch = files::read(&batch_file)?;
+        let no_wait = arguments.has("--no-wait");
+        let locking = if no_wait { Locking::Refuse } else { Locking::Wait };
+        let (strict, json) = (arguments.has("--strict"), arguments.has("--json"));
+        Ok(Job { file, batch_file, batch, locking, strict, json })
+    }
+
+    /// Runs the batch in memory, on a pool that has these words; it has them again if nothing is to
+    /// be kept.
+    fn run(&self, pool: &mut Pool, before: Vec<u64>) -> Result<Outcome, Failure> {
+        let replies = run_batches(pool, &self.batch).map_err(|refusal| match refusal {
+            Refusal::BadBatch { place } => bad_batch(&self.batch_file, &self.batch, place),
+            _ => of_file(&self.file, refusal),
+        })?;
+        let read: Option<Vec<Reply>> = replies.chunks(REPLY_BYTES).map(Reply::read).collect();
+        // Cannot be: the library is proved to write replies. Is it the right one?
+        let read = read.ok_or_else(|| of_file(&self.file, "the library gave what is no reply"))?;
+        let answered: Answered = read.iter().collect();
+        let kept = !self.strict || answered.is_all_done();
+        let changed = kept && pool.words() != before;
+        if !kept {
+            *pool = Pool::from_words(before);
+        }
+        Ok(Outcome { replies, answered, kept, changed })
+    }
+
+    /// Says how many commands were not done and, where nothing is kept for that, which.
+    fn complain_of(&self, outcome: &Outcome) {
+        let Some(complaint) = outcome.answered.complaint() else {
+            return;
+        };
+        if outcome.kept {
+            return files::complain(&complaint);
+        }
+        name_not_done(&self.batch, &outcome.replies);
+        files::complain(&format!("{}: nothing is kept: {complaint}", files::name(&self.file)));
+    }
 }
 
 /// Runs a batch, or a longer row of records as several; gives all replies.
 fn run_batches(pool: &mut Pool, records: &[u8]) -> Result<Vec<u8>, Refusal> {
     // A pool that cannot be used is told before a batch that cannot.
     pool.check()?;
+    let batches = split_batches(records)?;
+    // With each batch the library reads the whole pool.
+    let pool_bytes = 8 * pool.words().len();
+    let work = records.len() + batches.len() * pool_bytes;
+    let mut progress = Progress::of(Some(work as u64));
     let mut replies = Vec::new();
-    for batch in split_batches(records)? {
+    for batch in batches {
         let start = replies.len();
         // The shortest record has 11 bytes, so this is space enough for any batch.
         replies.resize(start + REPLY_BYTES * (batch.len() / 11 + 1), 0);
         let commands = pool.run_bytes(batch, &mut replies[start..])?;
         replies.truncate(start + REPLY_BYTES * commands);
+        progress.add(batch.len() + pool_bytes);
     }
     Ok(replies)
+}
+
+/// Which of its causes it is, and what else the file may be.
+fn bad_batch(file: &OsStr, batch: &[u8], place: u64) -> Failure {
+    let at = usize::try_from(place).ok();
+    match at.and_then(|at| bad_batch::cause_at(batch, at)) {
+        None => of_file(file, Refusal::BadBatch { place }),
+        Some(cause) => match bad_batch::kind_of(batch).filter(|_| place == 0) {
+            Some(kind) => of_file(file, format!("byte 0: {cause}; {kind}")),
+            None => of_file(file, format!("byte {place}: {cause}")),
+        },
+    }
+}
+
+/// What a batch did to a pool in memory.
+struct Outcome {
+    replies: Vec<u8>,
+    answered: Answered,
+    /// Whether it is to be kept.
+    kept: bool,
+    /// Whether it is, and there is something to keep.
+    changed: bool,
+}
+
+impl Outcome {
+    /// The pool's file and folder are on disk after this, changed or not; the lock is free.
+    fn keep(&self, locked: LockedFile, pool: &Pool) -> Result<(), KeepError> {
+        match self.changed {
+            true => locked.replace(&pool.to_bytes()),
+            false => locked.flush(),
+        }
+    }
+
+    /// Writes the replies, or what is written in their place.
+    fn write(&self, bytes: &[u8]) -> Result<(), Failure> {
+        let replies = self.answered.commands();
+        let ran = if self.kept { "the batch ran" } else { "nothing is kept" };
+        files::try_write(bytes).map_err(|error| {
+            malformed(format!(
+                "standard output: {error}; {ran} and the pool is safe, but its {replies} replies \
+                 are lost"
+            ))
+        })
+    }
+
+    /// One line; the pool is the one that the file has now.
+    fn json(&self, pool: &Pool) -> String {
+        let answer = |(answer, count): (Answer, u64)| {
+            let number = answer.number();
+            format!(r#"{{"answer":{number},"text":"{answer}","replies":{count}}}"#)
+        };
+        let answers: Vec<String> = self.answered.answers().map(answer).collect();
+        let (answers, commands) = (answers.join(","), self.answered.commands());
+        let not_done = self.answered.not_done();
+        let done = commands - not_done;
+        let (kept, changed) = (self.kept, self.changed);
+        let (nodes, in_use) = (pool.nodes().unwrap_or(0), pool.nodes_in_use());
+        let free = nodes.saturating_sub(in_use);
+        format!(
+            "{{\"commands\":{commands},\"done\":{done},\"not_done\":{not_done},\
+             \"answers\":[{answers}],\"kept\":{kept},\"changed\":{changed},\
+             \"nodes\":{nodes},\"in_use\":{in_use},\"free\":{free}}}\n"
+        )
+    }
+}
+
+/// A line for each command that was not done, up to twenty.
+fn name_not_done(batch: &[u8], replies: &[u8]) {
+    let replies = replies.chunks(REPLY_BYTES).map_while(Reply::read);
+    let pairs = (1..).zip(Commands::of(batch).flatten().zip(replies));
+    let not_done = pairs.filter(|(_, (_, reply))| !is_done(reply));
+    for (number, (command, reply)) in not_done.take(MOST_NAMED) {
+        files::complain(&format!("command {number}: {command}: {}", reply.answer));
+    }
 }
