@@ -125,8 +125,8 @@ killed leaves the old pool or the new one, whole, and runs at the same time go o
 
   --no-wait   where another run has the lock, fail in place of waiting
   --strict    nothing is kept unless there is a command and each was done: else the exit status is 4
-              and standard error names the commands, up to twenty. The replies are written, to show
-              which were not done; a 'done' among them is then of nothing that is in the pool
+              and standard error names the commands, up to twenty. No reply is written then: a 'done'
+              would be of nothing that is in the pool
   --json      in place of the replies a line of JSON: commands, done, not_done, answers (answer, text
               and replies of each), kept, changed, nodes, in_use, free
 

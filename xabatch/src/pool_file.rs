@@ -53,9 +53,11 @@ pub fn run(arguments: Arguments) -> Result<(), Failure> {
     // After this the lock is free: who reads what is written may be slow.
     outcome.keep(locked, &pool).map_err(|error| not_kept(file, &error))?;
     job.complain_of(&outcome);
-    let written = match job.json {
-        true => outcome.write(outcome.json(&pool).as_bytes()),
-        false => outcome.write(&outcome.replies),
+    let written = match (job.json, outcome.kept) {
+        (true, _) => outcome.write(outcome.json(&pool).as_bytes()),
+        (false, true) => outcome.write(&outcome.replies),
+        // A 'done' would be of nothing that is in the pool.
+        (false, false) => Ok(()),
     };
     match outcome.kept {
         true => written,

@@ -40,7 +40,7 @@ fn what_is_not_done_is_said() {
 #[test]
 fn strict_keeps_all_or_nothing() {
     let (status, replies, errors, is_same) = run(&["--strict"], 1, &fifty_thousand());
-    assert_eq!((status, replies.len(), is_same), (NOT_DONE, 50_000 * 24, true), "{errors}");
+    assert_eq!((status, replies.len(), is_same), (NOT_DONE, 0, true), "{errors}");
     let lines: Vec<&str> = errors.lines().collect();
     assert_eq!(lines.len(), 21, "twenty are named");
     assert_eq!(lines[0], "xabatch: command 65: store 64 order 0 value 64: too few free nodes");
@@ -81,7 +81,7 @@ fn what_counts_as_done() {
     for (command, why) in not_done {
         let text = format!("{stores}{command}");
         let (status, replies, errors, is_same) = run(&["--strict"], 3, &text);
-        assert_eq!((status, replies.len(), is_same), (NOT_DONE, 72, true), "{command}{errors}");
+        assert_eq!((status, replies.len(), is_same), (NOT_DONE, 0, true), "{command}{errors}");
         let line = format!("nothing is kept: 1 of 3 commands were not done: 1 {why}\n");
         assert!(errors.ends_with(&line), "{errors}");
         let (status, replies, errors, is_same) = run(&[], 3, &text);
@@ -108,12 +108,12 @@ fn no_command_is_not_all_done() {
     assert_eq!((status, &*errors), (0, "xabatch: no command: the batch is empty\n"));
 }
 
-/// The status says that nothing is kept, whatever becomes of the replies.
+/// The status says that nothing is kept, whatever becomes of the output.
 #[test]
 fn strict_and_no_place_for_the_replies() {
     let folder = Folder::new();
     let pool = folder.pool(1);
-    let line = format!("\"$X\" run --strict {} > /dev/full", pool.display());
+    let line = format!("\"$X\" run --strict --json {} > /dev/full", pool.display());
     let (status, _, errors) = bash(&line, &batch("store 0 order 0 value 1\nload 1\n"));
     assert_eq!(status, NOT_DONE);
     assert!(errors.contains("nothing is kept: 1 of 2 commands were not done"), "{errors}");
@@ -152,7 +152,7 @@ fn complaints_that_cannot_be_written() {
     };
     for rest in ["2> /dev/full", "2>&-"] {
         assert_eq!(run("", rest, "load 1\n"), (0, 24), "{rest}");
-        assert_eq!(run("--strict", rest, "load 1\n"), (NOT_DONE, 24), "{rest}");
+        assert_eq!(run("--strict", rest, "load 1\n"), (NOT_DONE, 0), "{rest}");
         assert_eq!(run("--strange", rest, "load 1\n"), (2, 0), "{rest}");
         assert_eq!(bash(&format!("\"$X\" {rest}"), &[]).0, 2, "{rest}");
         assert_eq!(bash(&format!("\"$X\" new 3 {} {rest}", pool.display()), &[]).0, 1, "{rest}");
