@@ -2,7 +2,10 @@
 
 use crate::*;
 
+mod done;
+mod file;
 mod list;
+mod nodes;
 mod region;
 mod reserve;
 
@@ -373,7 +376,7 @@ fn finds_one_by_one_go_on_after_a_run_or_at_a_pause() {
         let replies = pool.run(&batch(&[find(from, LAST, FIND_ANY, 3)])).expect("a good batch");
         found.extend(replies[0].entry().map(|entry| entry.base));
         pauses += usize::from(replies[0].paused_at().is_some());
-        first = replies[0].next_first(LAST);
+        first = replies[0].next_first(LAST).expect("found, paused or ended");
     }
     assert_eq!(found, [8, LAST]);
     assert!(pauses > 10, "{pauses}");
@@ -469,7 +472,7 @@ fn any_number_of_commands() {
     let bad = [&row[..], &[9]].concat();
     assert_eq!(split_batches(&bad), Err(Refusal::BadBatch { place: 100_000 }));
     pool.words_mut()[3] = 1;
-    assert_eq!(pool.run_all([]), Err(Refusal::NotWellFormed));
+    assert_eq!(pool.run_all([]).map_err(Refusal::from), Err(Refusal::NotWellFormed));
 }
 
 #[test]
