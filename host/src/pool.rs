@@ -156,8 +156,8 @@ impl<'a> Pool<'a> {
     /// the error has the replies of those that ran.
     ///
     /// ```
-    /// # use xapool_host::{Command, Pool, Word};
-    /// let mut pool = Pool::new(80)?;
+    /// # use xapool_host::{nodes_for, Command, Pool, Word};
+    /// let mut pool = Pool::new(nodes_for(..5000))?;
     /// let stores = (0..5000).map(|index| Command::Store { index, order: 0, word: Word(3) });
     /// let replies = pool.run_all(stores)?;
     /// assert_eq!(replies.all_done()?, 5000);
