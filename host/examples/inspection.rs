@@ -241,3 +241,20 @@ fn main() -> Result<()> {
 fn it_comes_out() {
     main().expect("as planned");
 }
+
+#[test]
+fn one_side_alone_is_no_match() {
+    let side =
+        |marks| vec![Entry { base: 7, order: 0, word: Word(1), marks: xapool_host::Marks(marks) }];
+    let (marked, plain, none) = (side(1 << MATCHED), side(3), Vec::new());
+    assert_eq!(open(&marked, &marked, 7, true), None);
+    for (old, new) in [(&marked, &plain), (&plain, &marked), (&plain, &plain)] {
+        assert!(open(old, new, 7, true).is_some());
+    }
+    for (old, new, reason) in
+        [(&marked, &none, NO_NEW), (&none, &marked, NO_OLD), (&none, &none, NEITHER)]
+    {
+        assert_eq!(open(old, new, 7, true).as_deref(), Some(reason));
+    }
+    assert_eq!(open(&marked, &marked, 8, true).as_deref(), Some(NEITHER));
+}

@@ -10,6 +10,8 @@ use std::fs::{self, File, OpenOptions};
 use std::io::{self, Read, Write};
 use std::path::{Path, PathBuf};
 
+type Flush = fn(&File) -> io::Result<()>;
+
 /// Why a pool was not saved or not loaded.
 #[derive(Debug)]
 #[non_exhaustive]
@@ -86,13 +88,18 @@ impl Pool<'_> {
     /// ```
     #[must_use = "it may not be saved, and a load asks for the digest"]
     pub fn save(&self, path: impl AsRef<Path>) -> Result<Crc32c, FileError> {
+        self.save_with(path.as_ref(), File::sync_all)
+    }
+
+    /// The same, with what flushes a file or a folder to disk.
+    pub(crate) fn save_with(&self, path: &Path, flush: Flush) -> Result<Crc32c, FileError> {
         self.check()?;
         // What is not there yet has no other name.
-        let path = fs::canonicalize(&path).unwrap_or_else(|_| path.as_ref().to_owned());
+        let path = fs::canonicalize(path).unwrap_or_else(|_| path.to_owned());
         let bytes = self.to_bytes();
-        let folder = put_in_place(&path, &bytes)
+        let folder = put_in_place(&path, &bytes, flush)
             .map_err(|error| FileError::Io { path: path.clone(), error })?;
-        folder.sync_all().map_err(|error| FileError::NotFlushed { path, error })?;
+        flush(&folder).map_err(|error| FileError::NotFlushed { path, error })?;
         Ok(Crc32c::of(&bytes))
     }
 }
@@ -122,25 +129,26 @@ fn read_pool(path: &Path) -> io::Result<Option<Vec<u8>>> {
 
 /// Puts a file of these bytes, on disk, under this name; gives the folder, which is still to be flushed.
 /// It is opened before anything is changed: it must not be this that fails afterwards.
-fn put_in_place(path: &Path, bytes: &[u8]) -> io::Result<File> {
+fn put_in_place(path: &Path, bytes: &[u8], flush: Flush) -> io::Result<File> {
     let parent = path.parent().filter(|parent| !parent.as_os_str().is_empty());
     let folder = File::open(parent.unwrap_or(Path::new(".")))?;
     let beside = beside(path)?;
     let mut new = OpenOptions::new().write(true).create_new(true).open(&beside)?;
-    let renamed = write_whole(&mut new, bytes, path).and_then(|()| fs::rename(&beside, path));
+    let renamed = write_whole(&mut new, bytes, path)
+        .and_then(|()| flush(&new))
+        .and_then(|()| fs::rename(&beside, path));
     if renamed.is_err() {
         let _ = fs::remove_file(&beside);
     }
     renamed.map(|()| folder)
 }
 
-/// Writes and flushes a new file, with the permissions of the one that it replaces.
+/// Writes a new file, with the permissions of the one that it replaces.
 fn write_whole(new: &mut File, bytes: &[u8], old: &Path) -> io::Result<()> {
     if let Ok(data) = fs::metadata(old) {
         new.set_permissions(data.permissions())?;
     }
-    new.write_all(bytes)?;
-    new.sync_all()
+    new.write_all(bytes)
 }
 
 /// The name of a new file in the same folder. No other of this process or another has it.

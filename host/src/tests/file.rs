@@ -1,6 +1,7 @@
 //! A pool in a file: what was saved is loaded, or nothing is.
 
 use super::*;
+use std::cell::{Cell, RefCell};
 use std::fs;
 use std::path::{Path, PathBuf};
 
@@ -117,6 +118,65 @@ fn what_stood_there_stands_if_it_cannot_be_saved() {
         assert!(matches!(failed, FileError::Io { .. }), "{failed}");
     }
     assert_eq!(folder.names(), ["p.pool", "taken"]);
+}
+
+/// What a flush saw: whether it was of a folder, the bytes of a file, and what stood under the name.
+type Seen = (bool, u64, Vec<u8>);
+
+thread_local! {
+    static SEEN: RefCell<Vec<Seen>> = const { RefCell::new(Vec::new()) };
+    static SAVED: RefCell<PathBuf> = RefCell::default();
+    /// The flush of this number fails.
+    static FAILS: Cell<usize> = const { Cell::new(usize::MAX) };
+}
+
+fn flush_and_look(file: &fs::File) -> std::io::Result<()> {
+    let data = file.metadata()?;
+    let stands = SAVED.with_borrow(|path| fs::read(path).unwrap_or_default());
+    let bytes = if data.is_dir() { 0 } else { data.len() };
+    SEEN.with_borrow_mut(|seen| seen.push((data.is_dir(), bytes, stands)));
+    let fails = SEEN.with_borrow(|seen| seen.len() > FAILS.get());
+    if fails {
+        Err(std::io::Error::other("no flush"))
+    } else {
+        file.sync_all()
+    }
+}
+
+/// The whole file is flushed while the old one has the name, and the folder when the new one has it; also
+/// where nothing changed. A flush that fails is told.
+#[test]
+fn the_file_is_flushed_before_it_has_the_name_and_the_folder_after() {
+    let folder = Folder::new("flushed");
+    let path = folder.0.join("p.pool");
+    let (old, new) = (three_nodes(), run(4, &[CASE_2]).1);
+    let (before, after) = (old.to_bytes(), new.to_bytes());
+    SAVED.set(path.clone());
+    let save = |pool: &Pool, fails: usize| {
+        FAILS.set(fails);
+        SEEN.take();
+        let saved = pool.save_with(&path, flush_and_look);
+        (saved, SEEN.take())
+    };
+    let length = |bytes: &[u8]| bytes.len() as u64;
+    for pool in [&old, &old] {
+        let stood = fs::read(&path).unwrap_or_default();
+        let (saved, seen) = save(pool, usize::MAX);
+        assert_eq!(seen, [(false, length(&before), stood), (true, 0, before.clone())]);
+        assert!(saved.is_ok());
+    }
+    let (saved, seen) = save(&new, 0);
+    assert!(matches!(saved, Err(FileError::Io { .. })));
+    assert_eq!(seen, [(false, length(&after), before.clone())]);
+    assert_eq!((fs::read(&path).expect("a file"), folder.names()), (before, vec!["p.pool".into()]));
+    let (saved, seen) = save(&new, 1);
+    let failed = saved.expect_err("the folder is not flushed");
+    assert!(matches!(failed, FileError::NotFlushed { .. }));
+    assert!(
+        failed.to_string().ends_with("it is replaced, but a power cut may undo that"),
+        "{failed}"
+    );
+    assert_eq!((seen.len(), fs::read(&path).expect("a file")), (2, after));
 }
 
 #[cfg(unix)]
