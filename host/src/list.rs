@@ -16,10 +16,13 @@ const ALL_MARKS: u8 = 7;
 
 impl Entry {
     /// The entry at the start of the bytes of a list, or the reserved index, which has the word 0, order 0
-    /// and no marks; none if they do not begin with one that a pool can hold.
+    /// and no marks; none if they do not begin with one. [`Listing::read`] looks closer: whether a pool can
+    /// hold it, and after the one before it.
     #[must_use]
     pub fn read_listed(bytes: &[u8]) -> Option<Entry> {
-        read_entry(bytes).filter(|entry| entry.fault().is_none())
+        let entry = read_entry(bytes)?;
+        let whole = !entry.is_reserved() || entry == Entry::reserved(entry.base);
+        (entry.order <= MOST_ORDER && entry.marks.0 <= ALL_MARKS && whole).then_some(entry)
     }
 
     /// Why no pool holds it, by itself.

@@ -29,7 +29,7 @@ pub fn node_count(words: usize) -> Option<usize> {
 /// The nodes that entries of order 0 at every index of the range need in an empty pool, in whatever
 /// order they are stored; also more than a pool can have. Where the range does not begin at 0, the
 /// nodes that lead to it from the head are among them. Of several ranges in one pool, the sum and 10
-/// for each range but one are enough.
+/// for each range but one are enough. Index 0 alone needs none, though a pool has one at least.
 ///
 /// ```
 /// use xapool_host::{nodes_for, MOST_NODES};

@@ -605,6 +605,29 @@ fn a_wrong_count_is_not_well_formed() {
     }
 }
 
+/// Numbers from damaged words are of no place, and none is too large to ask with.
+#[test]
+fn no_node_is_at_no_place() {
+    let (_, pool) = run(4, &[CASE_2, CASE_3]);
+    for number in [4, MOST_NODES, usize::MAX / 70, usize::MAX / 4, usize::MAX - 1024, usize::MAX] {
+        let places = [
+            layout::node_place(number),
+            layout::owner_place(number),
+            layout::count_place(number),
+            layout::mark_place(number, 2),
+            layout::slot_place(number, 63),
+        ];
+        assert!(places.iter().all(|place| pool.words().get(*place).is_none()), "{number}");
+        assert!(layout::slot_place(0, number) >= number);
+        assert_eq!(layout::filled_slots(pool.words(), number), 0);
+        assert_eq!([layout::node_word(number) % 4, layout::sibling_word(number) % 4], [2, 2]);
+    }
+    assert_eq!(
+        [layout::node_word(0), layout::node_word(3), layout::sibling_word(8)],
+        [4098, 4110, 34]
+    );
+}
+
 #[test]
 fn the_length_of_a_pool_is_told() {
     let text = "pool length is not 4 + 70 N words, N from 1 to 16384";
