@@ -384,7 +384,8 @@ static void calls_that_fail(void)
 {
     for (to_fail = 0; to_fail < 4; to_fail++) {
         xapool_job job = job_on(NODES, sizeof bytes, sizeof replies);
-        strcpy(order, "----");
+        memset(order, 0, sizeof order);
+        memset(order, '-', 4);
         uint32_t before = xapool_save(file_name, pool, XAPOOL_WORDS(NODES)).digest;
         CHECK(strcmp(order, "----frf") == 0 && xapool_job_store(&job, 1, 0, 3) && xapool_job_end(&job));
         memset(order, 0, sizeof order);
