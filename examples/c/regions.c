@@ -358,8 +358,10 @@ static void walk_the_plan(const xapool_taken *list)
 {
     size_t matched = 0, different = 0;
     for (uint64_t r = 0; r < REGIONS; r++) {
-        matched += has_mark(list, region(r), MATCHED);
-        different += has_mark(list, region(r), DIFFERENT);
+        if (has_mark(list, region(r), MATCHED))
+            matched++;
+        if (has_mark(list, region(r), DIFFERENT))
+            different++;
     }
     printf("%zu of %d regions matched, %zu different, %zu not read: %s\n", matched, REGIONS, different,
            REGIONS - matched - different, matched == REGIONS ? "to be signed" : "not to be signed");
