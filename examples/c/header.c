@@ -136,6 +136,10 @@ static void listed_entries_are_read_or_not(void)
         not_listed(bytes, 21, 0);
         bytes[wrong[i][0]] = old;
     }
+    /* Marks alone match nothing. */
+    static const xapool_listed bare[] = { { 0, 7, 1, 0 }, { 0, 7, 1, XAPOOL_NO_ENTRY }, { 0, 7, 1, XAPOOL_RESERVED_WORD } };
+    for (unsigned i = 0; i < 3; i++)
+        CHECK(!xapool_is_matched(&bare[i]));
     /* Entry 0 is a reserved index: of order 0, without marks. */
     bytes[18] = bytes[19] = 0;
     not_listed(bytes, 21, 0);

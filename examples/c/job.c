@@ -122,6 +122,11 @@ static void a_refused_call_is_not_lost(void)
     pool[3] = 0;
     CHECK(!xapool_job_store(&job, 6, 0, 3) && !xapool_job_flush(&job) && !xapool_job_end(&job));
     CHECK(job.ran == 2 && job.not_done == 0 && entries_of(pool, NODES) == 2);
+    /* Nor is anything put after it, where there is room in the batch. */
+    job = job_on(NODES, sizeof bytes, sizeof replies);
+    job.pool_words--;
+    CHECK(xapool_job_store(&job, 1, 0, 3) && !xapool_job_flush(&job) && !xapool_job_store(&job, 2, 0, 3));
+    CHECK(job.batch.commands == 1 && job.refusal.answer == XAPOOL_POOL_LENGTH && !xapool_job_end(&job));
 }
 
 /* No command is no success: and a job that nobody put anything into does not end well. */

@@ -290,12 +290,16 @@ static int signs(const run *plan, size_t runs, uint64_t on_old, uint64_t on_new)
 static void signature(void)
 {
     static const run plan[] = { { 0, 99 }, { 4096, 4096 } }, more[] = { { 0, 100 }, { 4096, 4096 } };
-    static const run crooked[] = { { 4096, 4096 }, { 0, 99 } }, swapped[] = { { 99, 0 }, { 4096, 4096 } };
+    static const run crooked[] = { { 4096, 4096 }, { 0, 99 } }, swapped[] = { { 0, 99 }, { 4096, 4096 }, { 1, 0 } };
     CHECK(signs(plan, 2, 200, 200));
     CHECK(!signs(plan, 2, 64, 200) && !signs(plan, 2, 200, 0) && !signs(plan, 2, 4096, 4096));
     CHECK(!signs(more, 2, 200, 200)); /* 100 is nowhere */
     CHECK(!signs(plan, 1, 200, 200)); /* 4096 is not planned */
-    CHECK(!signs(plan, 0, 200, 200) && !signs(crooked, 2, 200, 200) && !signs(swapped, 2, 200, 200));
+    CHECK(!signs(plan, 0, 200, 200) && !signs(crooked, 2, 200, 200) && !signs(swapped, 3, 200, 200));
+    /* Nothing planned, and nothing on either side. */
+    static uint8_t none[1];
+    xapool_taken empty = { none, 0, 0, XAPOOL_NO_TROUBLE, { XAPOOL_DONE, 0 } };
+    CHECK(!may_sign(plan, 0, &empty, &empty) && !may_sign(plan, 2, &empty, &empty));
 }
 
 static void whole_batches(void)

@@ -11,7 +11,7 @@
 #define ENTRIES (2 * REGIONS) /* a region is split into two at most */
 #define LANES (XAPOOL_BATCH_BYTES / XAPOOL_FIND_BYTES)
 
-enum { REVIEW, DIFFERENT, MATCHED };
+enum { REVIEW, DIFFERENT, MATCHED = XAPOOL_MATCHED_MARK };
 
 typedef struct pool {
     uint64_t *words;
