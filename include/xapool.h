@@ -120,8 +120,9 @@ static inline uint64_t xapool_value(uint64_t v)
  * 0 to 4 are the answer of a call, and of xapool_list also 8. All but 0 refuse it: nothing ran, and
  * pool, reply and list bytes are as they were, so the reply bytes may still hold the replies to an
  * earlier batch, which read as done: look at the call's answer first. 0 and 5 to 15 are the answer in
- * one command's reply; whatever it is, the next command runs, on a pool without what was refused. Where several apply, the lowest is given, but 14 before 6,
- * 15 before 11, and a list is refused with 8 before it is with 4. */
+ * one command's reply; whatever it is, the next command runs, on a pool without what was refused. Where
+ * several apply, the lowest is given, but 14 before 6, 15 before 11, and a list is refused with 8 before
+ * it is with 4. */
 enum xapool_answer {
     XAPOOL_DONE = 0,             /* call: done, number: commands run, or entries listed. reply: done */
     XAPOOL_POOL_LENGTH = 1,      /* pool_words is not XAPOOL_WORDS(N) with N from 1 to XAPOOL_MAX_NODES; number 0 */
@@ -264,9 +265,10 @@ xapool_result xapool_count(const uint8_t *batch, size_t batch_bytes);
 
 /* Lists every entry that covers an index of first to last, both included, and every reserved index
  * among them, in index order and each once; an entry that begins before first or ends after last is
- * listed whole. It checks the pool first and only reads it. With answer 0 the first 21 * number bytes of buffer hold the list; bytes past
- * them stay as they were. Gives 0, or 1, 2, 8, 4 in this order, and then no byte is written: with no
- * buffer (NULL, 0) and answer 4 the number says how many entries there are to make room for. */
+ * listed whole. It checks the pool first and only reads it. With answer 0 the first 21 * number bytes of
+ * buffer hold the list; bytes past them stay as they were. Gives 0, or 1, 2, 8, 4 in this order, and then
+ * no byte is written: with no buffer (NULL, 0) and answer 4 the number says how many entries there are
+ * to make room for. */
 XAPOOL_MUST_USE
 xapool_result xapool_list(const uint64_t *pool, size_t pool_words,
                           uint64_t first, uint64_t last,
@@ -559,7 +561,7 @@ static inline uint64_t xapool_last_index(uint64_t base, uint8_t order)
 }
 
 /* Whether the bytes are a list, looked at as a whole: 0 and the number of its entries, or 3 and the place
- * of the first byte of the first record that no pool can give: it is cut, has another tag or length, an
+ * where the first record begins that no pool can give: it is cut, has another tag or length, an
  * order above 63, a base that is no multiple of 2^order, a word that cannot be stored, marks above 7,
  * is reserved with an order or marks, or begins before the record before it ends (unsorted, doubled,
  * overlapping). A list of no bytes is a list, of nothing. That a list is whole it cannot say. */

@@ -101,6 +101,13 @@ static void replies_are_read_or_not(void)
     CHECK(xapool_read_reply(bytes, 24, 0, &r) && r.tag == XAPOOL_RESERVE && r.answer == XAPOOL_COVERED);
 }
 
+static void marks_alone_match_nothing(void)
+{
+    static const xapool_listed bare[] = { { 0, 7, 1, 0 }, { 0, 7, 1, XAPOOL_NO_ENTRY }, { 0, 7, 1, XAPOOL_RESERVED_WORD } };
+    for (unsigned i = 0; i < 3; i++)
+        CHECK(!xapool_is_matched(&bare[i]));
+}
+
 /* What is left where nothing was listed is no entry, not reserved and not matched. */
 static void not_listed(const uint8_t *bytes, size_t count, size_t number)
 {
@@ -136,10 +143,6 @@ static void listed_entries_are_read_or_not(void)
         not_listed(bytes, 21, 0);
         bytes[wrong[i][0]] = old;
     }
-    /* Marks alone match nothing. */
-    static const xapool_listed bare[] = { { 0, 7, 1, 0 }, { 0, 7, 1, XAPOOL_NO_ENTRY }, { 0, 7, 1, XAPOOL_RESERVED_WORD } };
-    for (unsigned i = 0; i < 3; i++)
-        CHECK(!xapool_is_matched(&bare[i]));
     /* Entry 0 is a reserved index: of order 0, without marks. */
     bytes[18] = bytes[19] = 0;
     not_listed(bytes, 21, 0);
@@ -477,6 +480,7 @@ int main(void)
     records_are_those_of_the_document();
     replies_are_read_or_not();
     listed_entries_are_read_or_not();
+    marks_alone_match_nothing();
     lists_are_looked_at_as_a_whole();
     values_are_not_cut();
     fields_are_not_cut();
