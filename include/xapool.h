@@ -15,6 +15,8 @@
  *            of other libraries it needs memset alone. It never allocates.
  * Alignment  a pool begins at a multiple of 8, as any array of uint64_t does. Batch, reply, list and
  *            regions may begin anywhere.
+ * Memory     all that is lent must have been written before, the space for replies and lists too: static,
+ *            calloc, or = { 0 }.
  * NULL       with length 0 any pointer may be NULL: an empty batch, no reply space, no space for a
  *            list and empty regions are fine, a pool of no words is refused with 1.
  * Stack      a call needs less than 8 KiB of it, whatever the pool holds; xapool_crc32c and
@@ -164,8 +166,8 @@ enum xapool_answer {
  *   more covers them, that entry takes the word and keeps marks 0 and 1. Mark 2 ('matched') is clear
  *   after every store, also of the same word.
  * erase, mark, unmark: the whole entry that covers index. An erase also ends a reservation. A mark on
- *   a run is the whole run's: where one index of it was compared, the others were not, and every one of
- *   them loads with the mark.
+ *   a run is the whole run's, and every index of it loads with it: before mark 2 is set, all of the run
+ *   must have been compared.
  * find: the first entry that meets first..last, in index order; filter 0, 1, 2: with that mark,
  *   3: any. It goes at most budget steps. Paused (13) is not ended (12): what comes after was not looked
  *   at. And ended says that there is no entry with the mark, not that there is one without it: an index
@@ -314,9 +316,10 @@ xapool_comparison xapool_compare(const uint8_t *old_region, size_t old_bytes,
  *     xapool_result r = xapool_run(pool, XAPOOL_WORDS(40), batch.bytes, batch.used, reply, sizeof reply);
  *
  * Each xapool_put gives 1, or 0 if there is no room: then the batch is as it was. Run it, set used
- * and commands to 0, and put the same command again (xapool_job.h does that). What does not fit its
- * field is put as the largest number of the field, never cut: an order above 255 is refused with 5, a
- * mark or a filter with 7; a budget above 65,535 is 65,535, so that the find pauses earlier. */
+ * and commands to 0, and put the same command again (xapool_job.h does that). A number that does not
+ * fit its field is put as the largest that does, never cut: order 259 as 255, which a store refuses with
+ * 5, mark 258 or filter 259 as 255, refused with 7. A budget above 65,535 is 65,535: the find may pause
+ * earlier. */
 
 typedef struct xapool_batch {
     uint8_t *bytes;

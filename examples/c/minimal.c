@@ -10,8 +10,8 @@ int main(void)
         return 1;
     xapool_result r = xapool_run(pool, XAPOOL_WORDS(40), bytes, batch.used, replies, sizeof replies);
     xapool_reply store, load;
-    if (r.answer != XAPOOL_DONE || !xapool_read_reply(replies, sizeof replies, 0, &store) ||
-        store.answer != XAPOOL_DONE || !xapool_read_reply(replies, sizeof replies, 1, &load))
+    if (r.answer != XAPOOL_DONE || !xapool_read_reply(replies, XAPOOL_REPLIES(r.number), 0, &store) ||
+        store.answer != XAPOOL_DONE || !xapool_read_reply(replies, XAPOOL_REPLIES(r.number), 1, &load))
         return 1;
     printf("%s: value %d at %d, order %d\n", xapool_answer_text(load.answer), (int)XAPOOL_VALUE_OF(load.entry),
            (int)load.index, load.order);
