@@ -252,22 +252,22 @@ static inline int xapool_job_end(xapool_job *job)
     return job->not_done == 0;
 }
 
-/* How a job stands, in one or two lines: what ran, the first command that was not done, why it stopped. */
+/* How a job stands, in one to three lines: what ran, the first command that was not done, why it stopped. */
 static inline void xapool_job_print(const xapool_job *job, FILE *to)
 {
-    fprintf(to, "%" PRIu64 " commands ran in %" PRIu64 " batches, %" PRIu64 " not done\n", job->ran, job->batches,
+    fprintf(to, "commands that ran: %" PRIu64 ", batches: %" PRIu64 ", not done: %" PRIu64 "\n", job->ran, job->batches,
             job->not_done);
     if (job->not_done > 0)
         fprintf(to, "the first not done: command %" PRIu64 ", batch %" PRIu64 ", place %" PRIu64 ": %s\n", job->command,
                 job->number, job->place, xapool_answer_text(job->reply.answer));
     if (job->trouble == XAPOOL_CALL_REFUSED)
-        fprintf(to, "stopped: %s: %s, number %" PRIu64 "; %zu commands of that batch did not run\n",
+        fprintf(to, "stopped: %s: %s, number %" PRIu64 "; commands of that batch, which did not run: %zu\n",
                 xapool_trouble_text(job->trouble), xapool_answer_text(job->refusal.answer), job->refusal.number,
                 job->batch.commands);
     else if (job->trouble != XAPOOL_NO_TROUBLE)
         fprintf(to, "stopped: %s\n", xapool_trouble_text(job->trouble));
     else if (job->batch.commands > 0)
-        fprintf(to, "%zu commands were put and have not run\n", job->batch.commands);
+        fprintf(to, "commands that were put and have not run: %zu\n", job->batch.commands);
 }
 
 /* ---- Walks ----
@@ -402,8 +402,8 @@ static inline xapool_taken xapool_take(const uint64_t *pool, size_t pool_words, 
 /* The nodes that entries of order 0 at every index of first to last need in an empty pool. One for each block of
  * 64 indices, of 64^2, .. that meets the range, up to the head, which reaches from index 0 to last: so a range
  * that begins far away has a chain above it. Index 0 alone needs none, but a pool has at least 1; more than
- * XAPOOL_MAX_NODES no pool has. Of first above last it is UINT64_MAX. The nodes of two ranges are not the sum of
- * both where one is far from the other: add 10 for each range. */
+ * XAPOOL_MAX_NODES no pool has. Of first above last it is UINT64_MAX. For several ranges in one pool the sum and 10
+ * more is enough: each may need a longer chain than by itself, but beyond their own these are the same nodes. */
 XAPOOL_MUST_USE
 static inline uint64_t xapool_nodes_for(uint64_t first, uint64_t last)
 {

@@ -59,5 +59,5 @@ int main(void)
     list = evidence(0, UINT64_MAX);
     same = same && list.size == XAPOOL_LISTING(3);
     free(list.bytes);
-    return !same;
+    return !same || fflush(stdout) != 0 || ferror(stdout);
 }

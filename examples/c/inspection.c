@@ -348,5 +348,7 @@ int main(void)
     pass();
     if (!account("second"))
         fail("not matched after the repair");
+    if (fflush(stdout) != 0 || ferror(stdout))
+        fail("the account could not be written");
     return 0;
 }

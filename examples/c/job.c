@@ -185,10 +185,10 @@ static void a_job_is_told(void)
     xapool_job_print(&job, file);
     rewind(file);
     CHECK(fread(text, 1, sizeof text - 1, file) > 0 && fclose(file) == 0);
-    CHECK(strcmp(text, "2 commands ran in 1 batches, 1 not done\n"
+    CHECK(strcmp(text, "commands that ran: 2, batches: 1, not done: 1\n"
                        "the first not done: command 1, batch 0, place 20: too few free nodes\n"
                        "stopped: a call was refused: pool is not well-formed, number 0; "
-                       "1 commands of that batch did not run\n") == 0);
+                       "commands of that batch, which did not run: 1\n") == 0);
     for (unsigned t = XAPOOL_NO_TROUBLE; t <= XAPOOL_FILE_DIGEST; t++)
         CHECK(strcmp(xapool_trouble_text(t), xapool_trouble_text(99)) != 0);
 }
@@ -217,6 +217,17 @@ static void stores(uint64_t first, uint64_t last, size_t nodes, int enough)
         going = xapool_job_store(&job, i, 0, 3);
     CHECK(going && xapool_job_end(&job) == enough && job.trouble == XAPOOL_NO_TROUBLE);
     CHECK(enough || job.reply.answer == XAPOOL_TOO_FEW_NODES);
+}
+
+/* Of several ranges the sum and 10 more is enough; for the first and the last index all of it is needed (R111). */
+static void nodes_of_two_ranges(void)
+{
+    size_t nodes = xapool_nodes_for(0, 0) + xapool_nodes_for(UINT64_MAX, UINT64_MAX) + 10;
+    for (size_t less = 0; less < 2; less++) {
+        xapool_job job = job_on(nodes - less, sizeof bytes, sizeof replies);
+        CHECK(xapool_job_store(&job, 0, 0, 3) && xapool_job_store(&job, UINT64_MAX, 0, 3));
+        CHECK(xapool_job_end(&job) == !less && job.not_done == less);
+    }
 }
 
 static void nodes_of_a_range_hold_it(void)
@@ -425,6 +436,7 @@ int main(void)
     a_job_is_told();
     nodes_of_a_range();
     nodes_of_a_range_hold_it();
+    nodes_of_two_ranges();
     a_pause_is_never_the_end();
     trouble_is_not_the_end();
     a_list_has_its_memory();

@@ -381,5 +381,7 @@ int main(void)
     free(list.bytes);
     free(p.words);
     puts("every region is accounted for");
+    if (fflush(stdout) != 0 || ferror(stdout))
+        fail("the account could not be written");
     return 0;
 }
