@@ -1,9 +1,11 @@
 /* The helpers of xapool_job.h, tried. Compiled as C99 and as C++. Calls of the system that put a file on disk go
  * through here: their order is kept, and one of them can be made to fail. */
-#define _POSIX_C_SOURCE 200809L
+#define _XOPEN_SOURCE 700
 #include <errno.h>
+#include <signal.h>
 #include <stdio.h>
 #include <string.h>
+#include <sys/resource.h>
 #include <unistd.h>
 
 static char order[32]; /* f: fsync, r: rename */
@@ -414,6 +416,22 @@ static void calls_that_fail(void)
     }
 }
 
+/* A file that cannot be written whole: the old one is there, and no other. */
+static void a_disk_that_is_full(void)
+{
+    struct rlimit before, small;
+    fill_for_a_walk();
+    uint32_t digest = xapool_save(file_name, pool, XAPOOL_WORDS(NODES)).digest;
+    CHECK(signal(SIGXFSZ, SIG_IGN) != SIG_ERR && getrlimit(RLIMIT_FSIZE, &before) == 0);
+    small = before;
+    small.rlim_cur = 8 * XAPOOL_WORDS(NODES) - 1;
+    CHECK(setrlimit(RLIMIT_FSIZE, &small) == 0);
+    not_saved(file_name, XAPOOL_SYSTEM, EFBIG);
+    CHECK(setrlimit(RLIMIT_FSIZE, &before) == 0);
+    CHECK(xapool_load(file_name, other, XAPOOL_WORDS(NODES), digest).trouble == XAPOOL_NO_TROUBLE);
+    CHECK(unlink(file_name) == 0);
+}
+
 static void files(void)
 {
     CHECK(mkdtemp(folder) != NULL);
@@ -422,6 +440,7 @@ static void files(void)
     saved_and_loaded();
     saves_that_fail();
     calls_that_fail();
+    a_disk_that_is_full();
     CHECK(chdir("/") == 0 && rmdir(folder) == 0); /* nothing was left in it */
 }
 
