@@ -414,12 +414,13 @@ static void calls_that_fail(void)
         CHECK(xapool_load(file_name, other, XAPOOL_WORDS(NODES), there).trouble == XAPOOL_NO_TROUBLE);
         CHECK(unlink(file_name) == 0 && rmdir(folder) == 0 && mkdir(folder, 0700) == 0);
     }
+    to_fail = 99;
 }
 
 /* A file that cannot be written whole: the old one is there, and no other. */
 static void a_disk_that_is_full(void)
 {
-    struct rlimit before, small;
+    struct rlimit before = { 0, 0 }, small;
     fill_for_a_walk();
     uint32_t digest = xapool_save(file_name, pool, XAPOOL_WORDS(NODES)).digest;
     CHECK(signal(SIGXFSZ, SIG_IGN) != SIG_ERR && getrlimit(RLIMIT_FSIZE, &before) == 0);
