@@ -30,8 +30,20 @@ static int tried_rename(const char *from, const char *to)
     return fails('r') ? -1 : rename(from, to);
 }
 
+static int a_write_fails; /* the next, and that one alone */
+
+static size_t tried_fwrite(const void *memory, size_t size, size_t count, FILE *file)
+{
+    if (!a_write_fails)
+        return fwrite(memory, size, count, file);
+    a_write_fails = 0;
+    errno = EIO;
+    return 0;
+}
+
 #define fsync tried_fsync
 #define rename tried_rename
+#define fwrite tried_fwrite
 #include "xapool_job.h"
 
 static int failures = 0;
@@ -429,6 +441,8 @@ static void a_disk_that_is_full(void)
     CHECK(setrlimit(RLIMIT_FSIZE, &small) == 0);
     not_saved(file_name, XAPOOL_SYSTEM, EFBIG);
     CHECK(setrlimit(RLIMIT_FSIZE, &before) == 0);
+    a_write_fails = 1;
+    not_saved(file_name, XAPOOL_SYSTEM, EIO);
     CHECK(xapool_load(file_name, other, XAPOOL_WORDS(NODES), digest).trouble == XAPOOL_NO_TROUBLE);
     CHECK(unlink(file_name) == 0);
 }
