@@ -59,24 +59,35 @@ fn said(folder: &Folder, command: &str) -> String {
     String::from_utf8(output_of(&mut bash, &[]).stdout).expect("text")
 }
 
-#[test]
-fn what_the_host_page_shows_happens() {
+/// Runs every `console` block of a page, which has at least so many commands.
+fn runs(name: &str, least: usize) {
     let folder = folder();
     let mut count = 0;
-    for block in blocks(&page("docs/HOST.md"), "console") {
+    for block in blocks(&page(name), "console") {
         for (command, text) in steps(&block) {
             assert_eq!(said(&folder, &command), text, "$ {command}");
             count += 1;
         }
     }
-    assert!(count >= 15, "{count} commands");
+    assert!(count >= least, "{name}: {count} commands");
+}
+
+#[test]
+fn what_the_host_page_shows_happens() {
+    runs("docs/HOST.md", 15);
+}
+
+#[test]
+fn what_the_first_page_shows_happens() {
+    runs("README.md", 4);
 }
 
 #[test]
 fn the_c_program_of_the_pages_is_the_example() {
     let minimal = page("examples/c/minimal.c");
     for name in ["README.md", "docs/HOST.md"] {
-        assert_eq!(blocks(&page(name), "c"), [minimal.as_str()], "{name}");
+        // The C of the recipes is held by examples/c/check.
+        assert_eq!(blocks(&page(name), "c").first(), Some(&minimal), "{name}");
     }
 }
 
