@@ -24,6 +24,9 @@ pub struct Source {
     before: Metadata,
     /// The bytes that it must have, where that is known before they are read.
     length: Option<u64>,
+    /// Whether there is no data in it at all, but holes. What is read of a hole may count as data
+    /// afterwards, so this is asked before.
+    holes_alone: bool,
     read: u64,
 }
 
@@ -79,12 +82,23 @@ impl Source {
                 return Err(io::Error::other("it is closed"));
             }
             let file = File::from(io::stdin().as_fd().try_clone_to_owned()?);
-            return Ok(Source { before: look(&file)?, file, name: None, length: None, read: 0 });
+            return Source::of(None, None, look(&file)?, file);
         }
         let mut file = File::open(name)?;
         let before = look(&file)?;
         let length = length(&mut file, &before)?;
-        Ok(Source { file, name: Some(name.to_owned()), before, length, read: 0 })
+        Source::of(Some(name.to_owned()), length, before, file)
+    }
+
+    fn of(
+        name: Option<OsString>,
+        length: Option<u64>,
+        before: Metadata,
+        mut file: File,
+    ) -> io::Result<Source> {
+        let has_bytes = before.is_file() && before.len() > 0;
+        let holes_alone = has_bytes && (before.blocks() == 0 || is_holes_alone(&mut file)?);
+        Ok(Source { file, name, before, length, holes_alone, read: 0 })
     }
 
     /// The bytes that it has, where that is known.
@@ -101,10 +115,9 @@ impl Source {
         one_file || is_device && one_device
     }
 
-    /// Whether there is no data in it at all, but holes. To be asked when all was read.
+    /// Whether there is no data in it at all, but holes.
     pub fn is_holes_alone(&self) -> bool {
-        let file = self.before.is_file() && self.before.len() > 0;
-        file && (self.before.blocks() == 0 || os::is_holes_alone(&self.file))
+        self.holes_alone
     }
 
     /// Fills the piece, or as much of it as there is left; gives how many bytes. What comes through a
@@ -159,6 +172,14 @@ fn is_as_before(before: &Metadata, after: &Metadata) -> bool {
 
 fn changed() -> io::Error {
     io::Error::other("it changed while it was read: what it holds is not known")
+}
+
+/// Leaves the file where it stood.
+fn is_holes_alone(file: &mut File) -> io::Result<bool> {
+    let place = file.stream_position()?;
+    let alone = os::is_holes_alone(file);
+    file.seek(SeekFrom::Start(place))?;
+    Ok(alone)
 }
 
 /// What is known of a file that is flushed and was left alone for a tick.

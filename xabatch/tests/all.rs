@@ -47,9 +47,10 @@ fn random_pool(seed: u64) -> Pool<'static> {
 fn batch_to_text_and_back() {
     for seed in 0..500 {
         let batch = random_batch(seed, 60);
-        let decoded = decode::decode(batch.bytes());
-        assert_eq!((decoded.lines.len(), decoded.bad), (60, None));
-        let again = text::batch_of(&decoded.lines.join("\n")).expect("its own text");
+        let (items, bad) = decode::decode(batch.bytes());
+        assert_eq!((items.len(), bad), (60, None));
+        let lines: Vec<String> = items.iter().map(|item| item.to_string()).collect();
+        let again = text::batch_of(&lines.join("\n")).expect("its own text");
         assert_eq!(again, batch, "seed {seed}");
     }
 }
@@ -89,7 +90,9 @@ fn errors_have_their_place() {
         ("é load", 1, 1, "unknown"),
     ];
     for (input, line, column, message) in cases {
-        let error = text::batch_of(input).expect_err(input);
+        let errors = text::batch_of(input).expect_err(input);
+        assert_eq!((errors.first.len(), errors.more), (1, 0), "{input}: {errors:?}");
+        let error = &errors.first[0];
         assert_eq!((error.line, error.column), (line, column), "{input}: {error}");
         assert!(error.message.contains(message), "{input}: {error}");
     }
@@ -97,8 +100,12 @@ fn errors_have_their_place() {
 
 #[test]
 fn a_text_too_long_for_a_batch() {
-    let error = text::batch_of(&"load 1\n".repeat(2979)).expect_err("too long");
-    assert_eq!((error.line, error.column), (2979, 1));
+    // What comes after has no room either, and that is one error.
+    for lines in [2979, 4000] {
+        let errors = text::batch_of(&"load 1\n".repeat(lines)).expect_err("too long");
+        let places: Vec<_> = errors.first.iter().map(|error| (error.line, error.column)).collect();
+        assert_eq!((places, errors.more), (vec![(2979, 1)], 0));
+    }
 }
 
 /// Findings there are exactly where the library's check says no.
