@@ -66,7 +66,7 @@ fn begins_a_pool(start: &[u8]) -> bool {
 
 fn is_text(start: &[u8]) -> bool {
     let plain = |byte: &u8| byte.is_ascii_graphic() || byte.is_ascii_whitespace();
-    !start.is_empty() && start.iter().all(plain)
+    start.iter().any(u8::is_ascii_graphic) && start.iter().all(plain)
 }
 
 /// Looks at a file as it goes by in pieces, and tells at the end whether it is a pool, by the library's
