@@ -115,6 +115,20 @@ fn tells_mappings(folder: &Path) -> bool {
     kind.is_ok_and(|kind| kind.status.success() && !kind.stdout.starts_with(b"tmpfs"))
 }
 
+/// A change that comes within the same tick of the kernel's clock as the one before has its time, so a file
+/// is not read before its last change is older than a tick, 10 ms at most.
+#[test]
+fn a_file_just_written_is_left_alone_for_a_tick() {
+    let folder = Folder::new();
+    let old = file(&folder, "old", &[7; 64]);
+    for attempt in 0..5 {
+        let new = file(&folder, &format!("new{attempt}"), &[7; 64]);
+        let written = fs::metadata(&new).and_then(|data| data.modified()).expect("a time");
+        assert_eq!(tool(&["compare", &old, &new], &[]).0, 0);
+        assert!(written.elapsed().expect("past").as_millis() > 10);
+    }
+}
+
 extern "C" {
     fn mmap(at: usize, length: usize, may: i32, how: i32, file: i32, from: i64) -> *mut u8;
 }

@@ -107,11 +107,14 @@ fn listed(base: u64, order: u8, word: u64, marks: u8) -> Vec<u8> {
     [&[32, 0, 18][..], &base, &[order], &word, &[marks]].concat()
 }
 
+/// Base, order, word and marks.
+type Listed = (u64, u8, u64, u8);
+
 #[test]
 fn a_list_that_no_pool_gives_is_refused() {
     const TOP: u64 = 1 << 63;
     // By R6, R7, R8, R143 and R200.
-    let good: [&[(u64, u8, u64, u8)]; 5] = [
+    let good: [&[Listed]; 5] = [
         &[(0, 0, 3, 7), (1, 0, 4, 0), (2, 1, 5, 1), (4, 0, 0, 0), (64, 6, 7, 2), (128, 0, 0, 0)],
         &[(TOP, 63, 9, 0)],
         &[(0, 63, 9, 0), (TOP, 63, u64::MAX, 0)],
@@ -125,7 +128,7 @@ fn a_list_that_no_pool_gives_is_refused() {
         assert_eq!(String::from_utf8(out).expect("text").lines().count(), entries.len());
     }
     // The last entry is the bad one.
-    let bad: [(&[(u64, u8, u64, u8)], &str); 19] = [
+    let bad: [(&[Listed], &str); 19] = [
         (&[(64, 0, 3, 0), (0, 0, 3, 0)], "index 0 comes after 64"),
         (&[(0, 0, 3, 0), (64, 0, 3, 0), (63, 0, 3, 0)], "index 63 comes after 64"),
         (&[(64, 0, 0, 0), (0, 0, 0, 0)], "index 0 comes after 64"),
