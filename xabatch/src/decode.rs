@@ -67,7 +67,7 @@ impl fmt::Display for Cause {
             Cause::Cut { is, of } => {
                 write!(f, "the record is cut: {is} of its {of} bytes are there")
             }
-            Cause::UnknownTag(tag) => write!(f, "unknown tag: no record begins with {tag}"),
+            Cause::UnknownTag(tag) => write!(f, "unknown tag {tag}"),
             Cause::WrongLength { tag, is, expected } => {
                 write!(f, "wrong length: {is}, of tag {tag} it is {expected}")
             }
@@ -119,6 +119,16 @@ fn wrong_field(tag: u8, bytes: &[u8]) -> String {
         (LISTED_TAG, _, _) => "a reserved index with an order or marks".into(),
         (REFUSED_TAG, _, _) => format!("answer {answer} refuses no call"),
         _ => format!("answer {answer} is that of no command"),
+    }
+}
+
+/// The command at the start of the bytes of a batch, and its size; or why a run refuses the batch there.
+pub fn command_at(bytes: &[u8]) -> Result<(Command, usize), Cause> {
+    let tag = bytes.first().copied().unwrap_or(0);
+    match (Command::read(bytes), Tag::from_byte(tag)) {
+        (Some(command), _) => Ok((command, command.tag().record_bytes())),
+        (None, Some(_)) => Err(cause_of(bytes)),
+        (None, None) => Err(Cause::UnknownTag(tag)),
     }
 }
 

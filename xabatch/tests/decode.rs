@@ -170,10 +170,10 @@ fn the_cause_of_a_bad_record_is_told() {
         (load[..1].to_vec(), "byte 0: the record is cut: 1 of its 11 bytes are there"),
         ([&load[..], &[6, 0]].concat(), "byte 11: the record is cut: 2 of its 22 bytes are there"),
         ([&load[..], &[6, 0, 19]].concat(), "byte 11: the record is cut: 3 of its 22 bytes"),
-        ([&load[..], &[0]].concat(), "byte 11: unknown tag: no record begins with 0"),
-        ([&load[..], &[8, 0, 8]].concat(), "byte 11: unknown tag: no record begins with 8"),
-        (vec![128; 24], "byte 0: unknown tag: no record begins with 128"),
-        (vec![136; 24], "byte 0: unknown tag: no record begins with 136"),
+        ([&load[..], &[0]].concat(), "byte 11: unknown tag 0"),
+        ([&load[..], &[8, 0, 8]].concat(), "byte 11: unknown tag 8"),
+        (vec![128; 24], "byte 0: unknown tag 128"),
+        (vec![136; 24], "byte 0: unknown tag 136"),
         (vec![2, 0, 9, 0, 0, 0, 0, 0, 0, 0, 0, 0], "byte 0: wrong length: 9, of tag 2 it is 8"),
         (vec![1, 1, 17, 0, 0, 0, 0, 0, 0, 0, 0], "byte 0: wrong length: 273, of tag 1 it is 17"),
         ([&good[..], &good[..23]].concat(), "byte 24: the record is cut: 23 of its 24 bytes"),
@@ -197,7 +197,7 @@ fn the_cause_of_a_refused_call_is_told() {
     let refused = |place: u8| [255, 0, 3, 3, 0, place];
     let cases: [(&[u8], &str); 3] = [
         (&load[..5], "batch: byte 11: the record is cut: 5 of its 11 bytes are there"),
-        (&[77, 0], "batch: byte 11: unknown tag: no record begins with 77"),
+        (&[77, 0], "batch: byte 11: unknown tag 77"),
         (&[2, 0, 7, 0], "batch: byte 11: wrong length: 7, of tag 2 it is 8"),
     ];
     for (more, what) in cases {
@@ -206,6 +206,13 @@ fn the_cause_of_a_refused_call_is_told() {
         assert!(status == 1 && errors.contains(what), "{errors}");
         assert!(out.starts_with(b"refused: "));
     }
+    // Replies have tags too, but not in a batch.
+    fs::write(&name, [&load[..], &reply(LOAD, 0)].concat()).expect("written");
+    let (_, _, errors) = tool(&["decode", "--batch", &name], &refused(11));
+    assert!(errors.contains("batch: byte 11: unknown tag 130"), "{errors}");
+    fs::write(&name, reply(LOAD, 0)).expect("written");
+    let (_, _, errors) = tool(&["decode", "--batch", &name], &reply(LOAD, 0));
+    assert!(errors.contains("batch: not what is read here: it looks like replies"), "{errors}");
     let (status, _, errors) = tool(&["decode"], &refused(11));
     assert_eq!((status, errors.contains("byte 11 of the batch: a record is cut")), (1, true));
     let (status, _, errors) = tool(&["decode"], &[255, 0, 3, 3, 0x20, 0]);
@@ -226,9 +233,9 @@ fn a_file_of_another_kind_is_named() {
     let (commands, list) = (batch("load 1\n"), listed(64, 0, 5, 0));
     let done = replies(&[(LOAD, 0); 40]);
     let cases: [(&str, &[u8], &str); 11] = [
-        ("decode", &pool, "no records: it looks like a pool file"),
-        ("decode", &one.expect("a pool"), "no records: it looks like a pool file"),
-        ("decode", b"load 1\nload 2\n", "no records: it looks like text"),
+        ("decode", &pool, "not what is read here: it looks like a pool file"),
+        ("decode", &one.expect("a pool"), "not what is read here: it looks like a pool file"),
+        ("decode", b"load 1\nload 2\n", "not what is read here: it looks like text"),
         ("show", &commands, "no pool file: it looks like a batch"),
         ("show", &list, "no pool file: it looks like a list as bytes"),
         ("show", &done, "no pool file: it looks like replies"),

@@ -7,7 +7,7 @@ use crate::files::{self, of_file};
 use crate::regions::note;
 use crate::source::Source;
 use std::ffi::{OsStr, OsString};
-use xabatch::decode::{Bad, Decoder, Item};
+use xabatch::decode::{command_at, Bad, Decoder, Item};
 use xabatch::json::{self, Object};
 use xabatch::kind::FileKind;
 use xabatch::progress::Progress;
@@ -70,7 +70,9 @@ impl Decoding {
         if rest.is_empty() {
             return Ok(None);
         }
-        let (item, size) = self.decoder.take(rest).map_err(|bad| bad_record(file, &bad, rest))?;
+        let others = [FileKind::Pool, FileKind::Text];
+        let bad = |bad| bad_record(file, &bad, FileKind::guess(rest), &others);
+        let (item, size) = self.decoder.take(rest).map_err(bad)?;
         self.window.pass(size);
         self.progress.add(size);
         if let (Item::Reply(reply), Some(batch)) = (&item, &mut self.batch) {
@@ -129,12 +131,10 @@ impl Decoding {
 }
 
 /// The first record of a file of another kind is bad too; then its kind is told.
-fn bad_record(file: &OsStr, bad: &Bad, rest: &[u8]) -> Failure {
-    match FileKind::guess(rest).filter(|_| bad.place == 0) {
-        Some(kind) if matches!(kind, FileKind::Pool | FileKind::Text) => {
-            of_file(file, format!("no records: it looks like {kind}"))
-        }
-        _ => of_file(file, bad),
+fn bad_record(file: &OsStr, bad: &Bad, kind: Option<FileKind>, others: &[FileKind]) -> Failure {
+    match kind.filter(|kind| bad.place == 0 && others.contains(kind)) {
+        Some(kind) => of_file(file, format!("not what is read here: it looks like {kind}")),
+        None => of_file(file, bad),
     }
 }
 
@@ -142,7 +142,7 @@ fn bad_record(file: &OsStr, bad: &Bad, rest: &[u8]) -> Failure {
 struct Batch {
     file: OsString,
     window: Window<Source>,
-    decoder: Decoder,
+    place: u64,
     commands: u64,
     replies: u64,
     /// The first reply of another kind than its command: its number, command and reply.
@@ -152,8 +152,8 @@ struct Batch {
 impl Batch {
     fn open(file: &OsStr) -> Result<Batch, Failure> {
         let source = Source::open(file).map_err(|error| of_file(file, error))?;
-        let (window, decoder) = (Window::of(source), Decoder::default());
-        Ok(Batch { file: file.into(), window, decoder, commands: 0, replies: 0, other: None })
+        let window = Window::of(source);
+        Ok(Batch { file: file.into(), window, place: 0, commands: 0, replies: 0, other: None })
     }
 
     fn next(&mut self) -> Result<Option<Tag>, Failure> {
@@ -162,10 +162,11 @@ impl Batch {
         if rest.is_empty() {
             return Ok(None);
         }
-        let (item, size) = self.decoder.take(rest).map_err(|bad| bad_record(file, &bad, rest))?;
-        let Item::Command(command) = item else {
-            return Err(of_file(file, "no batch: it has other records than commands"));
-        };
+        let place = self.place;
+        let others = [FileKind::Pool, FileKind::Text, FileKind::Replies, FileKind::List];
+        let bad = |cause| bad_record(file, &Bad { place, cause }, FileKind::guess(rest), &others);
+        let (command, size) = command_at(rest).map_err(bad)?;
+        self.place += size as u64;
         self.window.pass(size);
         self.commands += 1;
         Ok(Some(command.tag()))
