@@ -468,13 +468,23 @@ fn encode_and_decode_have_a_bar() {
         let line = format!("TERM=dumb script -qec '{command}' /dev/null");
         let line = format!("cd {} && {line}", folder.0.display());
         let (status, out, _) = tool::bash(&line, &[]);
-        (status, String::from_utf8_lossy(&out).contains("%\r"))
+        let text = String::from_utf8_lossy(&out).into_owned();
+        // The bar is gone before anything is said.
+        let mut parts = text.split(['\r', '\n']);
+        assert!(parts.all(|part| part.starts_with("xabatch: ") || !part.contains("xabatch: ")));
+        (status, text.contains("%\r"))
     };
     assert_eq!(said("\"$X\" encode --long large > records"), (0, true));
     assert_eq!(said("\"$X\" encode --long small > few"), (0, false));
     assert_eq!(said("\"$X\" decode records > text"), (0, true));
     assert_eq!(said("\"$X\" decode few > text"), (0, false));
     assert_eq!(said("\"$X\" decode records"), (0, false));
+    // With something to say at the end.
+    let absent = [&[130, 0, 21, 10][..], &[0; 20]].concat();
+    std::fs::write(folder.path("replies"), absent.repeat(200_000)).expect("written");
+    assert_eq!(said("\"$X\" decode replies > text"), (0, true));
+    std::fs::write(folder.path("large"), large + "lode 1\nlode 2\n").expect("written");
+    assert_eq!(said("\"$X\" encode --long large > records"), (2, true));
 }
 
 #[test]

@@ -55,13 +55,16 @@ impl Decoding {
 
     /// Writes each record as it comes. The outer failure is of the output: nothing more is written then.
     fn read_all(&mut self, output: &mut Output) -> Result<Result<(), Failure>, Failure> {
-        loop {
+        let read = loop {
             match self.next() {
                 Ok(Some(item)) => output.take(&item)?,
-                Ok(None) => return Ok(Ok(())),
-                Err(failure) => return Ok(Err(failure)),
+                Ok(None) => break Ok(()),
+                Err(failure) => break Err(failure),
             }
-        }
+        };
+        // The bar goes before anything is said.
+        self.progress = Progress::of(None);
+        Ok(read)
     }
 
     fn next(&mut self) -> Result<Option<Item>, Failure> {

@@ -24,18 +24,24 @@ pub fn encode(arguments: Arguments) -> Result<(), Failure> {
     }
     // A byte that is no text becomes a character that no command has, at its right column.
     let input = String::from_utf8_lossy(&bytes);
-    let mut progress = Progress::as_text(Some(bytes.len() as u64));
-    let mut watch = |bytes| progress.add(bytes);
     let syntax = |errors| told(&file, errors);
     if arguments.has("--long") {
-        let commands = text::commands_of(&input, &mut watch).map_err(syntax)?;
-        return files::write(&records(&commands));
+        return files::write(&records(&watched(&input, text::commands_of).map_err(syntax)?));
     }
     if let Some(prefix) = arguments.value("--split") {
-        let commands = text::commands_of(&input, &mut watch).map_err(syntax)?;
+        let commands = watched(&input, text::commands_of).map_err(syntax)?;
         return write_split(prefix, &commands.into_iter().collect());
     }
-    files::write(text::watched_batch_of(&input, &mut watch).map_err(syntax)?.bytes())
+    files::write(watched(&input, text::watched_batch_of).map_err(syntax)?.bytes())
+}
+
+/// Reads a text with a bar, which is gone before anything is said.
+fn watched<T>(
+    input: &str,
+    read: impl FnOnce(&str, &mut dyn FnMut(usize)) -> Result<T, SyntaxErrors>,
+) -> Result<T, SyntaxErrors> {
+    let mut progress = Progress::as_text(Some(input.len() as u64));
+    read(input, &mut |bytes| progress.add(bytes))
 }
 
 /// Tells all errors but the last, which is that of the command.
