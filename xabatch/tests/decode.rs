@@ -212,7 +212,7 @@ fn the_cause_of_a_refused_call_is_told() {
     assert!(errors.contains("batch: byte 11: unknown tag 130"), "{errors}");
     fs::write(&name, reply(LOAD, 0)).expect("written");
     let (_, _, errors) = tool(&["decode", "--batch", &name], &reply(LOAD, 0));
-    assert!(errors.contains("batch: not what is read here: it looks like replies"), "{errors}");
+    assert!(errors.contains("batch: no batch: it looks like replies"), "{errors}");
     let (status, _, errors) = tool(&["decode"], &refused(11));
     assert_eq!((status, errors.contains("byte 11 of the batch: a record is cut")), (1, true));
     let (status, _, errors) = tool(&["decode"], &[255, 0, 3, 3, 0x20, 0]);
@@ -233,9 +233,9 @@ fn a_file_of_another_kind_is_named() {
     let (commands, list) = (batch("load 1\n"), listed(64, 0, 5, 0));
     let done = replies(&[(LOAD, 0); 40]);
     let cases: [(&str, &[u8], &str); 11] = [
-        ("decode", &pool, "not what is read here: it looks like a pool file"),
-        ("decode", &one.expect("a pool"), "not what is read here: it looks like a pool file"),
-        ("decode", b"load 1\nload 2\n", "not what is read here: it looks like text"),
+        ("decode", &pool, "no records: it looks like a pool file"),
+        ("decode", &one.expect("a pool"), "no records: it looks like a pool file"),
+        ("decode", b"load 1\nload 2\n", "no records: it looks like text"),
         ("show", &commands, "no pool file: it looks like a batch"),
         ("show", &list, "no pool file: it looks like a list as bytes"),
         ("show", &done, "no pool file: it looks like replies"),

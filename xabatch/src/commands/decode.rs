@@ -73,8 +73,8 @@ impl Decoding {
         if rest.is_empty() {
             return Ok(None);
         }
-        let others = [FileKind::Pool, FileKind::Text];
-        let bad = |bad| bad_record(file, &bad, FileKind::guess(rest), &others);
+        let wanted = [FileKind::Replies, FileKind::Batch, FileKind::List];
+        let bad = |bad| bad_record(file, &bad, FileKind::guess(rest), &wanted);
         let (item, size) = self.decoder.take(rest).map_err(bad)?;
         self.window.pass(size);
         self.progress.add(size);
@@ -134,9 +134,10 @@ impl Decoding {
 }
 
 /// The first record of a file of another kind is bad too; then its kind is told.
-fn bad_record(file: &OsStr, bad: &Bad, kind: Option<FileKind>, others: &[FileKind]) -> Failure {
-    match kind.filter(|kind| bad.place == 0 && others.contains(kind)) {
-        Some(kind) => of_file(file, format!("not what is read here: it looks like {kind}")),
+fn bad_record(file: &OsStr, bad: &Bad, kind: Option<FileKind>, wanted: &[FileKind]) -> Failure {
+    match kind.filter(|kind| bad.place == 0 && !wanted.contains(kind)) {
+        Some(kind) if wanted.len() == 1 => of_file(file, format!("no batch: it looks like {kind}")),
+        Some(kind) => of_file(file, format!("no records: it looks like {kind}")),
         None => of_file(file, bad),
     }
 }
@@ -166,8 +167,8 @@ impl Batch {
             return Ok(None);
         }
         let place = self.place;
-        let others = [FileKind::Pool, FileKind::Text, FileKind::Replies, FileKind::List];
-        let bad = |cause| bad_record(file, &Bad { place, cause }, FileKind::guess(rest), &others);
+        let wanted = [FileKind::Batch];
+        let bad = |cause| bad_record(file, &Bad { place, cause }, FileKind::guess(rest), &wanted);
         let (command, size) = command_at(rest).map_err(bad)?;
         self.place += size as u64;
         self.window.pass(size);
