@@ -170,13 +170,14 @@ fn a_write_through_a_mapping_is_a_fault() {
     assert!(errors.contains("old: it changed while it was read"), "{errors}");
 }
 
-/// It is stopped when it has read a piece of 256 MiB of zeros, and goes on when the file was replaced.
+/// It is stopped when it has read a piece of 1 GiB of zeros, and goes on when the file was replaced.
 #[test]
 fn a_digest_is_of_the_file_that_has_the_name() {
     let (status, out, errors) = in_folder(
-        "truncate -s 256M large && cp --sparse=always large other\n\
+        "truncate -s 1G large && cp --sparse=always large other\n\
          \"$X\" crc large & tool=$!\n\
-         until grep -qs '^pos:.*[1-9]' /proc/$tool/fdinfo/3; do kill -0 $tool || exit 9; done\n\
+         place() { find -L /proc/$tool/fd -samefile large 2> /dev/null | sed s:/fd/:/fdinfo/:; }\n\
+         until grep -qs '^pos:.*[1-9]' /dev/null $(place); do kill -0 $tool || exit 9; done\n\
          kill -STOP $tool; mv other large; kill -CONT $tool; wait $tool",
     );
     assert_eq!((status, out.as_str()), (1, ""), "{errors}");
