@@ -80,22 +80,25 @@ pub fn write_lines(lines: &[String]) -> Result<(), Failure> {
 /// No pool file has more bytes than this.
 pub const MOST_POOL_BYTES: u64 = 8 * (ANCHOR_WORDS + NODE_WORDS * MOST_NODES) as u64;
 
-/// The words of a pool file; `-` is standard input. One that is too long for a pool is not read.
-pub fn read_pool(file: &OsStr) -> Result<Vec<u64>, Failure> {
+/// The bytes of a pool file; `-` is standard input. One that is too long for a pool is not read.
+pub fn read_pool(file: &OsStr) -> Result<Vec<u8>, Failure> {
     let opened = match file == "-" {
         true if os::was_closed(0) => Err(io::Error::other("it is closed")),
         true => io::stdin().as_fd().try_clone_to_owned().map(File::from),
         false => File::open(file),
     };
     let read = opened.and_then(|opened| read_at_most(&opened, MOST_POOL_BYTES));
-    pool_words(file, read.map_err(|error| of_file(file, error))?)
+    no_longer(file, read.map_err(|error| of_file(file, error))?)
 }
 
-/// The words of the bytes of a pool file; none are given of one that has too many.
-pub fn pool_words(file: &OsStr, bytes: Option<Vec<u8>>) -> Result<Vec<u64>, Failure> {
-    let too_long = || of_file(file, format!("no pool: too long, over {MOST_POOL_BYTES} bytes"));
-    let bytes = bytes.ok_or_else(too_long)?;
+/// The bytes of a pool file; none are given of one that has too many.
+pub fn no_longer(file: &OsStr, bytes: Option<Vec<u8>>) -> Result<Vec<u8>, Failure> {
+    bytes.ok_or_else(|| of_file(file, format!("no pool: too long, over {MOST_POOL_BYTES} bytes")))
+}
+
+/// The words of the bytes of a pool file.
+pub fn words_of(file: &OsStr, bytes: &[u8]) -> Result<Vec<u64>, Failure> {
     let left = bytes.len() % 8;
     let cut = || of_file(file, format!("{left} bytes after the last whole word"));
-    words_of_bytes(&bytes).ok_or_else(cut)
+    words_of_bytes(bytes).ok_or_else(cut)
 }

@@ -1,15 +1,18 @@
 //! The commands that write a pool file: a new one, and a batch run on one.
 
 use crate::args::{Arguments, Known};
+use crate::commands::decode::bad_record;
 use crate::failure::{malformed, usage, Failure, NOT_DONE, NOT_FLUSHED};
 use crate::files::{self, of_file, MOST_POOL_BYTES};
 use std::ffi::{OsStr, OsString};
 use std::path::Path;
-use xabatch::answered::{is_done, Answered};
-use xabatch::bad_batch;
+use xabatch::decode::{command_at, Bad};
+use xabatch::json::Object;
+use xabatch::kind::FileKind;
 use xabatch::locked::{self, KeepError, LockedFile, Locking};
 use xabatch::progress::Progress;
-use xapool_host::{split_batches, Answer, Commands, Pool, Refusal, Reply, REPLY_BYTES};
+use xabatch::tally::{is_done, Tally};
+use xapool_host::{split_batches, Commands, Pool, Refusal, Reply, REPLY_BYTES};
 
 pub const RUN_OPTIONS: [Known; 3] = [("--no-wait", false), ("--strict", false), ("--json", false)];
 
@@ -47,7 +50,8 @@ pub fn run(arguments: Arguments) -> Result<(), Failure> {
     let file = &job.file;
     let failed = |error| of_file(file, error);
     let mut locked = LockedFile::open(Path::new(file), job.locking).map_err(failed)?;
-    let words = files::pool_words(file, locked.read(MOST_POOL_BYTES).map_err(failed)?)?;
+    let bytes = files::no_longer(file, locked.read(MOST_POOL_BYTES).map_err(failed)?)?;
+    let words = files::words_of(file, &bytes)?;
     let mut pool = Pool::from_words(words.clone());
     let outcome = job.run(&mut pool, words)?;
     // After this the lock is free: who reads what is written may be slow.
@@ -106,25 +110,27 @@ impl Job {
         let read: Option<Vec<Reply>> = replies.chunks(REPLY_BYTES).map(Reply::read).collect();
         // Cannot be: the library is proved to write replies. Is it the right one?
         let read = read.ok_or_else(|| of_file(&self.file, "the library gave what is no reply"))?;
-        let answered: Answered = read.iter().collect();
-        let kept = !self.strict || answered.is_all_done();
+        let tally: Tally = read.iter().collect();
+        let kept = !self.strict || tally.is_all_done();
         let changed = kept && pool.words() != before;
         if !kept {
             *pool = Pool::from_words(before);
         }
-        Ok(Outcome { replies, answered, kept, changed })
+        Ok(Outcome { replies, tally, kept, changed })
     }
 
     /// Says how many commands were not done and, where nothing is kept for that, which.
     fn complain_of(&self, outcome: &Outcome) {
-        let Some(complaint) = outcome.answered.complaint() else {
-            return;
-        };
-        if outcome.kept {
-            return files::complain(&complaint);
+        let tally = &outcome.tally;
+        match (tally.is_all_done(), outcome.kept) {
+            (true, _) => {}
+            (false, true) => files::complain(&tally.to_string()),
+            (false, false) => {
+                name_not_done(&self.batch, &outcome.replies);
+                let file = files::name(&self.file);
+                files::complain(&format!("{file}: nothing is kept: {tally}"));
+            }
         }
-        name_not_done(&self.batch, &outcome.replies);
-        files::complain(&format!("{}: nothing is kept: {complaint}", files::name(&self.file)));
     }
 }
 
@@ -151,20 +157,19 @@ fn run_batches(pool: &mut Pool, records: &[u8]) -> Result<Vec<u8>, Refusal> {
 
 /// Which of its causes it is, and what else the file may be.
 fn bad_batch(file: &OsStr, batch: &[u8], place: u64) -> Failure {
-    let at = usize::try_from(place).ok();
-    match at.and_then(|at| bad_batch::cause_at(batch, at)) {
+    let rest = usize::try_from(place).ok().and_then(|at| batch.get(at..));
+    match rest.and_then(|rest| command_at(rest).err()) {
         None => of_file(file, Refusal::BadBatch { place }),
-        Some(cause) => match bad_batch::kind_of(batch).filter(|_| place == 0) {
-            Some(kind) => of_file(file, format!("byte 0: {cause}; {kind}")),
-            None => of_file(file, format!("byte {place}: {cause}")),
-        },
+        Some(cause) => {
+            bad_record(file, &Bad { place, cause }, FileKind::guess(batch), &[FileKind::Batch])
+        }
     }
 }
 
 /// What a batch did to a pool in memory.
 struct Outcome {
     replies: Vec<u8>,
-    answered: Answered,
+    tally: Tally,
     /// Whether it is to be kept.
     kept: bool,
     /// Whether it is, and there is something to keep.
@@ -182,7 +187,7 @@ impl Outcome {
 
     /// Writes the replies, or what is written in their place.
     fn write(&self, bytes: &[u8]) -> Result<(), Failure> {
-        let replies = self.answered.commands();
+        let replies = self.tally.replies();
         let ran = if self.kept { "the batch ran" } else { "nothing is kept" };
         files::try_write(bytes).map_err(|error| {
             malformed(format!(
@@ -194,22 +199,19 @@ impl Outcome {
 
     /// One line; the pool is the one that the file has now.
     fn json(&self, pool: &Pool) -> String {
-        let answer = |(answer, count): (Answer, u64)| {
-            let number = answer.number();
-            format!(r#"{{"answer":{number},"text":"{answer}","replies":{count}}}"#)
-        };
-        let answers: Vec<String> = self.answered.answers().map(answer).collect();
-        let (answers, commands) = (answers.join(","), self.answered.commands());
-        let not_done = self.answered.not_done();
-        let done = commands - not_done;
-        let (kept, changed) = (self.kept, self.changed);
+        let (replies, not_done) = (self.tally.replies(), self.tally.not_done());
         let (nodes, in_use) = (pool.nodes().unwrap_or(0), pool.nodes_in_use());
-        let free = nodes.saturating_sub(in_use);
-        format!(
-            "{{\"commands\":{commands},\"done\":{done},\"not_done\":{not_done},\
-             \"answers\":[{answers}],\"kept\":{kept},\"changed\":{changed},\
-             \"nodes\":{nodes},\"in_use\":{in_use},\"free\":{free}}}\n"
-        )
+        let object = Object::new()
+            .with("commands", replies)
+            .with("done", replies - not_done)
+            .with("not_done", not_done)
+            .with("answers", self.tally.answers_json())
+            .with("kept", self.kept)
+            .with("changed", self.changed)
+            .with("nodes", nodes)
+            .with("in_use", in_use)
+            .with("free", nodes.saturating_sub(in_use));
+        format!("{}\n", object.end())
     }
 }
 

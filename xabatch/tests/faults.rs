@@ -249,14 +249,13 @@ fn a_run_that_only_reads_flushes_too() {
     }
 }
 
-/// Its replies are of the pool that stays: that one is on disk.
+/// A `done` would be of nothing that is kept.
 #[test]
-fn a_strict_run_that_keeps_nothing_flushes_too() {
+fn a_strict_run_that_keeps_nothing_acknowledges_nothing() {
     let job = Job::new();
     let place = Place::of(&job.old, &batch("store 64 order 0 value 2\nload 8\n"));
     let trace = place.run_with(&["--strict"], Fault::Never);
-    assert_eq!((trace.status, place.replied(), place.pool() == job.old), (Some(4), 48, true));
-    place.acknowledged_is_flushed(&trace, "strict");
+    assert_eq!((trace.status, place.replied(), place.pool() == job.old), (Some(4), 0, true));
 }
 
 /// It has a status of its own, is said, and no reply is written; what stands is said as well.

@@ -4,8 +4,8 @@ mod tool;
 
 use std::fs::{self, File};
 use tool::{batch, tool, Folder};
-use xabatch::bad_batch::{cause_at, cause_of, Cause};
-use xapool_host::{Pool, Refusal, Tag};
+use xabatch::decode::command_at;
+use xapool_host::{Pool, Refusal};
 
 /// What a run on a new pool says of these bytes.
 fn said_of(bytes: &[u8]) -> String {
@@ -22,12 +22,12 @@ fn which_cause_and_where() {
     let loads = batch("load 1\nload 2\n");
     let after = |bytes: &[u8]| said_of(&[&loads, bytes].concat());
     let cut = "xabatch: <stdin>: byte 22: the record is cut: ";
-    assert_eq!(after(&[1]), format!("{cut}1 bytes, a store has 20\n"));
-    assert_eq!(after(&[1, 0]), format!("{cut}2 bytes, a store has 20\n"));
-    assert_eq!(after(&[2, 0, 8, 0]), format!("{cut}4 bytes, a load has 11\n"));
+    assert_eq!(after(&[1]), format!("{cut}1 of its 20 bytes are there\n"));
+    assert_eq!(after(&[1, 0]), format!("{cut}2 of its 20 bytes are there\n"));
+    assert_eq!(after(&[2, 0, 8, 0]), format!("{cut}4 of its 11 bytes are there\n"));
     assert_eq!(after(&[9, 0, 8]), "xabatch: <stdin>: byte 22: unknown tag 9\n");
     assert_eq!(after(&[0]), "xabatch: <stdin>: byte 22: unknown tag 0\n");
-    let wrong = "xabatch: <stdin>: byte 22: wrong length 264, that of a load is 8\n";
+    let wrong = "xabatch: <stdin>: byte 22: wrong length: 264, of tag 2 it is 8\n";
     assert_eq!(after(&[2, 1, 8, 0, 0, 0, 0, 0, 0, 0, 1]), wrong);
     // In a row of several batches the place is that in the row.
     let long = [batch(&"load 1\n".repeat(5000)), vec![9]].concat();
@@ -41,12 +41,13 @@ fn another_kind_of_file_is_named() {
     let name = folder.name("p.pool");
     let replies = tool(&["run", &name], &batch("store 0 order 0 value 1\n")).1;
     let list = tool(&["list", "--bytes", pool.to_str().expect("a name")], &[]).1;
-    assert!(said_of(&replies)
-        .ends_with("unknown tag 129; these are replies: 'xabatch decode' writes them as text\n"));
-    assert!(said_of(&list)
-        .ends_with("unknown tag 32; this is a list: 'xabatch decode' writes it as text\n"));
-    assert!(said_of(b"store 1 order 0 value 2\n")
-        .ends_with("unknown tag 115; this is text: 'xabatch encode' makes a batch of it\n"));
+    let kind = |bytes: &[u8], what: &str| {
+        let line = format!("xabatch: <stdin>: no batch: it looks like {what} ('xabatch ");
+        assert!(said_of(bytes).starts_with(&line), "{what}: {}", said_of(bytes));
+    };
+    kind(&replies, "replies");
+    kind(&list, "a list as bytes");
+    kind(b"store 1 order 0 value 2\n", "text");
     assert!(said_of(&[200, 7, 9]).ends_with("byte 0: unknown tag 200\n"));
 }
 
@@ -70,7 +71,7 @@ fn a_cause_where_the_library_refuses() {
         }
         match pool.clone().run_bytes(&bytes, &mut [0; 24 * 12]) {
             Err(Refusal::BadBatch { place }) => {
-                assert!(cause_at(&bytes, place as usize).is_some(), "{bytes:?} at {place}");
+                assert!(command_at(&bytes[place as usize..]).is_err(), "{bytes:?} at {place}");
                 let before = &bytes[..place as usize];
                 assert!(pool.run_bytes(before, &mut [0; 24 * 12]).is_ok(), "{before:?}");
                 bad += 1;
@@ -79,10 +80,7 @@ fn a_cause_where_the_library_refuses() {
         }
     }
     assert!(bad > 1000, "{bad}");
-    let long = batch(&"load 1\n".repeat(2979));
-    assert_eq!(cause_of(&long, 32_768), Some(Cause::TooLong { bytes: 32_769 }));
-    assert_eq!(cause_at(&good[..10], 0), Some(Cause::Cut { tag: Tag::Load, bytes: 10 }));
-    assert_eq!(cause_at(&good, 0), None);
+    assert_eq!(command_at(&good).map(|(_, size)| size), Ok(11));
 }
 
 /// 8 bytes for each of 4 + 70 * 16,384 words are the most.
