@@ -79,7 +79,7 @@ fn what_the_host_page_shows_happens() {
 
 #[test]
 fn what_the_first_page_shows_happens() {
-    runs("README.md", 4);
+    runs("README.md", 3);
 }
 
 #[test]
