@@ -1,6 +1,6 @@
 //! Links the proved library. This is the one place where Rust finds it. In this order: the file that
-//! XAPOOL_LIB names; target/staticlib/libxapool.a of this project; what pkg-config says; the places
-//! where scripts/install puts it.
+//! XAPOOL_LIB names; target/staticlib/libxapool.a of this project; lib/libxapool.a of a release that
+//! this crate was unpacked with; what pkg-config says; the places where scripts/install puts it.
 
 use std::path::{Path, PathBuf};
 use std::process::{exit, Command};
@@ -38,7 +38,8 @@ fn places() -> Vec<PathBuf> {
         return vec![named.into()];
     }
     let here = env::var_os("CARGO_MANIFEST_DIR").unwrap_or_default();
-    let mut folders = vec![Path::new(&here).join("../target/staticlib")];
+    let mut folders =
+        ["../target/staticlib", "../lib"].map(|at| Path::new(&here).join(at)).to_vec();
     folders.extend(from_pkg_config());
     folders.extend(["/usr/local/lib", "/usr/lib"].map(PathBuf::from));
     folders.extend(env::var_os("HOME").map(|home| Path::new(&home).join(".local/lib")));

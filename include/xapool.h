@@ -15,6 +15,8 @@
  *            of other libraries it needs memset alone. It never allocates.
  * Alignment  a pool begins at a multiple of 8, as any array of uint64_t does. Batch, reply, list and
  *            regions may begin anywhere.
+ * Memory     all that is lent must have been written before, the space for replies and lists too: static,
+ *            calloc, or = { 0 }.
  * NULL       with length 0 any pointer may be NULL: an empty batch, no reply space, no space for a
  *            list and empty regions are fine, a pool of no words is refused with 1.
  * Stack      a call needs less than 8 KiB of it, whatever the pool holds; xapool_crc32c and
@@ -36,6 +38,14 @@
 #include <stddef.h>
 #include <stdint.h>
 
+/* On every function here that gives something: gcc and clang warn where it is dropped. A command that was
+ * not put, a call that was refused and a reply that is not there are told in no other way. */
+#if defined(__GNUC__) || defined(__clang__)
+#define XAPOOL_MUST_USE __attribute__((warn_unused_result))
+#else
+#define XAPOOL_MUST_USE
+#endif
+
 #ifdef __cplusplus
 extern "C" {
 #endif
@@ -43,9 +53,9 @@ extern "C" {
 /* ---- Version ---- */
 
 #define XAPOOL_VERSION_MAJOR 0
-#define XAPOOL_VERSION_MINOR 2
+#define XAPOOL_VERSION_MINOR 3
 #define XAPOOL_VERSION_PATCH 0
-#define XAPOOL_VERSION "0.2.0"
+#define XAPOOL_VERSION "0.3.0"
 
 /* ---- Limits ---- */
 
@@ -85,16 +95,36 @@ extern "C" {
  * replies and lists have 0 in its place. */
 #define XAPOOL_RESERVED_WORD 1030
 
-/* The word of value v, v from 0 to 2^63 - 1; and the value of an odd word. */
-#define XAPOOL_VALUE(v) (UINT64_C(2) * (v) + 1)
+/* The mark that says 'matched', the only one that a store clears. It is not the verdict XAPOOL_MATCHED. */
+#define XAPOOL_MATCHED_MARK 2
+
+/* The word of value v, v from 0 to 2^63 - 1. Of any other, also of one below 0, it is 0, which a store
+ * refuses with 6: no bit is cut. It is constant where v is. (Compilers other than gcc and clang
+ * evaluate v twice.) */
+#define XAPOOL_VALUE_OR_0(v) ((UINT64_C(0) + (v)) >> 63 == 0 ? UINT64_C(2) * (v) + 1 : UINT64_C(0))
+#if defined(__GNUC__) || defined(__clang__)
+#define XAPOOL_VALUE(v) (__builtin_constant_p(v) ? XAPOOL_VALUE_OR_0(v) : xapool_value(v))
+#else
+#define XAPOOL_VALUE(v) XAPOOL_VALUE_OR_0(v)
+#endif
+
+XAPOOL_MUST_USE
+static inline uint64_t xapool_value(uint64_t v)
+{
+    return XAPOOL_VALUE_OR_0(v);
+}
+
+/* The value of an odd word. */
 #define XAPOOL_VALUE_OF(word) ((word) / 2)
 
 /* ---- Answers ----
  *
  * 0 to 4 are the answer of a call, and of xapool_list also 8. All but 0 refuse it: nothing ran, and
- * pool, reply and list bytes are as they were. 0 and 5 to 15 are the answer in one command's reply;
- * whatever it is, the next command runs. Where several apply, the lowest is given, but 14 before 6,
- * 15 before 11, and a list is refused with 8 before it is with 4. */
+ * pool, reply and list bytes are as they were, so the reply bytes may still hold the replies to an
+ * earlier batch, which read as done: look at the call's answer first. 0 and 5 to 15 are the answer in
+ * one command's reply; whatever it is, the next command runs, on a pool without what was refused. Where
+ * several apply, the lowest is given, but 14 before 6, 15 before 11, and a list is refused with 8 before
+ * it is with 4. */
 enum xapool_answer {
     XAPOOL_DONE = 0,             /* call: done, number: commands run, or entries listed. reply: done */
     XAPOOL_POOL_LENGTH = 1,      /* pool_words is not XAPOOL_WORDS(N) with N from 1 to XAPOOL_MAX_NODES; number 0 */
@@ -113,7 +143,8 @@ enum xapool_answer {
     XAPOOL_ENDED = 12,           /* find: nothing more to find */
     XAPOOL_PAUSED = 13,          /* find: the budget is used up; index: where to go on */
     XAPOOL_NOT_ALIGNED = 14,     /* store: the index is not a multiple of 2^order */
-    XAPOOL_COVERED = 15          /* reserve: an entry covers the index, or it is reserved already */
+    XAPOOL_COVERED = 15,         /* reserve: an entry covers the index, or it is reserved already */
+    XAPOOL_NO_REPLY = 255        /* no answer of the library: xapool_read_reply found no reply */
 };
 
 /* ---- Batches ----
@@ -134,9 +165,13 @@ enum xapool_answer {
  *   of all that lay there; it has marks 0 and 1 of what it replaces. Where an entry of that order or
  *   more covers them, that entry takes the word and keeps marks 0 and 1. Mark 2 ('matched') is clear
  *   after every store, also of the same word.
- * erase, mark, unmark: the whole entry that covers index. An erase also ends a reservation.
+ * erase, mark, unmark: the whole entry that covers index. An erase also ends a reservation. A mark on
+ *   a run is the whole run's, and every index of it loads with it: before mark 2 is set, all of the run
+ *   must have been compared.
  * find: the first entry that meets first..last, in index order; filter 0, 1, 2: with that mark,
- *   3: any. It goes at most budget steps.
+ *   3: any. It goes at most budget steps. Paused (13) is not ended (12): what comes after was not looked
+ *   at. And ended says that there is no entry with the mark, not that there is one without it: an index
+ *   that was never stored is not found by any filter.
  * reserve: holds this one index, with the nodes that a store of order 0 there needs. Loads, finds,
  *   marks and unmarks take it for an index without an entry. A store over it, of any order, takes
  *   its place. */
@@ -210,27 +245,33 @@ typedef struct xapool_result {
 } xapool_result;
 
 /* Makes the words an empty pool, whatever stood there. Gives 0 or 1. */
+XAPOOL_MUST_USE
 xapool_result xapool_init(uint64_t *pool, size_t pool_words);
 
 /* Whether the words are those of a pool. Gives 0, 1 or 2. */
+XAPOOL_MUST_USE
 xapool_result xapool_check(const uint64_t *pool, size_t pool_words);
 
 /* Runs a batch. It checks the pool first, so words from anywhere may be given. With answer 0 the
- * first 24 * number bytes of reply hold the replies; bytes past them stay as they were. */
+ * first 24 * number bytes of reply hold the replies; bytes past them stay as they were, and with any
+ * other answer all of them do. */
+XAPOOL_MUST_USE
 xapool_result xapool_run(uint64_t *pool, size_t pool_words,
                          const uint8_t *batch, size_t batch_bytes,
                          uint8_t *reply, size_t reply_bytes);
 
 /* How many commands a batch has, by itself: 0 and their number, or 3 and the place of its first bad
  * record, as a run would say. It looks at no pool. */
+XAPOOL_MUST_USE
 xapool_result xapool_count(const uint8_t *batch, size_t batch_bytes);
 
 /* Lists every entry that covers an index of first to last, both included, and every reserved index
  * among them, in index order and each once; an entry that begins before first or ends after last is
- * listed whole. It checks the pool first
- * and only reads it. With answer 0 the first 21 * number bytes of buffer hold the list; bytes past
- * them stay as they were. Gives 0, or 1, 2, 8, 4 in this order, and then no byte is written: with no
- * buffer (NULL, 0) and answer 4 the number says how many entries there are to make room for. */
+ * listed whole. It checks the pool first and only reads it. With answer 0 the first 21 * number bytes of
+ * buffer hold the list; bytes past them stay as they were. Gives 0, or 1, 2, 8, 4 in this order, and then
+ * no byte is written: with no buffer (NULL, 0) and answer 4 the number says how many entries there are
+ * to make room for. */
+XAPOOL_MUST_USE
 xapool_result xapool_list(const uint64_t *pool, size_t pool_words,
                           uint64_t first, uint64_t last,
                           uint8_t *buffer, size_t buffer_bytes);
@@ -239,8 +280,11 @@ xapool_result xapool_list(const uint64_t *pool, size_t pool_words,
  *
  * A match is of two regions that are not empty, of one length, with the same bytes; all else that is
  * not empty is different. Where one or both are empty nothing was compared, and that is no match,
- * though digests of no bytes are 0 and so equal: never compare digests alone. Memory of zeros that
- * nobody wrote does not read as a match either. */
+ * though digests of no bytes are 0 and so equal: never compare digests alone. A verdict that nobody
+ * wrote does not read as a match either: an xapool_comparison of zeros says 'nothing to compare'. That
+ * is of the verdict's own word. Two regions of zeros do match, as any equal bytes do; whether they were
+ * really read, all of them, and from two places, the host must know. Two lists or two pools that are
+ * equal are no evidence either: equal reservations are equal bytes. */
 enum xapool_verdict {
     XAPOOL_NOTHING_TO_COMPARE = 0, /* a region is empty */
     XAPOOL_MATCHED = 1,
@@ -255,22 +299,27 @@ typedef struct xapool_comparison {
 
 /* The digest CRC-32C (RFC 3720) of a region, in pieces or as a whole: crc is 0 to begin, and what the
  * last call gave to go on. */
+XAPOOL_MUST_USE
 uint32_t xapool_crc32c(uint32_t crc, const uint8_t *region, size_t region_bytes);
 
 /* Compares an old and a new region. */
+XAPOOL_MUST_USE
 xapool_comparison xapool_compare(const uint8_t *old_region, size_t old_bytes,
                                  const uint8_t *new_region, size_t new_bytes);
 
 /* ---- Building a batch ----
  *
- *     uint8_t bytes[XAPOOL_BATCH_BYTES];
+ *     uint8_t bytes[XAPOOL_BATCH_BYTES] = { 0 }, reply[XAPOOL_REPLIES(2)] = { 0 };
  *     xapool_batch batch = xapool_batch_over(bytes, sizeof bytes);
- *     xapool_put_store(&batch, 64, 0, XAPOOL_VALUE(2));
- *     xapool_put_load(&batch, 64);
- *     xapool_run(pool, XAPOOL_WORDS(40), batch.bytes, batch.used, reply, sizeof reply);
+ *     if (!xapool_put_store(&batch, 64, 0, XAPOOL_VALUE(2)) || !xapool_put_load(&batch, 64))
+ *         return 1;
+ *     xapool_result r = xapool_run(pool, XAPOOL_WORDS(40), batch.bytes, batch.used, reply, sizeof reply);
  *
  * Each xapool_put gives 1, or 0 if there is no room: then the batch is as it was. Run it, set used
- * and commands to 0, and put the same command again. */
+ * and commands to 0, and put the same command again (xapool_job.h does that). A number that does not
+ * fit its field is put as the largest that does, never cut: order 259 as 255, which a store refuses with
+ * 5, mark 258 or filter 259 as 255, refused with 7. A budget above 65,535 is 65,535: the find may pause
+ * earlier. */
 
 typedef struct xapool_batch {
     uint8_t *bytes;
@@ -280,6 +329,7 @@ typedef struct xapool_batch {
 } xapool_batch;
 
 /* An empty batch in these bytes; more than XAPOOL_BATCH_BYTES of them are not used. */
+XAPOOL_MUST_USE
 static inline xapool_batch xapool_batch_over(uint8_t *bytes, size_t room)
 {
     xapool_batch batch;
@@ -309,7 +359,15 @@ static inline void xapool_put_number(xapool_batch *batch, uint64_t number, unsig
     }
 }
 
+/* A number, or the most that its field takes. */
+XAPOOL_MUST_USE
+static inline uint64_t xapool_at_most(uint64_t number, uint64_t most)
+{
+    return number < most ? number : most;
+}
+
 /* The tag and the length of a record, if all of it has room. */
+XAPOOL_MUST_USE
 static inline int xapool_put_tag(xapool_batch *batch, unsigned tag, unsigned record_bytes)
 {
     if (batch->used > batch->room || batch->room - batch->used < record_bytes)
@@ -320,16 +378,18 @@ static inline int xapool_put_tag(xapool_batch *batch, unsigned tag, unsigned rec
     return 1;
 }
 
-static inline int xapool_put_store(xapool_batch *batch, uint64_t index, uint8_t order, uint64_t entry)
+XAPOOL_MUST_USE
+static inline int xapool_put_store(xapool_batch *batch, uint64_t index, uint64_t order, uint64_t entry)
 {
     if (!xapool_put_tag(batch, XAPOOL_STORE, XAPOOL_STORE_BYTES))
         return 0;
     xapool_put_number(batch, index, 8);
-    xapool_put_number(batch, order, 1);
+    xapool_put_number(batch, xapool_at_most(order, UINT8_MAX), 1);
     xapool_put_number(batch, entry, 8);
     return 1;
 }
 
+XAPOOL_MUST_USE
 static inline int xapool_put_load(xapool_batch *batch, uint64_t index)
 {
     if (!xapool_put_tag(batch, XAPOOL_LOAD, XAPOOL_LOAD_BYTES))
@@ -338,6 +398,7 @@ static inline int xapool_put_load(xapool_batch *batch, uint64_t index)
     return 1;
 }
 
+XAPOOL_MUST_USE
 static inline int xapool_put_erase(xapool_batch *batch, uint64_t index)
 {
     if (!xapool_put_tag(batch, XAPOOL_ERASE, XAPOOL_ERASE_BYTES))
@@ -346,35 +407,39 @@ static inline int xapool_put_erase(xapool_batch *batch, uint64_t index)
     return 1;
 }
 
-static inline int xapool_put_mark(xapool_batch *batch, uint64_t index, uint8_t mark)
+XAPOOL_MUST_USE
+static inline int xapool_put_mark(xapool_batch *batch, uint64_t index, uint64_t mark)
 {
     if (!xapool_put_tag(batch, XAPOOL_MARK, XAPOOL_MARK_BYTES))
         return 0;
     xapool_put_number(batch, index, 8);
-    xapool_put_number(batch, mark, 1);
+    xapool_put_number(batch, xapool_at_most(mark, UINT8_MAX), 1);
     return 1;
 }
 
-static inline int xapool_put_unmark(xapool_batch *batch, uint64_t index, uint8_t mark)
+XAPOOL_MUST_USE
+static inline int xapool_put_unmark(xapool_batch *batch, uint64_t index, uint64_t mark)
 {
     if (!xapool_put_tag(batch, XAPOOL_UNMARK, XAPOOL_UNMARK_BYTES))
         return 0;
     xapool_put_number(batch, index, 8);
-    xapool_put_number(batch, mark, 1);
+    xapool_put_number(batch, xapool_at_most(mark, UINT8_MAX), 1);
     return 1;
 }
 
-static inline int xapool_put_find(xapool_batch *batch, uint64_t first, uint64_t last, uint8_t filter, uint16_t budget)
+XAPOOL_MUST_USE
+static inline int xapool_put_find(xapool_batch *batch, uint64_t first, uint64_t last, uint64_t filter, uint64_t budget)
 {
     if (!xapool_put_tag(batch, XAPOOL_FIND, XAPOOL_FIND_BYTES))
         return 0;
     xapool_put_number(batch, first, 8);
     xapool_put_number(batch, last, 8);
-    xapool_put_number(batch, filter, 1);
-    xapool_put_number(batch, budget, 2);
+    xapool_put_number(batch, xapool_at_most(filter, UINT8_MAX), 1);
+    xapool_put_number(batch, xapool_at_most(budget, UINT16_MAX), 2);
     return 1;
 }
 
+XAPOOL_MUST_USE
 static inline int xapool_put_reserve(xapool_batch *batch, uint64_t index)
 {
     if (!xapool_put_tag(batch, XAPOOL_RESERVE, XAPOOL_RESERVE_BYTES))
@@ -387,7 +452,7 @@ static inline int xapool_put_reserve(xapool_batch *batch, uint64_t index)
 
 typedef struct xapool_reply {
     uint8_t tag;    /* of the command: XAPOOL_STORE to XAPOOL_RESERVE */
-    uint8_t answer; /* enum xapool_answer, 0 and 5 to 15 */
+    uint8_t answer; /* enum xapool_answer, 0 and 5 to 15; 255: there is no reply */
     uint8_t order;
     uint8_t marks;
     uint16_t count;
@@ -396,6 +461,7 @@ typedef struct xapool_reply {
 } xapool_reply;
 
 /* The big-endian number in so many bytes. */
+XAPOOL_MUST_USE
 static inline uint64_t xapool_number_at(const uint8_t *bytes, unsigned count)
 {
     uint64_t number = 0;
@@ -405,11 +471,15 @@ static inline uint64_t xapool_number_at(const uint8_t *bytes, unsigned count)
     return number;
 }
 
-/* Reads the reply to command 'number', from 0, out of the replies to a batch. Gives 0, and leaves
- * *reply, if there is none: the bytes end before it, or are no reply. */
+/* Reads the reply to command 'number', from 0, out of the replies to a batch. Gives 0 if there is none:
+ * the bytes end before it, or are no reply. Then *reply has the answer 255, which is not 'done', and
+ * 0 in all other fields. Lend it the bytes that the run wrote, 24 * its number, and no more. */
+XAPOOL_MUST_USE
 static inline int xapool_read_reply(const uint8_t *replies, size_t bytes, size_t number, xapool_reply *reply)
 {
+    static const xapool_reply none = { 0, XAPOOL_NO_REPLY, 0, 0, 0, 0, 0 };
     const uint8_t *at;
+    *reply = none;
     if (number >= bytes / XAPOOL_REPLY_BYTES)
         return 0;
     at = replies + XAPOOL_REPLY_BYTES * number;
@@ -435,41 +505,92 @@ typedef struct xapool_listed {
     uint64_t entry; /* 0: reserved; then order and marks are 0 as well */
 } xapool_listed;
 
-/* Reads entry 'number', from 0, out of the bytes of a list. Gives 0, and leaves *listed, if there is
- * none: the bytes end before it, or are no entry of a list. */
+/* The word of what was not read: neither an entry's nor 0, so no entry and not reserved. */
+#define XAPOOL_NO_ENTRY 2
+
+/* Whether a word is an entry's: odd, or a multiple of 4 other than 0. */
+XAPOOL_MUST_USE
+static inline int xapool_is_storable(uint64_t word)
+{
+    return (word & 1) != 0 || ((word & 3) == 0 && word != 0);
+}
+
+/* Reads entry 'number', from 0, out of the bytes of a list. Gives 0 if there is none: the bytes end
+ * before it, or are no entry that a pool can have. Then *listed has the entry XAPOOL_NO_ENTRY, and 0 in
+ * all other fields: it is no entry, not reserved and not matched. */
+XAPOOL_MUST_USE
 static inline int xapool_read_listed(const uint8_t *list, size_t bytes, size_t number, xapool_listed *listed)
 {
+    static const xapool_listed none = { 0, 0, 0, XAPOOL_NO_ENTRY };
+    xapool_listed read;
     const uint8_t *at;
+    *listed = none;
     if (number >= bytes / XAPOOL_LISTED_BYTES)
         return 0;
     at = list + XAPOOL_LISTED_BYTES * number;
+    read.order = at[XAPOOL_LISTED_AT_ORDER];
+    read.marks = at[XAPOOL_LISTED_AT_MARKS];
+    read.index = xapool_number_at(at + XAPOOL_LISTED_AT_INDEX, 8);
+    read.entry = xapool_number_at(at + XAPOOL_LISTED_AT_ENTRY, 8);
     if (at[0] != XAPOOL_LISTED || xapool_number_at(at + 1, 2) != XAPOOL_LISTED_BYTES - 3 ||
-        at[XAPOOL_LISTED_AT_ORDER] > XAPOOL_MAX_ORDER || at[XAPOOL_LISTED_AT_MARKS] >> XAPOOL_MARKS != 0)
+        read.order > XAPOOL_MAX_ORDER || read.marks >> XAPOOL_MARKS != 0 ||
+        (read.index & ((UINT64_C(1) << read.order) - 1)) != 0)
         return 0;
-    if (xapool_number_at(at + XAPOOL_LISTED_AT_ENTRY, 8) == 0 &&
-        (at[XAPOOL_LISTED_AT_ORDER] != 0 || at[XAPOOL_LISTED_AT_MARKS] != 0))
+    if (read.entry == 0 ? read.order != 0 || read.marks != 0 : !xapool_is_storable(read.entry))
         return 0;
-    listed->index = xapool_number_at(at + XAPOOL_LISTED_AT_INDEX, 8);
-    listed->order = at[XAPOOL_LISTED_AT_ORDER];
-    listed->entry = xapool_number_at(at + XAPOOL_LISTED_AT_ENTRY, 8);
-    listed->marks = at[XAPOOL_LISTED_AT_MARKS];
+    *listed = read;
     return 1;
 }
 
 /* Whether what was listed is a reserved index and no entry. */
+XAPOOL_MUST_USE
 static inline int xapool_is_reserved(const xapool_listed *listed)
 {
     return listed->entry == 0;
 }
 
+/* Whether it is an entry with the mark 'matched'. That is of its whole run and of this side alone. */
+XAPOOL_MUST_USE
+static inline int xapool_is_matched(const xapool_listed *listed)
+{
+    return xapool_is_storable(listed->entry) && (listed->marks >> XAPOOL_MATCHED_MARK & 1) != 0;
+}
+
 /* The last index that an entry covers. The one after it is not this plus 1: at 2^64 - 1 there is none. */
+XAPOOL_MUST_USE
 static inline uint64_t xapool_last_index(uint64_t base, uint8_t order)
 {
     return base | (order > XAPOOL_MAX_ORDER ? UINT64_MAX : (UINT64_C(1) << order) - 1);
 }
 
+/* Whether the bytes are a list, looked at as a whole: 0 and the number of its entries, or 3 and the place
+ * where the first record begins that no pool can give: it is cut, has another tag or length, an
+ * order above 63, a base that is no multiple of 2^order, a word that cannot be stored, marks above 7,
+ * is reserved with an order or marks, or begins before the record before it ends (unsorted, doubled,
+ * overlapping). A list of no bytes is a list, of nothing. That a list is whole it cannot say. */
+XAPOOL_MUST_USE
+static inline xapool_result xapool_read_list(const uint8_t *list, size_t bytes)
+{
+    xapool_result result = { XAPOOL_DONE, 0 };
+    xapool_listed listed;
+    uint64_t end = 0;
+    size_t number;
+    for (number = 0; XAPOOL_LISTED_BYTES * number < bytes; number++) {
+        if (!xapool_read_listed(list, bytes, number, &listed) || (number > 0 && listed.index <= end)) {
+            result.answer = XAPOOL_BAD_BATCH;
+            result.number = XAPOOL_LISTED_BYTES * number;
+            return result;
+        }
+        end = xapool_last_index(listed.index, listed.order);
+        result.number++;
+    }
+    return result;
+}
+
 /* Where a find up to 'last' goes on after this reply to it: after the run of the entry that it found,
- * or where it paused. Gives 1 and sets *first, or 0 if there is nothing left. */
+ * or where it paused. Gives 1 and sets *first, or 0 if there is nowhere to go: that is the end with
+ * answer 12, and with answer 0 where the entry reaches to last; with any other it is trouble. */
+XAPOOL_MUST_USE
 static inline int xapool_next_first(const xapool_reply *reply, uint64_t last, uint64_t *first)
 {
     uint64_t end;
@@ -491,6 +612,7 @@ static inline int xapool_next_first(const xapool_reply *reply, uint64_t last, ui
 #define XAPOOL_QUOTED(number) XAPOOL_QUOTED_(number)
 
 /* An answer as text. */
+XAPOOL_MUST_USE
 static inline const char *xapool_answer_text(uint64_t answer)
 {
     switch (answer) {
@@ -512,11 +634,13 @@ static inline const char *xapool_answer_text(uint64_t answer)
     case XAPOOL_PAUSED: return "paused";
     case XAPOOL_NOT_ALIGNED: return "index is not a multiple of 2^order";
     case XAPOOL_COVERED: return "index is covered by an entry or reserved";
+    case XAPOOL_NO_REPLY: return "no reply";
     default: return "no answer of this library";
     }
 }
 
 /* A verdict as text. */
+XAPOOL_MUST_USE
 static inline const char *xapool_verdict_text(uint64_t verdict)
 {
     switch (verdict) {

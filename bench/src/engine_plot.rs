@@ -1,10 +1,11 @@
 //! The library beside the engines as a picture: how many times an engine's time each load takes.
 
-use crate::engines::{Row, LIMIT};
-use crate::plot::{line, text};
+use crate::engines::LIMIT;
+use crate::figures::Table;
+use crate::plot::{label, line, picture, square, text};
 
 const WIDTH: f64 = 900.0;
-const TOP: f64 = 62.0;
+const TOP: f64 = 84.0;
 /// A load with its two bars.
 const HIGH: f64 = 34.0;
 const LEFT: f64 = 240.0;
@@ -12,43 +13,37 @@ const WIDE: f64 = 600.0;
 const COLOURS: [&str; 2] = ["#2b6cb0", "#dd6b20"];
 const NAMES: [&str; 2] = ["by the engine in safe Rust", "by the engine with raw pointers"];
 
-fn square(x: f64, y: f64, width: f64, colour: &str) -> String {
-    format!(
-        "<rect x=\"{x:.1}\" y=\"{y:.1}\" width=\"{width:.1}\" height=\"12\" fill=\"{colour}\"/>\n"
-    )
+/// The bar of one engine, and its figure apart: that is drawn over the lines.
+fn bar(ratio: f64, at: usize, y: f64, scale: f64) -> (String, String) {
+    let (y, wide) = (y + 14.0 * at as f64, scale * ratio.max(0.0));
+    let figure = label(LEFT + wide + 5.0, y + 10.0, "start", "#000", &format!("{ratio:.2}"));
+    (square(LEFT, y, (wide, 12.0), COLOURS[at]), figure)
 }
 
-/// A bar for each engine.
-fn bars(row: &Row, y: f64, scale: f64) -> String {
-    let mut out = text(LEFT - 10.0, y + 17.0, "end", row.name);
-    for (at, ratio) in row.ratios().iter().enumerate() {
-        let (y, wide) = (y + 14.0 * at as f64, scale * ratio.least.max(0.0));
-        out += &square(LEFT, y, wide, COLOURS[at]);
-        out += &text(LEFT + wide + 5.0, y + 10.0, "start", &format!("{:.2}", ratio.least));
-    }
-    out
-}
-
-pub fn svg(rows: &[Row]) -> String {
-    let ratios = rows.iter().flat_map(|row| row.ratios()).map(|ratio| ratio.least);
-    let scale = WIDE / ratios.fold(LIMIT, f64::max);
-    let height = TOP + HIGH * rows.len() as f64 + 10.0;
+/// From the text of docs/BENCHMARKS.md.
+pub fn svg(benchmarks: &str) -> Result<String, String> {
+    let table = Table::read(benchmarks, "load | commands | batches | library without the check")?;
+    let ratios = [table.column(6)?, table.column(7)?];
+    let scale = WIDE / ratios.iter().flatten().fold(LIMIT, |most, ratio| most.max(*ratio));
+    let height = TOP + HIGH * ratios[0].len() as f64 + 10.0;
     let title = "the library's time for a batch without the check, divided by an engine's";
-    let mut out = text(20.0, 22.0, "start", title);
+    let (mut out, mut figures) = (text(20.0, 22.0, "start", title), String::new());
     for (at, name) in NAMES.iter().enumerate() {
         let x = 20.0 + 220.0 * at as f64;
-        out += &(square(x, 32.0, 12.0, COLOURS[at]) + &text(x + 18.0, 42.0, "start", name));
+        out += &(square(x, 32.0, (12.0, 12.0), COLOURS[at]) + &text(x + 18.0, 42.0, "start", name));
     }
-    for (number, row) in rows.iter().enumerate() {
-        out += &bars(row, TOP + HIGH * number as f64, scale);
+    for (number, name) in table.names().into_iter().enumerate() {
+        let y = TOP + HIGH * number as f64;
+        out += &text(LEFT - 10.0, y + 17.0, "end", name);
+        for (at, column) in ratios.iter().enumerate() {
+            let (bar, figure) = bar(column[number], at, y, scale);
+            (out, figures) = (out + &bar, figures + &figure);
+        }
     }
-    for times in [1.0, LIMIT] {
+    for (times, name) in [(1.0, "as long"), (LIMIT, "twice as long")] {
         let x = LEFT + scale * times;
-        out += &line((x, TOP - 6.0), (x, height - 10.0), "#718096");
-        out += &text(x, TOP - 10.0, "middle", &format!("{times}"));
+        out += &line((x, TOP - 8.0), (x, height - 10.0), "#718096");
+        out += &text(x, TOP - 14.0, "middle", name);
     }
-    format!(
-        "<svg xmlns=\"http://www.w3.org/2000/svg\" width=\"{WIDTH}\" height=\"{height}\" viewBox=\"0 0 {WIDTH} {height}\" \
-         font-family=\"sans-serif\" font-size=\"12\">\n<rect width=\"100%\" height=\"100%\" fill=\"#fff\"/>\n{out}</svg>\n"
-    )
+    Ok(picture(WIDTH, height, &(out + &figures)))
 }

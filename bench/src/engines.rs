@@ -1,7 +1,6 @@
 //! The library beside the engines of engine/: the same batches in one process, in turns. Replies are
 //! compared byte for byte, batch by batch, in every round.
 
-use crate::engine_plot;
 use crate::library::Linked;
 use crate::loads::{dense, marked_finds, sparse, Load};
 use crate::loads::{BATCH_OF_ERASES, BATCH_OF_STORES, LARGEST};
@@ -286,8 +285,4 @@ pub fn measure(words: impl Iterator<Item = String>) -> Option<Result<(), String>
     let (rounds, indices) = options(words)?;
     let rows = rows(indices, rounds);
     Some(rows.map(|rows| println!("{}\n{}", table(&rows), verdict(&rows))))
-}
-
-pub fn picture(rows: &[Row]) -> String {
-    engine_plot::svg(rows)
 }

@@ -1,11 +1,13 @@
 //! bench: loads through xapool_run beside the engines of engine/, three of them also over a BTreeMap,
 //! the cost by nodes, that of free nodes, lists, and digests and comparisons. With `engines` that with
-//! the engines alone; with `against` two builds of the library in one run.
+//! the engines alone; with `against` two builds of the library in one run; with `redraw` the pictures
+//! of the figures that stand in BENCHMARKS.md.
 
 mod against;
 mod checks;
 mod engine_plot;
 mod engines;
+mod figures;
 mod finds;
 mod free;
 mod library;
@@ -39,6 +41,7 @@ usage: bench [--indices N] [--repeats N] [--small-repeats N] [--rounds N] [--wri
   --write     writes BENCHMARKS.md, engines.svg and benchmarks.svg to this folder
        bench engines ..   the loads beside the engines alone
        bench against ..   two builds in one run: scripts/bench-against
+       bench redraw DIR   engines.svg and benchmarks.svg anew, from DIR/BENCHMARKS.md; nothing is measured
 Exit status: 0 fine, 1 a call was refused or a file could not be written, 2 bad usage.";
 
 struct Options {
@@ -74,6 +77,7 @@ fn main() -> ExitCode {
     let (measured, usage) = match mode.as_str() {
         "against" => (against::run(env::args().skip(2)), against::USAGE),
         "engines" => (engines::measure(env::args().skip(2)), engines::USAGE),
+        "redraw" => (env::args().nth(2).map(|folder| redraw(&folder)), USAGE),
         _ => (options().map(|options| measure_all(&options)), USAGE),
     };
     match measured {
@@ -93,19 +97,16 @@ fn measure_all(options: &Options) -> Result<(), String> {
     let engines = engines::rows(options.indices, options.rounds)?;
     let engines_text = format!("{}\n{}\n", engines::table(&engines), engines::verdict(&engines));
     println!("{engines_text}");
-    let (tables, svg) = measure_alone(options)?;
+    let tables = measure_alone(options)?;
     println!("{tables}");
     match &options.write {
-        Some(folder) => {
-            put(folder, "engines.svg", &engines::picture(&engines))?;
-            write(folder, &engines_text, &tables, &svg)
-        }
+        Some(folder) => write(folder, &engines_text, &tables).and_then(|()| redraw(folder)),
         None => Ok(()),
     }
 }
 
-/// The tables without the engines, and their picture.
-fn measure_alone(options: &Options) -> Result<(String, String), String> {
+/// The tables without the engines.
+fn measure_alone(options: &Options) -> Result<String, String> {
     let count = options.indices;
     let sparse = loads::sparse(count, loads::BATCH_OF_STORES);
     let mut rows = Vec::new();
@@ -130,7 +131,7 @@ fn measure_alone(options: &Options) -> Result<(String, String), String> {
         table::lists(&lists),
         table::regions(&regions),
     ];
-    Ok((texts.join("\n"), plot::svg(&rows, &by_nodes)))
+    Ok(texts.join("\n"))
 }
 
 fn lists(indices: u64, repeats: u32) -> Result<Vec<ListRow>, String> {
@@ -195,7 +196,7 @@ const BESIDE: &str = "\
     Times and ratios are two: from the shortest time of each batch of all rounds, and from its median; each is the mean \
     over all batches. The library and the two engines of [engine/](../engine) take the same batches in one process, in \
     turns, and every reply of an engine is compared with the library's byte for byte. All are release builds, the engines \
-    by rustc at opt-level 3 (bench/Cargo.toml). An engine has nodes of its own and so no pool to check.";
+    by rustc at opt-level 3 (Cargo.toml). An engine has nodes of its own and so no pool to check.";
 
 /// What the others say.
 const ALONE: &str = "\
@@ -207,11 +208,22 @@ const ALONE: &str = "\
     order 0 alone and writes plain values. The GB/s of a \
     comparison are of each of the two regions. The two in Rust are the usual loops over one table and over eight.";
 
-fn write(folder: &str, engines: &str, tables: &str, svg: &str) -> Result<(), String> {
+/// The pictures, each with its name, of the text of BENCHMARKS.md.
+fn pictures(benchmarks: &str) -> Result<[(&'static str, String); 2], String> {
+    Ok([("engines.svg", engine_plot::svg(benchmarks)?), ("benchmarks.svg", plot::svg(benchmarks)?)])
+}
+
+fn redraw(folder: &str) -> Result<(), String> {
+    let path = Path::new(folder).join("BENCHMARKS.md");
+    let text = fs::read_to_string(&path).map_err(|error| format!("{}: {error}", path.display()))?;
+    pictures(&text)?.iter().try_for_each(|(name, svg)| put(folder, name, svg))
+}
+
+fn write(folder: &str, engines: &str, tables: &str) -> Result<(), String> {
     let command: Vec<String> = env::args().skip(1).collect();
     let text = format!(
         "# What a command costs\n\n\
-         Made by `cd bench && cargo run --release -- {}`, on {}. Do not edit.\n\n\
+         Made by `cargo run --release -p bench -- {}`, on {}. Do not edit.\n\n\
          ## Beside an engine in ordinary Rust\n\n{engines}\n{BESIDE}\n\n\
          ![times an engine's time](engines.svg)\n\n\
          ## By itself\n\n{tables}\n{ALONE}\n\n\
@@ -219,6 +231,5 @@ fn write(folder: &str, engines: &str, tables: &str, svg: &str) -> Result<(), Str
         command.join(" "),
         processor()
     );
-    put(folder, "BENCHMARKS.md", &text)?;
-    put(folder, "benchmarks.svg", svg)
+    put(folder, "BENCHMARKS.md", &text)
 }

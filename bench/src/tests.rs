@@ -143,7 +143,8 @@ fn loads_beside_the_engines_run() -> Result<(), String> {
         row.commands > 0 && row.ratios_with_check().iter().all(|ratio| ratio.least > 0.0)
     };
     assert!(rows.iter().all(good));
-    assert!(engines::picture(&rows).contains("marked finds"));
+    assert!(crate::engine_plot::svg(&engines::table(&rows))
+        .is_ok_and(|svg| svg.contains("marked finds")));
     assert_eq!(engines::table(&rows).lines().count(), rows.len() + 2);
     Ok(())
 }
@@ -220,4 +221,23 @@ fn a_table_of_three_sizes() {
                    | 16,384 against 40 | check a batch at 40, 1,000, 16,384 |";
     let row = "| one | 5.0 | 15.0 | 35.0 | 7.00 times | 50, 50, 50 ns |";
     assert_eq!(text, format!("{heading}\n|---|---|---|---|---|---|\n{row}\n"));
+}
+
+/// The pictures of docs/ are those of the figures that stand beside them, and another figure is another picture.
+#[test]
+fn pictures_are_of_the_figures() {
+    let text = include_str!("../../docs/BENCHMARKS.md");
+    let there = [include_str!("../../docs/engines.svg"), include_str!("../../docs/benchmarks.svg")];
+    for ((name, svg), there) in crate::pictures(text).expect("pictures").into_iter().zip(there) {
+        assert!(
+            svg == there,
+            "docs/{name} is not drawn from docs/BENCHMARKS.md: bench redraw docs"
+        );
+    }
+    let altered =
+        text.replacen("| 1.42, 1.41 |", "| 1.52, 1.41 |", 1).replacen("| 13.9 |", "| 14.9 |", 1);
+    for ((name, svg), there) in crate::pictures(&altered).expect("pictures").into_iter().zip(there)
+    {
+        assert!(svg != there, "{name} does not follow its figures");
+    }
 }

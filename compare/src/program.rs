@@ -27,7 +27,7 @@ pub fn tamburish() -> PathBuf {
 }
 
 pub fn reference_program() -> PathBuf {
-    program("REFERENCE_BIN", "../reference/target/release/reference")
+    program("REFERENCE_BIN", "../build/release/reference")
 }
 
 fn program(variable: &str, default: &str) -> PathBuf {

@@ -3,6 +3,11 @@
 #include <stdio.h>
 #include <string.h>
 
+/* The word of a value is constant where the value is. */
+static const uint64_t words_of_values[] = { XAPOOL_VALUE(0), XAPOOL_VALUE(INT64_MAX), XAPOOL_VALUE(UINT64_C(1) << 63),
+                                            XAPOOL_VALUE(UINT64_MAX) };
+enum { WORD_OF_2 = XAPOOL_VALUE(2) };
+
 static int failures = 0;
 
 static void check(int holds, const char *what, int line)
@@ -58,6 +63,19 @@ static void records_are_those_of_the_document(void)
     CHECK(b.commands == 3 + (XAPOOL_BATCH_BYTES - 53) / XAPOOL_LOAD_BYTES);
 }
 
+/* What is left where there is no reply: an answer that is not 'done', and nothing else. */
+static int is_no_reply(const xapool_reply *r)
+{
+    return r->answer == XAPOOL_NO_REPLY && r->tag == 0 && r->order == 0 && r->marks == 0 && r->count == 0 && r->index == 0 &&
+           r->entry == 0;
+}
+
+static void not_read(const uint8_t *bytes, size_t count, size_t number)
+{
+    xapool_reply r = { XAPOOL_STORE, XAPOOL_DONE, 1, 1, 1, 1, 1 };
+    CHECK(!xapool_read_reply(bytes, count, number, &r) && is_no_reply(&r));
+}
+
 static void replies_are_read_or_not(void)
 {
     uint8_t bytes[48] = { 0x82, 0, 21, 10, 1, 2, 3, 4, 5, 6, 7, 8, 9, 0, 0, 0, 0, 0, 0, 1, 5, 7, 1, 2 };
@@ -66,13 +84,16 @@ static void replies_are_read_or_not(void)
     CHECK(xapool_read_reply(bytes, 24, 0, &r));
     CHECK(r.tag == XAPOOL_LOAD && r.answer == XAPOOL_ABSENT && r.index == UINT64_C(0x0102030405060708));
     CHECK(r.order == 9 && r.entry == 261 && r.marks == 7 && r.count == 258);
-    CHECK(!xapool_read_reply(bytes, 23, 0, &r) && !xapool_read_reply(bytes, 24, 1, &r));
-    CHECK(!xapool_read_reply(bytes, 48, 1, &r) && !xapool_read_reply(bytes, 48, SIZE_MAX, &r));
-    static const uint8_t wrong[][2] = { { 0, 128 }, { 0, 136 }, { 1, 1 }, { 2, 20 }, { 3, 16 } };
-    for (unsigned i = 0; i < 5; i++) {
+    not_read(bytes, 23, 0);
+    not_read(bytes, 24, 1);
+    not_read(bytes, 48, 1);
+    not_read(bytes, 48, SIZE_MAX);
+    not_read(NULL, 0, 0);
+    static const uint8_t wrong[][2] = { { 0, 128 }, { 0, 136 }, { 1, 1 }, { 2, 20 }, { 3, 16 }, { 3, 255 } };
+    for (unsigned i = 0; i < sizeof wrong / sizeof *wrong; i++) {
         uint8_t old = bytes[wrong[i][0]];
         bytes[wrong[i][0]] = wrong[i][1];
-        CHECK(!xapool_read_reply(bytes, 24, 0, &r) && r.count == 258);
+        not_read(bytes, 24, 0);
         bytes[wrong[i][0]] = old;
     }
     bytes[0] = 135;
@@ -80,36 +101,112 @@ static void replies_are_read_or_not(void)
     CHECK(xapool_read_reply(bytes, 24, 0, &r) && r.tag == XAPOOL_RESERVE && r.answer == XAPOOL_COVERED);
 }
 
+static void marks_alone_match_nothing(void)
+{
+    static const xapool_listed bare[] = { { 0, 7, 1, 0 }, { 0, 7, 1, XAPOOL_NO_ENTRY }, { 0, 7, 1, XAPOOL_RESERVED_WORD } };
+    for (unsigned i = 0; i < 3; i++)
+        CHECK(!xapool_is_matched(&bare[i]));
+}
+
+/* What is left where nothing was listed is no entry, not reserved and not matched. */
+static void not_listed(const uint8_t *bytes, size_t count, size_t number)
+{
+    xapool_listed e = { 1, 7, 1, 1 };
+    CHECK(xapool_is_matched(&e) && !xapool_read_listed(bytes, count, number, &e));
+    CHECK(e.entry == XAPOOL_NO_ENTRY && e.marks == 0 && e.order == 0 && e.index == 0);
+    CHECK(!xapool_is_storable(e.entry) && !xapool_is_reserved(&e) && !xapool_is_matched(&e));
+}
+
 static void listed_entries_are_read_or_not(void)
 {
-    uint8_t bytes[42] = { 32, 0, 18, 1, 2, 3, 4, 5, 6, 7, 8, 63, 0, 0, 0, 0, 0, 0, 1, 5, 7 };
+    uint8_t bytes[42] = { 32, 0, 18, 1, 2, 3, 4, 5, 6, 7, 8, 3, 0, 0, 0, 0, 0, 0, 1, 5, 7 };
     xapool_listed e;
     memset(&e, 0, sizeof e);
     CHECK(XAPOOL_LISTING(2) == sizeof bytes);
     CHECK(xapool_read_listed(bytes, 21, 0, &e));
-    CHECK(e.index == UINT64_C(0x0102030405060708) && e.order == 63 && e.entry == 261 && e.marks == 7);
-    CHECK(!xapool_read_listed(bytes, 20, 0, &e) && !xapool_read_listed(bytes, 21, 1, &e));
-    CHECK(!xapool_read_listed(bytes, 42, 1, &e) && !xapool_read_listed(bytes, 42, SIZE_MAX, &e));
+    CHECK(e.index == UINT64_C(0x0102030405060708) && e.order == 3 && e.entry == 261 && e.marks == 7);
+    CHECK(xapool_is_storable(e.entry) && !xapool_is_reserved(&e) && xapool_is_matched(&e));
+    not_listed(bytes, 20, 0);
+    not_listed(bytes, 21, 1);
+    not_listed(bytes, 42, 1);
+    not_listed(bytes, 42, SIZE_MAX);
     memcpy(bytes + 21, bytes, 21);
-    bytes[31] = 9;
-    CHECK(xapool_read_listed(bytes, 42, 1, &e) && e.index == UINT64_C(0x0102030405060709));
-    static const uint8_t wrong[][2] = { { 0, 33 }, { 1, 1 }, { 2, 17 }, { 11, 64 }, { 20, 8 } };
-    for (unsigned i = 0; i < 5; i++) {
+    bytes[31] = 16;
+    bytes[41] = 3;
+    CHECK(xapool_read_listed(bytes, 42, 1, &e) && e.index == UINT64_C(0x0102030405060710) && !xapool_is_matched(&e));
+    /* Tag, length, order, marks; a base that is no multiple of 8; words that end in binary 10. */
+    static const uint8_t wrong[][2] = { { 0, 33 }, { 1, 1 },  { 2, 17 }, { 11, 64 }, { 11, 255 }, { 11, 4 },
+                                        { 20, 8 }, { 10, 9 }, { 10, 4 }, { 19, 6 },  { 19, 2 } };
+    for (unsigned i = 0; i < sizeof wrong / sizeof *wrong; i++) {
         uint8_t old = bytes[wrong[i][0]];
         bytes[wrong[i][0]] = wrong[i][1];
-        CHECK(!xapool_read_listed(bytes, 21, 0, &e) && e.entry == 261);
+        not_listed(bytes, 21, 0);
         bytes[wrong[i][0]] = old;
     }
-    CHECK(!xapool_is_reserved(&e));
     /* Entry 0 is a reserved index: of order 0, without marks. */
     bytes[18] = bytes[19] = 0;
-    CHECK(!xapool_read_listed(bytes, 21, 0, &e));
+    not_listed(bytes, 21, 0);
     bytes[20] = 0;
-    CHECK(!xapool_read_listed(bytes, 21, 0, &e));
+    not_listed(bytes, 21, 0);
     bytes[11] = 0;
     CHECK(xapool_read_listed(bytes, 21, 0, &e) && xapool_is_reserved(&e) && e.index == UINT64_C(0x0102030405060708));
-    bytes[20] = 1;
-    CHECK(!xapool_read_listed(bytes, 21, 0, &e));
+    CHECK(!xapool_is_matched(&e) && !xapool_is_storable(e.entry));
+    bytes[20] = 4;
+    not_listed(bytes, 21, 0);
+}
+
+/* A list of these records, each its base, order, word and marks; 'bad' is the number of the first that no pool gives. */
+static void list_of(const uint64_t (*records)[4], unsigned count, unsigned bad)
+{
+    uint8_t bytes[4 * XAPOOL_LISTED_BYTES];
+    xapool_batch b = xapool_batch_over(bytes, sizeof bytes);
+    for (unsigned i = 0; i < count; i++) {
+        xapool_put_number(&b, XAPOOL_LISTED, 1);
+        xapool_put_number(&b, XAPOOL_LISTED_BYTES - 3, 2);
+        xapool_put_number(&b, records[i][0], 8);
+        xapool_put_number(&b, records[i][1], 1);
+        xapool_put_number(&b, records[i][2], 8);
+        xapool_put_number(&b, records[i][3], 1);
+    }
+    xapool_result r = xapool_read_list(bytes, b.used);
+    CHECK(bad < count ? r.answer == XAPOOL_BAD_BATCH && r.number == XAPOOL_LISTING(bad)
+                      : r.answer == XAPOOL_DONE && r.number == count);
+    for (unsigned cut = 1; cut < XAPOOL_LISTED_BYTES && bad >= count; cut++) {
+        r = xapool_read_list(bytes, b.used - cut);
+        CHECK(r.answer == XAPOOL_BAD_BATCH && r.number == XAPOOL_LISTING(count - 1));
+    }
+}
+
+/* Lists that no pool can give are refused, with the place of the first such record. */
+static void lists_are_looked_at_as_a_whole(void)
+{
+    static const struct {
+        uint64_t records[3][4];
+        unsigned bad;
+    } lists[] = {
+        { { { 0, 0, 3, 0 }, { 8, 3, 5, 7 }, { 16, 0, 4, 1 } }, 3 },
+        { { { 0, 63, 3, 0 }, { UINT64_C(1) << 63, 63, 3, 0 }, { UINT64_MAX, 0, 3, 0 } }, 2 },
+        { { { 5, 0, 0, 0 }, { 6, 0, 0, 0 }, { UINT64_MAX, 0, UINT64_MAX, 0 } }, 3 },
+        { { { 64, 0, 3, 0 }, { 63, 0, 3, 0 }, { 65, 0, 3, 0 } }, 1 }, /* unsorted */
+        { { { 64, 0, 3, 0 }, { 64, 0, 3, 0 }, { 65, 0, 3, 0 } }, 1 }, /* doubled */
+        { { { 5, 0, 0, 0 }, { 5, 0, 3, 0 }, { 65, 0, 3, 0 } }, 1 },   /* reserved, and an entry */
+        { { { 0, 0, 3, 0 }, { 0, 0, 3, 0 }, { 1, 0, 3, 0 } }, 1 },
+        { { { 8, 3, 3, 0 }, { 15, 0, 3, 0 }, { 16, 0, 3, 0 } }, 1 },  /* overlapping */
+        { { { 0, 0, 3, 0 }, { 8, 3, 3, 0 }, { 12, 2, 3, 0 } }, 2 },
+        { { { 0, 0, 3, 0 }, { 9, 3, 3, 0 }, { 16, 0, 3, 0 } }, 1 },   /* a crooked base */
+        { { { 0, 0, 3, 0 }, { 9, 0, 6, 0 }, { 16, 0, 3, 0 } }, 1 },   /* words that cannot be stored */
+        { { { 0, 0, 3, 0 }, { 9, 0, 3, 0 }, { 16, 0, 1030, 0 } }, 2 },
+        { { { 0, 0, 2, 0 }, { 9, 0, 3, 0 }, { 16, 0, 3, 0 } }, 0 },
+        { { { 0, 64, 3, 0 }, { 9, 0, 3, 0 }, { 16, 0, 3, 0 } }, 0 },  /* an order, marks */
+        { { { 0, 0, 3, 8 }, { 9, 0, 3, 0 }, { 16, 0, 3, 0 } }, 0 },
+        { { { 0, 0, 3, 0 }, { 8, 1, 0, 0 }, { 16, 0, 3, 0 } }, 1 },   /* reserved, with an order or marks */
+        { { { 0, 0, 3, 0 }, { 8, 0, 0, 1 }, { 16, 0, 3, 0 } }, 1 },
+    };
+    for (unsigned i = 0; i < sizeof lists / sizeof *lists; i++)
+        list_of(lists[i].records, 3, lists[i].bad);
+    static const uint8_t wrong[2][21] = { { 33, 0, 18 }, { 32, 0, 17 } };
+    CHECK(xapool_read_list(wrong[0], 21).answer == XAPOOL_BAD_BATCH && xapool_read_list(wrong[1], 21).answer == XAPOOL_BAD_BATCH);
+    CHECK(xapool_read_list(NULL, 0).answer == XAPOOL_DONE && xapool_read_list(NULL, 0).number == 0);
 }
 
 /* A call that lists into 'bytes' bytes; 'written' of them change, all others stay. */
@@ -132,15 +229,16 @@ static void a_list_is_whole_or_not_at_all(void)
     static const uint8_t both[] = { 32, 0, 18, 0, 0, 0, 0, 0, 0, 0, 8,  3, 0, 0, 0, 0, 0, 0, 0, 3, 0,
                                     32, 0, 18, 0, 0, 0, 0, 0, 0, 0, 64, 0, 0, 0, 0, 0, 0, 0, 0, 5, 5 };
     static uint64_t pool[XAPOOL_WORDS(3)];
-    uint8_t bytes[100], replies[XAPOOL_REPLIES(4)];
+    uint8_t bytes[100], replies[XAPOOL_REPLIES(4)] = { 0 };
     xapool_batch b = xapool_batch_over(bytes, sizeof bytes);
-    xapool_put_store(&b, 8, 3, XAPOOL_VALUE(1));
-    xapool_put_store(&b, 64, 0, XAPOOL_VALUE(2));
-    xapool_put_mark(&b, 64, 0);
-    xapool_put_mark(&b, 64, 2);
-    xapool_init(pool, XAPOOL_WORDS(3));
+    CHECK(xapool_put_store(&b, 8, 3, XAPOOL_VALUE(1)));
+    CHECK(xapool_put_store(&b, 64, 0, XAPOOL_VALUE(2)));
+    CHECK(xapool_put_mark(&b, 64, 0));
+    CHECK(xapool_put_mark(&b, 64, 2));
+    CHECK(xapool_init(pool, XAPOOL_WORDS(3)).answer == XAPOOL_DONE);
     CHECK(xapool_run(pool, XAPOOL_WORDS(3), bytes, b.used, replies, sizeof replies).number == 4);
     lists(pool, 0, UINT64_MAX, 64, XAPOOL_DONE, 2, both);
+    CHECK(xapool_read_list(both, sizeof both).number == 2);
     lists(pool, 15, 64, 42, XAPOOL_DONE, 2, both);
     lists(pool, 15, 64, 41, XAPOOL_REPLY_SPACE, 2, NULL);
     lists(pool, 15, 64, 0, XAPOOL_REPLY_SPACE, 2, NULL);
@@ -157,7 +255,7 @@ static void a_list_is_whole_or_not_at_all(void)
 /* What the commands of a batch are answered with. */
 static void answers(uint64_t *pool, xapool_batch *b, const uint8_t *wanted)
 {
-    uint8_t replies[XAPOOL_REPLIES(8)];
+    uint8_t replies[XAPOOL_REPLIES(8)] = { 0 };
     xapool_result r = xapool_run(pool, XAPOOL_WORDS(2), b->bytes, b->used, replies, sizeof replies);
     CHECK(r.answer == XAPOOL_DONE && r.number == b->commands);
     for (size_t i = 0; i < b->commands; i++) {
@@ -174,26 +272,26 @@ static void a_reserved_index_is_held_and_absent(void)
     static const uint8_t taken[] = { 15, 0, 0, 0, 10 };
     static const uint8_t listed[] = { 32, 0, 18, 0, 0, 0, 0, 0, 0, 0, 5, 0, 0, 0, 0, 0, 0, 0, 0, 0, 0 };
     static uint64_t pool[XAPOOL_WORDS(2)];
-    uint8_t bytes[200], list[21];
+    uint8_t bytes[200], list[21] = { 0 };
     xapool_batch b = xapool_batch_over(bytes, sizeof bytes);
-    xapool_init(pool, XAPOOL_WORDS(2));
-    xapool_put_reserve(&b, 5);
-    xapool_put_reserve(&b, 5);
-    xapool_put_reserve(&b, 70);
-    xapool_put_load(&b, 5);
-    xapool_put_mark(&b, 5, 0);
-    xapool_put_unmark(&b, 5, 0);
-    xapool_put_find(&b, 0, UINT64_MAX, XAPOOL_FIND_ANY, 100);
-    xapool_put_reserve(&b, 6);
+    CHECK(xapool_init(pool, XAPOOL_WORDS(2)).answer == XAPOOL_DONE);
+    CHECK(xapool_put_reserve(&b, 5));
+    CHECK(xapool_put_reserve(&b, 5));
+    CHECK(xapool_put_reserve(&b, 70));
+    CHECK(xapool_put_load(&b, 5));
+    CHECK(xapool_put_mark(&b, 5, 0));
+    CHECK(xapool_put_unmark(&b, 5, 0));
+    CHECK(xapool_put_find(&b, 0, UINT64_MAX, XAPOOL_FIND_ANY, 100));
+    CHECK(xapool_put_reserve(&b, 6));
     answers(pool, &b, held);
     CHECK(pool[XAPOOL_WORDS(0) + XAPOOL_SLOT_FIELD + 5] == XAPOOL_RESERVED_WORD);
     xapool_result r = xapool_list(pool, XAPOOL_WORDS(2), 0, 5, list, sizeof list);
     CHECK(r.answer == XAPOOL_DONE && r.number == 1 && memcmp(list, listed, sizeof list) == 0);
-    xapool_put_reserve(&b, 6);
-    xapool_put_store(&b, 5, 0, XAPOOL_VALUE(2));
-    xapool_put_load(&b, 5);
-    xapool_put_erase(&b, 6);
-    xapool_put_erase(&b, 6);
+    CHECK(xapool_put_reserve(&b, 6));
+    CHECK(xapool_put_store(&b, 5, 0, XAPOOL_VALUE(2)));
+    CHECK(xapool_put_load(&b, 5));
+    CHECK(xapool_put_erase(&b, 6));
+    CHECK(xapool_put_erase(&b, 6));
     answers(pool, &b, taken);
 }
 
@@ -224,6 +322,45 @@ static void finds_go_on_after_the_run(void)
     next(XAPOOL_BAD_MARK, 0, 0, UINT64_MAX, 0, 0);
 }
 
+/* A value below 2^63 has its word; any other, also one below 0, has 0. The value is evaluated once. */
+static void values_are_not_cut(void)
+{
+    static const uint64_t words[] = { 1, UINT64_MAX, 0, 0 };
+    static const uint64_t values[] = { 0, UINT64_MAX >> 1, UINT64_C(1) << 63, UINT64_MAX };
+    uint64_t value = 7;
+    int64_t below = -1;
+    for (unsigned i = 0; i < 4; i++)
+        CHECK(words_of_values[i] == words[i] && XAPOOL_VALUE(values[i]) == words[i] && xapool_value(values[i]) == words[i]);
+    CHECK(WORD_OF_2 == 5 && XAPOOL_VALUE(value++) == 15 && value == 8);
+    below -= failures < 0; /* no constant */
+#ifdef __cplusplus
+    CHECK(XAPOOL_VALUE(static_cast<uint64_t>(below)) == 0);
+#else
+    CHECK(XAPOOL_VALUE((uint64_t)below) == 0);
+#endif
+}
+
+/* Fields that do not fit are refused with their number: order 259 is not order 3, nor mark 258 mark 2. */
+static void fields_are_not_cut(void)
+{
+    static const uint8_t wanted[] = { 0, 5, 5, 5, 6, 7, 7, 7 };
+    static const uint8_t found[] = { 7, 7, 7, 9, 0, 0 };
+    static uint64_t pool[XAPOOL_WORDS(2)];
+    uint8_t bytes[200];
+    xapool_batch b = xapool_batch_over(bytes, sizeof bytes);
+    CHECK(xapool_init(pool, XAPOOL_WORDS(2)).answer == XAPOOL_DONE);
+    CHECK(xapool_put_store(&b, 8, 3, XAPOOL_VALUE(2)) && xapool_put_store(&b, 16, 259, XAPOOL_VALUE(2)));
+    CHECK(xapool_put_store(&b, 16, 64, XAPOOL_VALUE(2)) && xapool_put_store(&b, 0, UINT64_MAX, XAPOOL_VALUE(2)));
+    CHECK(xapool_put_store(&b, 16, 0, XAPOOL_VALUE(UINT64_C(1) << 63 | 2)) && xapool_put_mark(&b, 8, 258));
+    CHECK(xapool_put_mark(&b, 8, 256) && xapool_put_unmark(&b, 8, UINT64_C(1) << 32));
+    answers(pool, &b, wanted);
+    CHECK(xapool_put_find(&b, 0, 99, 259, 5) && xapool_put_find(&b, 0, 99, 256, 5) && xapool_put_find(&b, 0, 99, 4, 5));
+    CHECK(xapool_put_find(&b, 0, 99, 3, 0) && xapool_put_find(&b, 0, 99, 3, 65536) && xapool_put_find(&b, 0, 99, 3, 70000));
+    CHECK(bytes[22 * 5 + 20] == 255 && bytes[22 * 5 + 21] == 255);
+    answers(pool, &b, found);
+    CHECK(xapool_list(pool, XAPOOL_WORDS(2), 0, UINT64_MAX, NULL, 0).number == 1);
+}
+
 /* The largest pool and one node more; the longest batch and one byte more. */
 static void limits(void)
 {
@@ -231,7 +368,7 @@ static void limits(void)
     static uint8_t bytes[XAPOOL_BATCH_BYTES + 1], replies[XAPOOL_REPLIES(XAPOOL_MAX_COMMANDS)];
     xapool_batch b = xapool_batch_over(bytes, sizeof bytes);
     while (b.room - b.used > 10 * XAPOOL_MARK_BYTES)
-        xapool_put_load(&b, 0);
+        CHECK(xapool_put_load(&b, 0));
     while (xapool_put_mark(&b, 0, 0)) {
     }
     CHECK(XAPOOL_WORDS(XAPOOL_MAX_NODES) == 1146884 && b.used == 32768 && b.commands == XAPOOL_MAX_COMMANDS);
@@ -239,7 +376,7 @@ static void limits(void)
     CHECK(xapool_init(pool, XAPOOL_WORDS(XAPOOL_MAX_NODES)).answer == XAPOOL_DONE);
     xapool_result r = xapool_run(pool, XAPOOL_WORDS(1), bytes, b.used, replies, sizeof replies);
     CHECK(r.answer == XAPOOL_NOT_WELL_FORMED);
-    xapool_init(pool, XAPOOL_WORDS(1));
+    CHECK(xapool_init(pool, XAPOOL_WORDS(1)).answer == XAPOOL_DONE);
     r = xapool_run(pool, XAPOOL_WORDS(1), bytes, b.used, replies, sizeof replies);
     CHECK(r.answer == XAPOOL_DONE && r.number == XAPOOL_MAX_COMMANDS);
     r = xapool_run(pool, XAPOOL_WORDS(1), bytes, b.used + 1, replies, sizeof replies);
@@ -250,12 +387,12 @@ static void limits(void)
 static void nodes_count_their_slots(void)
 {
     uint64_t pool[XAPOOL_WORDS(4)];
-    uint8_t bytes[64], replies[XAPOOL_REPLIES(2)];
+    uint8_t bytes[64], replies[XAPOOL_REPLIES(2)] = { 0 };
     static const uint64_t counts[] = { 2, 1, 1, 0 };
     xapool_batch b = xapool_batch_over(bytes, sizeof bytes);
-    xapool_put_store(&b, 0, 0, 3);
-    xapool_put_store(&b, 64, 0, 5);
-    xapool_init(pool, XAPOOL_WORDS(4));
+    CHECK(xapool_put_store(&b, 0, 0, 3));
+    CHECK(xapool_put_store(&b, 64, 0, 5));
+    CHECK(xapool_init(pool, XAPOOL_WORDS(4)).answer == XAPOOL_DONE);
     CHECK(xapool_run(pool, XAPOOL_WORDS(4), bytes, b.used, replies, sizeof replies).number == 2);
     CHECK(XAPOOL_WORDS(4) == 284 && XAPOOL_NODE_WORDS == XAPOOL_SLOT_FIELD + XAPOOL_SLOTS);
     CHECK(pool[XAPOOL_WORDS(0) + XAPOOL_SLOT_FIELD + 1] == 4106 && pool[XAPOOL_WORDS(2) + XAPOOL_SLOT_FIELD] == 5);
@@ -276,12 +413,13 @@ static void answers_have_texts(void)
     CHECK(strcmp(xapool_answer_text(XAPOOL_TOO_FEW_NODES), "too few free nodes") == 0);
     CHECK(strcmp(xapool_answer_text(XAPOOL_POOL_LENGTH), "pool length is not 4 + 70 N words, N from 1 to 16384") == 0);
     CHECK(strcmp(xapool_answer_text(UINT64_MAX), xapool_answer_text(16)) == 0);
+    CHECK(strcmp(xapool_answer_text(XAPOOL_NO_REPLY), "no reply") == 0 && XAPOOL_NO_REPLY == 255);
     char version[32];
     sprintf(version, "%d.%d.%d", XAPOOL_VERSION_MAJOR, XAPOOL_VERSION_MINOR, XAPOOL_VERSION_PATCH);
     CHECK(strcmp(version, XAPOOL_VERSION) == 0);
 }
 
-/* Memory of zeros that nobody wrote must not read as a match. */
+/* A verdict of zeros that nobody wrote must not read as a match; regions of zeros that were read do match. */
 static void verdicts_have_texts(void)
 {
     static xapool_comparison nobody_wrote;
@@ -290,7 +428,8 @@ static void verdicts_have_texts(void)
         CHECK(strcmp(xapool_verdict_text(v), xapool_verdict_text(3)) != 0);
     CHECK(strcmp(xapool_verdict_text(XAPOOL_MATCHED), "matched") == 0);
     CHECK(strcmp(xapool_verdict_text(UINT64_MAX), xapool_verdict_text(3)) == 0);
-    uint8_t page[4] = { 1, 2, 3, 4 };
+    uint8_t page[4] = { 1, 2, 3, 4 }, zeros[2][4] = { { 0 } };
+    CHECK(xapool_compare(zeros[0], 4, zeros[1], 4).verdict == XAPOOL_MATCHED);
     CHECK(xapool_compare(page, 4, page, 4).verdict == XAPOOL_MATCHED);
     CHECK(xapool_compare(page, 4, page, 3).verdict == XAPOOL_DIFFERENT);
     CHECK(xapool_compare(page, 3, page + 1, 3).verdict == XAPOOL_DIFFERENT);
@@ -318,9 +457,9 @@ static void bytes_may_begin_anywhere(void)
         uint8_t bytes[64], replies[80];
         memset(replies, 0xee, sizeof replies);
         xapool_batch b = xapool_batch_over(bytes + at, 40);
-        xapool_put_store(&b, 64, 0, XAPOOL_VALUE(2));
-        xapool_put_load(&b, 64);
-        xapool_init(pool, XAPOOL_WORDS(3));
+        CHECK(xapool_put_store(&b, 64, 0, XAPOOL_VALUE(2)));
+        CHECK(xapool_put_load(&b, 64));
+        CHECK(xapool_init(pool, XAPOOL_WORDS(3)).answer == XAPOOL_DONE);
         xapool_result r = xapool_run(pool, XAPOOL_WORDS(3), b.bytes, b.used, replies + at, 48);
         xapool_reply load;
         CHECK(r.answer == XAPOOL_DONE && xapool_read_reply(replies + at, 48, 1, &load) && load.entry == 5);
@@ -341,6 +480,10 @@ int main(void)
     records_are_those_of_the_document();
     replies_are_read_or_not();
     listed_entries_are_read_or_not();
+    marks_alone_match_nothing();
+    lists_are_looked_at_as_a_whole();
+    values_are_not_cut();
+    fields_are_not_cut();
     a_list_is_whole_or_not_at_all();
     a_reserved_index_is_held_and_absent();
     finds_go_on_after_the_run();

@@ -1,20 +1,17 @@
-/* The inspection of a migration of 10,000 regions: store them (growing the pool where nodes run
+/* The records of one side of a migration of 10,000 regions: store them (growing the pool where nodes run
  * short), mark what was compared, split what differs, save and load, account for every region, and
- * list them as evidence.
+ * list them as evidence. inspection.c compares two sides.
  *
- * Mark 0 is kept inverted, 'not yet matched': a find has no filter for a missing mark.
+ * Mark 2 is 'matched', set after a comparison and cleared by a store. A region counts as matched only if a
+ * record with mark 2 is found for it: that is looked at region by region, by the plan.
  * host/examples/regions.rs is the same job in Rust and prints the same lines. */
-#include "xapool.h"
-#include <inttypes.h>
-#include <stdio.h>
-#include <stdlib.h>
-#include <string.h>
+#include "xapool_job.h"
 
 #define REGIONS 10000
 #define ENTRIES (2 * REGIONS) /* a region is split into two at most */
 #define LANES (XAPOOL_BATCH_BYTES / XAPOOL_FIND_BYTES)
 
-enum { UNMATCHED, DIFFERENT, REVIEW };
+enum { REVIEW, DIFFERENT, MATCHED = XAPOOL_MATCHED_MARK };
 
 typedef struct pool {
     uint64_t *words;
@@ -26,15 +23,8 @@ typedef struct entry {
     uint8_t order, marks;
 } entry;
 
-typedef struct command {
-    uint8_t tag, order_or_mark;
-    uint64_t index, word;
-} command;
-
 static entry entries[ENTRIES], expected[ENTRIES];
-static command commands[4 * ENTRIES];
-static xapool_reply replies[4 * ENTRIES];
-static size_t count; /* of commands */
+static xapool_reply replies[4 * ENTRIES]; /* to each command of the last job */
 
 static void fail(const char *what)
 {
@@ -44,7 +34,7 @@ static void fail(const char *what)
 
 static pool new_pool(size_t nodes)
 {
-    pool p = { malloc(8 * XAPOOL_WORDS(nodes)), nodes };
+    pool p = { calloc(XAPOOL_WORDS(nodes), 8), nodes };
     if (!p.words)
         fail("no memory");
     xapool_result r = xapool_init(p.words, XAPOOL_WORDS(nodes));
@@ -53,65 +43,50 @@ static pool new_pool(size_t nodes)
     return p;
 }
 
-/* Runs one batch; its replies go to 'replies' from 'first' on. */
-static void run_batch(pool *p, xapool_batch *batch, size_t first)
+static void keep(void *with, uint64_t command, const xapool_reply *reply)
 {
-    static uint8_t bytes[XAPOOL_REPLIES(XAPOOL_MAX_COMMANDS)];
-    xapool_result r = xapool_run(p->words, XAPOOL_WORDS(p->nodes), batch->bytes, batch->used, bytes, sizeof bytes);
-    if (r.answer != XAPOOL_DONE)
-        fail(xapool_answer_text(r.answer));
-    for (size_t i = 0; i < batch->commands; i++)
-        if (!xapool_read_reply(bytes, XAPOOL_REPLIES(r.number), i, &replies[first + i]))
-            fail("a reply is missing");
-    batch->used = batch->commands = 0;
+    (void)with;
+    if (command >= sizeof replies / sizeof *replies)
+        fail("too many commands");
+    replies[command] = *reply;
 }
 
-static int put(xapool_batch *batch, const command *c)
+/* A job on a pool, all of whose replies are kept. */
+static xapool_job job_on(pool *p)
 {
-    switch (c->tag) {
-    case XAPOOL_STORE: return xapool_put_store(batch, c->index, c->order_or_mark, c->word);
-    case XAPOOL_ERASE: return xapool_put_erase(batch, c->index);
-    case XAPOOL_MARK: return xapool_put_mark(batch, c->index, c->order_or_mark);
-    default: return xapool_put_unmark(batch, c->index, c->order_or_mark);
-    }
+    static uint8_t bytes[XAPOOL_BATCH_BYTES], space[XAPOOL_REPLIES(XAPOOL_MAX_COMMANDS)];
+    xapool_job job = xapool_job_over(p->words, XAPOOL_WORDS(p->nodes), bytes, sizeof bytes, space, sizeof space);
+    job.each = keep;
+    return job;
 }
 
-/* Runs all commands, in as many batches as they need. */
-static void run_all(pool *p)
+/* Every command of a job must have run. */
+static void must_run(xapool_job *job, int put)
 {
-    static uint8_t bytes[XAPOOL_BATCH_BYTES];
-    xapool_batch batch = xapool_batch_over(bytes, sizeof bytes);
-    for (size_t i = 0; i < count; i++) {
-        if (put(&batch, &commands[i]))
-            continue;
-        run_batch(p, &batch, i - batch.commands);
-        put(&batch, &commands[i]);
-    }
-    run_batch(p, &batch, count - batch.commands);
+    int ran = xapool_job_flush(job);
+    if (put && ran)
+        return;
+    xapool_job_print(job, stderr);
+    fail("the commands did not run");
 }
 
-static void add(uint8_t tag, uint64_t index, uint8_t order_or_mark, uint64_t word)
+/* And been done. */
+static void must_be_done(xapool_job *job, int put)
 {
-    commands[count].tag = tag;
-    commands[count].index = index;
-    commands[count].order_or_mark = order_or_mark;
-    commands[count++].word = word;
+    must_run(job, put);
+    if (job->not_done == 0)
+        return;
+    xapool_job_print(job, stderr);
+    fail("a command was not done");
 }
 
-static void add_entry(entry e)
+static int put_entry(xapool_job *job, entry e)
 {
-    add(XAPOOL_STORE, e.base, e.order, e.word);
+    int put = xapool_job_store(job, e.base, e.order, e.word);
     for (uint8_t mark = 0; mark < XAPOOL_MARKS; mark++)
         if (e.marks >> mark & 1)
-            add(XAPOOL_MARK, e.base, mark, 0);
-}
-
-static size_t answered(uint8_t answer)
-{
-    size_t number = 0;
-    for (size_t i = 0; i < count; i++)
-        number += replies[i].answer == answer;
-    return number;
+            put = put && xapool_job_mark(job, e.base, mark);
+    return put;
 }
 
 static int by_base(const void *a, const void *b)
@@ -124,7 +99,6 @@ static int by_base(const void *a, const void *b)
  * be dear: the range is cut into lanes, and a batch has a find for each lane that is not done. */
 static size_t list(pool *p, uint8_t filter)
 {
-    static uint8_t bytes[XAPOOL_BATCH_BYTES];
     static uint64_t start[LANES], first[LANES], last[LANES];
     size_t lane[LANES], lanes = LANES, found = 0;
     for (size_t i = 0; i < LANES; i++) {
@@ -133,14 +107,17 @@ static size_t list(pool *p, uint8_t filter)
         lane[i] = i;
     }
     while (lanes > 0) {
-        xapool_batch batch = xapool_batch_over(bytes, sizeof bytes);
+        xapool_job job = job_on(p);
+        int put = 1;
         for (size_t i = 0; i < lanes; i++)
-            xapool_put_find(&batch, first[lane[i]], last[lane[i]], filter, 1000);
-        run_batch(p, &batch, 0);
+            put = put && xapool_job_find(&job, first[lane[i]], last[lane[i]], filter, 1000);
+        must_run(&job, put);
         size_t left = 0;
         for (size_t i = 0; i < lanes; i++) {
             const xapool_reply *r = &replies[i];
             size_t l = lane[i];
+            if (r->answer != XAPOOL_DONE && r->answer != XAPOOL_PAUSED && r->answer != XAPOOL_ENDED)
+                fail(xapool_answer_text(r->answer));
             /* Where a run reaches into the next lane, that lane finds it again. */
             if (r->answer == XAPOOL_DONE && r->index >= start[l] && found < ENTRIES)
                 entries[found++] = (entry){ r->index, r->entry, r->order, r->marks };
@@ -158,21 +135,20 @@ static void grow(pool *p)
 {
     pool bigger = new_pool(2 * p->nodes < XAPOOL_MAX_NODES ? 2 * p->nodes : XAPOOL_MAX_NODES);
     size_t found = list(p, XAPOOL_FIND_ANY);
-    count = 0;
+    xapool_job job = job_on(&bigger);
+    int put = 1;
     for (size_t i = 0; i < found; i++)
-        add_entry(entries[i]);
-    run_all(&bigger);
-    if (answered(XAPOOL_DONE) != count)
-        fail("an entry does not fit the larger pool");
+        put = put && put_entry(&job, entries[i]);
+    must_be_done(&job, put);
     free(p->words);
     *p = bigger;
     printf("a pool of %zu nodes for %zu entries\n", p->nodes, found);
 }
 
-/* Region r: small ones side by side, nine large ones far away, and one at the last index. */
+/* The plan. Region r: small ones side by side, nine large ones far away, and one at the last index. */
 static entry region(uint64_t r)
 {
-    entry e = { 4 * r, XAPOOL_VALUE(r), (uint8_t)(r % 3), 1 << UNMATCHED };
+    entry e = { 4 * r, XAPOOL_VALUE(r), (uint8_t)(r % 3), 0 };
     if (r % 1000 == 999) {
         e.base = r == REGIONS - 1 ? UINT64_MAX : (r / 1000 + 1) << 40;
         e.order = r == REGIONS - 1 ? 0 : (uint8_t)(10 + r / 1000);
@@ -189,16 +165,16 @@ static size_t store_all(pool *p)
     for (uint64_t r = 0; r < REGIONS; r++)
         waiting[r] = r;
     for (;;) {
-        count = 0;
+        xapool_job job = job_on(p);
+        int put = 1;
         for (size_t i = 0; i < left; i++)
-            add_entry(region(waiting[i]));
-        run_all(p);
+            put = put && put_entry(&job, region(waiting[i]));
+        must_run(&job, put);
         size_t refused = 0;
         for (size_t i = 0; i < left; i++)
-            if (replies[2 * i].answer == XAPOOL_TOO_FEW_NODES)
+            if (replies[i].answer == XAPOOL_TOO_FEW_NODES)
                 waiting[refused++] = waiting[i];
-        /* The mark of a region that was not stored says that nothing is there. */
-        if (answered(XAPOOL_ABSENT) != refused || answered(XAPOOL_DONE) != count - 2 * refused)
+        if (job.ran != left || job.not_done != refused)
             fail("a store was answered with something else");
         shortages += refused;
         if (refused == 0)
@@ -212,92 +188,78 @@ static int is_different(uint64_t r) { return r % 7 == 3; }
 static int is_unread(uint64_t r) { return r % 13 == 6 && !is_different(r); }
 static int is_for_review(uint64_t r) { return r % 11 == 5; }
 
-/* What was compared: the regions that match lose mark 0. */
+/* What was compared: a region that matches gets mark 2, one that was not read gets no mark. */
 static void compare_all(pool *p)
 {
-    count = 0;
+    xapool_job job = job_on(p);
+    int put = 1;
     for (uint64_t r = 0; r < REGIONS; r++) {
         uint64_t index = region(r).base;
-        if (is_different(r))
-            add(XAPOOL_MARK, index, DIFFERENT, 0);
-        else if (!is_unread(r))
-            add(XAPOOL_UNMARK, index, UNMATCHED, 0);
+        if (!is_unread(r))
+            put = put && xapool_job_mark(&job, index, is_different(r) ? DIFFERENT : MATCHED);
         if (is_for_review(r))
-            add(XAPOOL_MARK, index, REVIEW, 0);
+            put = put && xapool_job_mark(&job, index, REVIEW);
     }
-    run_all(p);
-    if (answered(XAPOOL_DONE) != count)
-        fail("a region is missing");
+    must_be_done(&job, put);
 }
 
 /* An entry in two halves. A store inside it would replace its word alone, so it goes first. */
-static void add_split(entry e)
+static int put_split(xapool_job *job, entry e)
 {
-    entry half = e;
+    entry half = e, other;
     half.order--;
-    add(XAPOOL_ERASE, e.base, 0, 0);
-    add_entry(half);
-    half.base += UINT64_C(1) << half.order;
-    add_entry(half);
+    other = half;
+    other.base += UINT64_C(1) << half.order;
+    return xapool_job_erase(job, e.base) && put_entry(job, half) && put_entry(job, other);
 }
 
 /* Splits what differs. On a copy: if a store is refused after its erase, the pool still has it. */
 static size_t split_different(pool *p)
 {
     size_t found = list(p, DIFFERENT), split = 0;
-    count = 0;
-    for (size_t i = 0; i < found; i++)
-        if (entries[i].order > 0) {
-            add_split(entries[i]);
-            split++;
-        }
     pool copy = new_pool(p->nodes);
     memcpy(copy.words, p->words, 8 * XAPOOL_WORDS(p->nodes));
-    run_all(&copy);
-    if (answered(XAPOOL_DONE) != count)
-        fail("a half was refused");
+    xapool_job job = job_on(&copy);
+    int put = 1;
+    for (size_t i = 0; i < found; i++)
+        if (entries[i].order > 0) {
+            put = put && put_split(&job, entries[i]);
+            split++;
+        }
+    must_be_done(&job, put);
     free(p->words);
     *p = copy;
     return split;
 }
 
-/* Saves the pool to a file and loads it into other words. A digest is kept beside it: the check knows
- * the structure, not the entries. */
+/* Saves the pool to a file and loads it into other words, by its digest: the check knows the structure,
+ * not the entries. */
 static void save_and_load(pool *p)
 {
-    size_t size = 8 * XAPOOL_WORDS(p->nodes);
-    uint32_t digest = xapool_crc32c(0, (uint8_t *)p->words, size);
-    FILE *file = tmpfile();
-    if (!file || fwrite(p->words, 1, size, file) != size || fflush(file))
-        fail("cannot save the pool");
-    rewind(file);
+    char path[64];
     pool loaded = new_pool(p->nodes);
-    if (fread(loaded.words, 1, size, file) != size || fclose(file))
-        fail("cannot load the pool");
-    if (xapool_crc32c(0, (uint8_t *)loaded.words, size) != digest)
-        fail("the file has other bytes");
-    xapool_result r = xapool_check(loaded.words, XAPOOL_WORDS(loaded.nodes));
-    if (r.answer != XAPOOL_DONE)
-        fail(xapool_answer_text(r.answer));
+    snprintf(path, sizeof path, "/tmp/regions-%ld.pool", (long)getpid());
+    xapool_filed saved = xapool_save(path, p->words, XAPOOL_WORDS(p->nodes));
+    if (saved.trouble != XAPOOL_NO_TROUBLE)
+        fail(xapool_trouble_text(saved.trouble));
+    xapool_filed f = xapool_load(path, loaded.words, XAPOOL_WORDS(loaded.nodes), saved.digest);
+    if (unlink(path) != 0 || f.trouble != XAPOOL_NO_TROUBLE)
+        fail(xapool_trouble_text(f.trouble));
     free(p->words);
     *p = loaded;
-    printf("saved and loaded %zu bytes, digest %08" PRIx32 "\n", size, digest);
+    printf("saved and loaded %zu bytes, digest %08" PRIx32 "\n", 8 * XAPOOL_WORDS(p->nodes), saved.digest);
 }
 
-/* Goes through the unmatched regions below 4,000, ten steps at a time. */
+/* Goes through the matched regions below 4,000, ten steps at a time. */
 static void walk_with_pauses(pool *p)
 {
-    uint8_t bytes[XAPOOL_FIND_BYTES];
-    uint64_t first = 0;
-    size_t found = 0, pauses = 0;
-    do {
-        xapool_batch batch = xapool_batch_over(bytes, sizeof bytes);
-        xapool_put_find(&batch, first, 3999, UNMATCHED, 10);
-        run_batch(p, &batch, 0);
-        found += replies[0].answer == XAPOOL_DONE;
-        pauses += replies[0].answer == XAPOOL_PAUSED;
-    } while (xapool_next_first(&replies[0], 3999, &first));
-    printf("unmatched below 4000: %zu, with %zu pauses\n", found, pauses);
+    xapool_walk walk = xapool_walk_over(p->words, XAPOOL_WORDS(p->nodes), 0, 3999, MATCHED);
+    walk.budget = 10;
+    while (xapool_walk_next(&walk) == XAPOOL_WALK_FOUND) {
+    }
+    if (walk.outcome != XAPOOL_WALK_ENDED)
+        fail(xapool_trouble_text(walk.trouble));
+    printf("matched below 4000: %" PRIu64 ", with %" PRIu64 " pauses\n", walk.found, walk.pauses);
 }
 
 /* The entries that the rules above call for, by no other means than these rules. */
@@ -306,8 +268,8 @@ static size_t expect_all(void)
     size_t number = 0;
     for (uint64_t r = 0; r < REGIONS; r++) {
         entry e = region(r);
-        e.marks = (uint8_t)((is_different(r) || is_unread(r)) << UNMATCHED | is_different(r) << DIFFERENT |
-                            is_for_review(r) << REVIEW);
+        e.marks = (uint8_t)(is_for_review(r) << REVIEW | is_different(r) << DIFFERENT |
+                            (!is_different(r) && !is_unread(r)) << MATCHED);
         if (is_different(r) && e.order > 0) {
             e.order--;
             expected[number++] = e;
@@ -320,28 +282,26 @@ static size_t expect_all(void)
 }
 
 /* All entries once more, as an auditor gets them: the bytes of one list. */
-static void keep_evidence(const pool *p, size_t number)
+static xapool_taken keep_evidence(const pool *p, size_t number)
 {
-    size_t size = XAPOOL_LISTING(number);
-    uint8_t *bytes = malloc(size);
-    if (!bytes)
-        fail("no memory");
-    xapool_result r = xapool_list(p->words, XAPOOL_WORDS(p->nodes), 0, UINT64_MAX, bytes, size);
-    if (r.answer != XAPOOL_DONE)
-        fail(xapool_answer_text(r.answer));
+    xapool_taken list = xapool_take(p->words, XAPOOL_WORDS(p->nodes), 0, UINT64_MAX);
+    if (!list.bytes)
+        fail(xapool_trouble_text(list.trouble));
+    if (list.entries != number)
+        fail("the list is longer or shorter");
     for (size_t i = 0; i < number; i++) {
         xapool_listed is;
-        if (!xapool_read_listed(bytes, XAPOOL_LISTING(r.number), i, &is))
+        if (!xapool_read_listed(list.bytes, list.size, i, &is))
             fail("the list is too short");
         entry to_be = expected[i];
         if (is.index != to_be.base || is.order != to_be.order || is.entry != to_be.word || is.marks != to_be.marks)
             fail("the list has another entry");
     }
-    printf("%zu bytes of evidence, digest %08" PRIx32 "\n", size, xapool_crc32c(0, bytes, size));
-    free(bytes);
+    printf("%zu bytes of evidence, digest %08" PRIx32 "\n", list.size, xapool_crc32c(0, list.bytes, list.size));
+    return list;
 }
 
-static void account_for_all(pool *p)
+static size_t account_for_all(pool *p)
 {
     size_t number = expect_all(), found = list(p, XAPOOL_FIND_ANY), marked[XAPOOL_MARKS] = { 0 };
     if (found != number)
@@ -353,11 +313,58 @@ static void account_for_all(pool *p)
         for (int mark = 0; mark < XAPOOL_MARKS; mark++)
             marked[mark] += is.marks >> mark & 1;
     }
-    printf("%zu entries: %zu unmatched, %zu different, %zu for review\n", found, marked[0], marked[1], marked[2]);
+    printf("%zu entries: %zu for review, %zu different, %zu matched\n", found, marked[0], marked[1], marked[2]);
     for (uint8_t mark = 0; mark < XAPOOL_MARKS; mark++)
         if (list(p, mark) != marked[mark])
             fail("a find by mark misses some");
-    keep_evidence(p, number);
+    return number;
+}
+
+/* The record over an index, in a list; there must be one. */
+static xapool_listed record(const xapool_taken *list, uint64_t index)
+{
+    xapool_listed e;
+    size_t low = 0, high = list->entries;
+    while (high - low > 1) {
+        size_t middle = low + (high - low) / 2;
+        if (xapool_read_listed(list->bytes, list->size, middle, &e) && e.index <= index)
+            low = middle;
+        else
+            high = middle;
+    }
+    if (!xapool_read_listed(list->bytes, list->size, low, &e) || !xapool_is_storable(e.entry) || e.index > index ||
+        xapool_last_index(e.index, e.order) < index)
+        fail("a region has no record");
+    return e;
+}
+
+/* Whether all of a region has records with this mark. One that was split has two. */
+static int has_mark(const xapool_taken *list, entry region, int mark)
+{
+    uint64_t index = region.base, last = xapool_last_index(region.base, region.order);
+    int has = 1;
+    for (;;) {
+        xapool_listed over = record(list, index);
+        uint64_t end = xapool_last_index(over.index, over.order);
+        has = has && over.marks >> mark & 1;
+        if (end >= last)
+            return has;
+        index = end + 1;
+    }
+}
+
+/* Region by region, by the plan: what has no record with mark 2 is not matched, whatever the reason. */
+static void walk_the_plan(const xapool_taken *list)
+{
+    size_t matched = 0, different = 0;
+    for (uint64_t r = 0; r < REGIONS; r++) {
+        if (has_mark(list, region(r), MATCHED))
+            matched++;
+        if (has_mark(list, region(r), DIFFERENT))
+            different++;
+    }
+    printf("%zu of %d regions matched, %zu different, %zu not read: %s\n", matched, REGIONS, different,
+           REGIONS - matched - different, matched == REGIONS ? "to be signed" : "not to be signed");
 }
 
 int main(void)
@@ -369,8 +376,12 @@ int main(void)
     printf("split %zu regions\n", split_different(&p));
     save_and_load(&p);
     walk_with_pauses(&p);
-    account_for_all(&p);
+    xapool_taken list = keep_evidence(&p, account_for_all(&p));
+    walk_the_plan(&list);
+    free(list.bytes);
     free(p.words);
     puts("every region is accounted for");
+    if (fflush(stdout) != 0 || ferror(stdout))
+        fail("the account could not be written");
     return 0;
 }

@@ -15,20 +15,28 @@ static uint64_t pool[XAPOOL_WORDS(XAPOOL_MAX_NODES)];
 static uint8_t bytes[XAPOOL_BATCH_BYTES], replies[XAPOOL_REPLIES(XAPOOL_MAX_COMMANDS)];
 static uint8_t list[XAPOOL_LISTING(64 * XAPOOL_MAX_NODES)]; /* more entries than any pool has */
 
+/* A call that must be done; gives its number. */
+static uint64_t must(xapool_result r)
+{
+    if (r.answer != XAPOOL_DONE)
+        exit(1);
+    return r.number;
+}
+
 /* Commands of all kinds that build trees of every height and free them again. */
-static void put_one(xapool_batch *b, unsigned i)
+static int put_one(xapool_batch *b, unsigned i)
 {
     uint64_t index = UINT64_MAX >> (i * 7 % 64);
     uint8_t order = (uint8_t)(i * 5 % 64);
     switch (i % 8) {
-    case 0: xapool_put_erase(b, index); break;
-    case 1: xapool_put_mark(b, index, (uint8_t)(i % 3)); break;
-    case 2: xapool_put_unmark(b, index, (uint8_t)(i % 3)); break;
-    case 3: xapool_put_find(b, 0, UINT64_MAX, (uint8_t)(i % 4), 1000); break;
-    case 4: xapool_put_load(b, index); break;
-    case 5: xapool_put_store(b, 0, 0, XAPOOL_VALUE(i)); break;
-    case 7: xapool_put_store(b, index >> order << order, i % 16 == 7 ? order : 0, XAPOOL_VALUE(i)); break;
-    default: xapool_put_store(b, index, 0, XAPOOL_VALUE(i));
+    case 0: return xapool_put_erase(b, index);
+    case 1: return xapool_put_mark(b, index, i % 3);
+    case 2: return xapool_put_unmark(b, index, i % 3);
+    case 3: return xapool_put_find(b, 0, UINT64_MAX, i % 4, 1000);
+    case 4: return xapool_put_load(b, index);
+    case 5: return xapool_put_store(b, 0, 0, XAPOOL_VALUE(i));
+    case 7: return xapool_put_store(b, index >> order << order, i % 16 == 7 ? order : 0, XAPOOL_VALUE(i));
+    default: return xapool_put_store(b, index, 0, XAPOOL_VALUE(i));
     }
 }
 
@@ -37,25 +45,26 @@ static void put_one(xapool_batch *b, unsigned i)
 static void list_the_last_index(void)
 {
     xapool_batch b = xapool_batch_over(bytes, sizeof bytes);
-    xapool_put_store(&b, UINT64_MAX, 0, XAPOOL_VALUE(1));
-    xapool_run(pool, XAPOOL_WORDS(XAPOOL_MAX_NODES), b.bytes, b.used, replies, sizeof replies);
-    if (xapool_list(pool, XAPOOL_WORDS(XAPOOL_MAX_NODES), 0, UINT64_MAX, list, sizeof list).number != 1)
+    if (!xapool_put_store(&b, UINT64_MAX, 0, XAPOOL_VALUE(1)) ||
+        xapool_run(pool, XAPOOL_WORDS(XAPOOL_MAX_NODES), b.bytes, b.used, replies, sizeof replies).number != 1 ||
+        xapool_list(pool, XAPOOL_WORDS(XAPOOL_MAX_NODES), 0, UINT64_MAX, list, sizeof list).number != 1)
         exit(1);
 }
 
 static void *calls(void *argument)
 {
     size_t *ran = argument;
-    xapool_init(pool, XAPOOL_WORDS(XAPOOL_MAX_NODES));
+    must(xapool_init(pool, XAPOOL_WORDS(XAPOOL_MAX_NODES)));
     list_the_last_index();
     for (unsigned round = 0; round < 40; round++) {
         xapool_batch b = xapool_batch_over(bytes, sizeof bytes);
         for (unsigned i = 0; i < 400; i++)
-            put_one(&b, round * 401 + i);
-        *ran += xapool_run(pool, XAPOOL_WORDS(XAPOOL_MAX_NODES), b.bytes, b.used, replies, sizeof replies).number;
-        xapool_check(pool, XAPOOL_WORDS(XAPOOL_MAX_NODES));
-        xapool_count(b.bytes, b.used);
-        xapool_list(pool, XAPOOL_WORDS(XAPOOL_MAX_NODES), 0, UINT64_MAX, list, sizeof list);
+            if (!put_one(&b, round * 401 + i))
+                exit(1);
+        *ran += must(xapool_run(pool, XAPOOL_WORDS(XAPOOL_MAX_NODES), b.bytes, b.used, replies, sizeof replies));
+        must(xapool_check(pool, XAPOOL_WORDS(XAPOOL_MAX_NODES)));
+        must(xapool_count(b.bytes, b.used));
+        must(xapool_list(pool, XAPOOL_WORDS(XAPOOL_MAX_NODES), 0, UINT64_MAX, list, sizeof list));
     }
     return NULL;
 }

@@ -3,6 +3,7 @@
 use crate::layout::{ANCHOR_WORDS, NODE_WORDS};
 use crate::pool::MOST_NODES;
 use crate::raw::RawResult;
+use crate::reply::Replies;
 use std::fmt;
 
 /// The answer of a call (0 to 4; of a list also 8) or in a reply (0 and 5 to 15). As an error it is what a command was
@@ -209,6 +210,42 @@ impl fmt::Display for Refusal {
 }
 
 impl std::error::Error for Refusal {}
+
+/// A batch of several was refused. Those before it ran: what they did stands, and this is how they were
+/// answered.
+#[derive(Clone, Debug, PartialEq, Eq)]
+pub struct RefusedBatch {
+    /// Why.
+    pub refusal: Refusal,
+    /// The number of the batch that was refused, from 0: so many ran before it.
+    pub batch: usize,
+    /// The replies of those that ran.
+    pub replies: Replies,
+}
+
+impl fmt::Display for RefusedBatch {
+    fn fmt(&self, f: &mut fmt::Formatter) -> fmt::Result {
+        let RefusedBatch { refusal, batch, replies } = self;
+        match replies.len() {
+            0 => write!(f, "{refusal}"),
+            ran => write!(f, "batch {batch}: {refusal}; the {ran} commands before it ran"),
+        }
+    }
+}
+
+impl std::error::Error for RefusedBatch {}
+
+impl From<RefusedBatch> for Refusal {
+    fn from(refused: RefusedBatch) -> Refusal {
+        refused.refusal
+    }
+}
+
+impl From<RefusedBatch> for Error {
+    fn from(refused: RefusedBatch) -> Error {
+        Error::Refused(refused.refusal)
+    }
+}
 
 /// Why work of several commands stopped: a call was refused, or a command was answered with
 /// something that ends the work.

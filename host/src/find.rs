@@ -5,11 +5,11 @@
 //! are cut into lanes of equal width, the last lane is all that comes after them, and each goes on
 //! after what it found. The width follows how dense the entries are.
 
-use crate::answer::{Answer, Error};
+use crate::answer::Error;
 use crate::batch::{BatchBuilder, MOST_BATCH_BYTES};
-use crate::command::{Command, Tag};
+use crate::command::Command;
 use crate::pool::Pool;
-use crate::reply::{Entry, Reply};
+use crate::reply::Entry;
 use std::collections::VecDeque;
 use std::iter::FusedIterator;
 use std::ops::{Bound, RangeBounds};
@@ -29,7 +29,9 @@ struct Lane {
     found: Vec<Entry>,
 }
 
-/// The entries of a range in index order, each once: see [`Pool::find`]. After an error it ends.
+/// The entries of a range in index order, each once: see [`Pool::find`]. A pause is never its end. What
+/// cannot be searched is an error, after which it ends: that is no end of the entries, so take the errors
+/// out with `?`, or ask for [`Finds::all`].
 #[derive(Debug)]
 #[must_use = "an iterator does nothing until it is asked"]
 pub struct Finds<'p, 'w> {
@@ -70,6 +72,19 @@ impl<'p, 'w> Finds<'p, 'w> {
     /// it bounds how long one call takes.
     pub fn with_batch(self, finds: usize) -> Self {
         Finds { most: finds.clamp(1, MOST_FINDS), ..self }
+    }
+
+    /// All entries that are left, or the error: never a part of them.
+    ///
+    /// ```
+    /// # use xapool_host::{Answer, Error, Pool};
+    /// let mut pool = Pool::new(1)?;
+    /// assert_eq!(pool.find(.., 2).all(), Ok(vec![]));
+    /// assert_eq!(pool.find(.., 2).with_budget(0).all(), Err(Error::Answered(Answer::NoBudget)));
+    /// # Ok::<(), Box<dyn std::error::Error>>(())
+    /// ```
+    pub fn all(self) -> Result<Vec<Entry>, Error> {
+        self.collect()
     }
 
     /// How many batches were run so far, each with a check of the whole pool.
@@ -125,8 +140,8 @@ impl<'p, 'w> Finds<'p, 'w> {
         let replies = self.pool.run(&batch)?;
         let open = lanes.iter_mut().filter(|lane| lane.next.is_some());
         for (lane, reply) in open.zip(&replies) {
-            lane.found.extend(found(reply)?);
-            lane.next = reply.next_first(lane.last);
+            lane.next = reply.next_first(lane.last)?;
+            lane.found.extend(reply.entry());
         }
         Ok(())
     }
@@ -145,15 +160,6 @@ impl<'p, 'w> Finds<'p, 'w> {
 /// Whether something may be left in a lane other than the last, which goes to the end of the range.
 fn is_open(lanes: &[Lane]) -> bool {
     lanes.iter().rev().skip(1).any(|lane| lane.next.is_some())
-}
-
-/// The entry that a find gave, if it did; or an answer that is no end and no pause.
-fn found(reply: &Reply) -> Result<Option<Entry>, Error> {
-    match (reply.tag, reply.answer) {
-        (Tag::Find, Answer::Done) => Ok(reply.entry()),
-        (Tag::Find, Answer::Ended | Answer::Paused) => Ok(None),
-        (_, answer) => Err(Error::Answered(answer)),
-    }
 }
 
 /// First and last index of a range; none if it has no index.

@@ -1,5 +1,6 @@
 //! Where things stand among the words of a pool. The sizes stand here once for all tools in Rust;
-//! the C header has them too, and reference/ its own.
+//! the C header has them too, and reference/ its own. A number that no node has is of no place: the
+//! last one, which no words have.
 
 /// The words of the anchor.
 pub const ANCHOR_WORDS: usize = 4;
@@ -26,31 +27,31 @@ pub const RESERVED_WORD: u64 = 1030;
 /// The place of the first word of a node.
 #[must_use]
 pub fn node_place(number: usize) -> usize {
-    ANCHOR_WORDS + NODE_WORDS * number
+    NODE_WORDS.saturating_mul(number).saturating_add(ANCHOR_WORDS)
 }
 
 /// The place of a node's owner word.
 #[must_use]
 pub fn owner_place(number: usize) -> usize {
-    node_place(number) + OWNER_FIELD
+    node_place(number).saturating_add(OWNER_FIELD)
 }
 
 /// The place of a node's filled count.
 #[must_use]
 pub fn count_place(number: usize) -> usize {
-    node_place(number) + COUNT_FIELD
+    node_place(number).saturating_add(COUNT_FIELD)
 }
 
 /// The place of the word of a node's mark, 0 to 2.
 #[must_use]
 pub fn mark_place(number: usize, mark: usize) -> usize {
-    node_place(number) + MARK_FIELD + mark
+    node_place(number).saturating_add(MARK_FIELD).saturating_add(mark)
 }
 
 /// The place of a slot of a node.
 #[must_use]
 pub fn slot_place(number: usize, slot: usize) -> usize {
-    node_place(number) + SLOT_FIELD + slot
+    node_place(number).saturating_add(SLOT_FIELD).saturating_add(slot)
 }
 
 /// What a node's filled count is to be, by its slots; of a node that the words do not have, 0.
@@ -60,14 +61,14 @@ pub fn filled_slots(words: &[u64], number: usize) -> u64 {
     slots.iter().map(|word| u64::from(*word != 0)).sum()
 }
 
-/// The word of a slot that follows the entry in this slot.
+/// The word of a slot that follows the entry in this slot, 0 to 63.
 #[must_use]
 pub fn sibling_word(slot: usize) -> u64 {
-    4 * slot as u64 + 2
+    (slot as u64).wrapping_mul(4) | 2
 }
 
 /// The word of a slot that leads to this node.
 #[must_use]
 pub fn node_word(number: usize) -> u64 {
-    4 * (NODE_OFFSET + number as u64) + 2
+    NODE_OFFSET.wrapping_add(number as u64).wrapping_mul(4) | 2
 }

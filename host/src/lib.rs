@@ -9,6 +9,7 @@
 //!     Command::Store { index: 64, order: 3, word: Word::value(2)? },
 //!     Command::Load { index: 70 },
 //! ])?;
+//! assert_eq!(replies.all_done()?, 2);
 //! assert_eq!(replies[1].done()?.base, 64);
 //! for entry in pool.find(.., FIND_ANY) {
 //!     println!("{:?}", entry?);
@@ -18,16 +19,20 @@
 //!
 //! A [`Pool`] owns or borrows its words and runs [`Command`]s: [`Pool::run_all`] any number,
 //! [`Pool::run`] one batch that a [`BatchBuilder`] gathered, [`Pool::find`] the finds that go through
-//! a range; [`Pool::list`] gives a range's entries in one call, as bytes to keep. Each command has one [`Reply`], whose [`Answer`] says whether it was done. A call that the
-//! library refuses is a [`Refusal`]: nothing ran. [`compare`] says whether two regions match, and
-//! [`Crc32c`] is their digest. Nothing here panics, whatever it is given, but for
-//! an index past the end of [`Replies`]; `unsafe` is in [`raw`] alone.
+//! a range; [`Pool::list`] gives a range's entries in one call, as bytes to keep. Each command has one
+//! [`Reply`], whose [`Answer`] says whether it was done: [`Replies::all_done`] looks at all of them. A
+//! call that the library refuses is a [`Refusal`]: nothing ran. [`Pool::save`] and [`Pool::load`] keep a
+//! pool in a file with a digest. [`compare`] says whether two regions match, and [`Crc32c`] is their
+//! digest. A record that is not there is never a match: see 'Before you sign' in docs/HOST.md and
+//! examples/inspection.rs. Nothing here panics, whatever it is given, but for an index past the end of
+//! [`Replies`]; `unsafe` is in [`raw`] alone.
 
 #![deny(missing_docs)]
 
 mod answer;
 mod batch;
 mod command;
+mod file;
 mod find;
 pub mod layout;
 mod list;
@@ -39,18 +44,22 @@ mod reply;
 mod tests;
 mod word;
 
-pub use answer::{Answer, Error, Refusal};
+pub use answer::{Answer, Error, Refusal, RefusedBatch};
 pub use batch::{
     count_commands, split_batches, BadBatch, BatchBuilder, BatchFull, Batches, Commands,
     MOST_BATCH_BYTES, PROGRAM_BATCH_BYTES,
 };
 pub use command::{Command, Tag, FIND_ANY, MOST_ORDER};
+pub use file::FileError;
 pub use find::{Finds, MOST_FINDS};
-pub use list::{BadListed, Listing, LISTED_BYTES};
-pub use pool::{bytes_of_words, node_count, pool_words, words_of_bytes, Pool, MOST_NODES};
+pub use list::{BadListed, ListFault, Listing, LISTED_BYTES};
+pub use pool::{
+    bytes_of_words, node_count, nodes_for, pool_words, words_of_bytes, Pool, MOST_NODES,
+};
 pub use region::{compare, Comparison, Crc32c, Pieces, Verdict};
 pub use reply::{
-    BadRecord, Entry, Marks, ProgramError, Record, Records, Replies, Reply, REPLY_BYTES,
+    BadRecord, Entry, Marks, NotDone, Place, ProgramError, Record, Records, Replies, Reply,
+    REPLY_BYTES,
 };
 pub use word::{Kind, NotAHandle, TooLarge, Word};
 

@@ -16,18 +16,28 @@ const ALL_MARKS: u8 = 7;
 
 impl Entry {
     /// The entry at the start of the bytes of a list, or the reserved index, which has the word 0, order 0
-    /// and no marks; none if they do not begin with one.
+    /// and no marks; none if they do not begin with one. [`Listing::read`] looks closer: whether a pool can
+    /// hold it, and after the one before it.
     #[must_use]
     pub fn read_listed(bytes: &[u8]) -> Option<Entry> {
-        if *bytes.first()? != LISTED_TAG || short(bytes, 1)? != LISTED_FIELDS {
-            return None;
-        }
-        let (base, order) = (number(bytes, 3)?, *bytes.get(11)?);
-        let (word, marks) = (Word(number(bytes, 12)?), *bytes.get(20)?);
-        let entry = Entry { base, order, word, marks: Marks(marks) };
-        let known = order <= MOST_ORDER && marks <= ALL_MARKS;
-        let whole = !entry.is_reserved() || entry == Entry::reserved(base);
-        (known && whole).then_some(entry)
+        let entry = read_entry(bytes)?;
+        let whole = !entry.is_reserved() || entry == Entry::reserved(entry.base);
+        (entry.order <= MOST_ORDER && entry.marks.0 <= ALL_MARKS && whole).then_some(entry)
+    }
+
+    /// Why no pool holds it, by itself.
+    fn fault(self) -> Option<ListFault> {
+        let Entry { base, order, word, marks } = self;
+        // Where the base is a multiple of 2^order the run ends below 2^64.
+        let aligned = 1u64.checked_shl(order.into()).is_some_and(|run| base.is_multiple_of(run));
+        let whole = !self.is_reserved() || self == Entry::reserved(base);
+        let faults = [
+            (order > MOST_ORDER || !aligned, ListFault::Run),
+            (!word.is_entry() && !self.is_reserved(), ListFault::Word),
+            (marks.0 > ALL_MARKS, ListFault::Marks),
+            (!whole, ListFault::Reserved),
+        ];
+        faults.into_iter().find(|(is, _)| *is).map(|(_, fault)| fault)
     }
 
     /// The entry as the library lists it.
@@ -44,16 +54,59 @@ impl Entry {
     }
 }
 
-/// Bytes that are no entry of a list, with their place.
+/// The entry at the start of the bytes of a list, whatever it says.
+fn read_entry(bytes: &[u8]) -> Option<Entry> {
+    if *bytes.first()? != LISTED_TAG || short(bytes, 1)? != LISTED_FIELDS {
+        return None;
+    }
+    let (base, order) = (number(bytes, 3)?, *bytes.get(11)?);
+    let (word, marks) = (Word(number(bytes, 12)?), Marks(*bytes.get(20)?));
+    Some(Entry { base, order, word, marks })
+}
+
+/// Why no pool gives a list.
+#[derive(Clone, Copy, Debug, PartialEq, Eq)]
+#[non_exhaustive]
+pub enum ListFault {
+    /// Cut, or of another tag or length.
+    NoEntry,
+    /// The order is above 63, or the base is not a multiple of 2^order.
+    Run,
+    /// The word is neither a value nor a handle, and not 0, the word of a reserved index.
+    Word,
+    /// Marks above 7.
+    Marks,
+    /// A reserved index with an order or with marks.
+    Reserved,
+    /// It does not begin after the end of the entry before it: unsorted, doubled or overlapping.
+    Order,
+}
+
+impl fmt::Display for ListFault {
+    fn fmt(&self, f: &mut fmt::Formatter) -> fmt::Result {
+        f.write_str(match self {
+            ListFault::NoEntry => "no entry of a list",
+            ListFault::Run => "the order is above 63, or the index is not a multiple of 2^order",
+            ListFault::Word => "no word that can be stored",
+            ListFault::Marks => "marks above 7",
+            ListFault::Reserved => "a reserved index with an order or with marks",
+            ListFault::Order => "it does not begin after the end of the entry before it",
+        })
+    }
+}
+
+/// An entry that no list of a pool has there, with its place.
 #[derive(Clone, Copy, Debug, PartialEq, Eq)]
 pub struct BadListed {
-    /// The place of their first byte, from 0.
+    /// The place of its first byte, from 0.
     pub place: usize,
+    /// What is wrong with it.
+    pub fault: ListFault,
 }
 
 impl fmt::Display for BadListed {
     fn fmt(&self, f: &mut fmt::Formatter) -> fmt::Result {
-        write!(f, "byte {}: no entry of a list", self.place)
+        write!(f, "byte {}: {}", self.place, self.fault)
     }
 }
 
@@ -71,23 +124,36 @@ pub struct Listing {
 }
 
 impl Listing {
-    /// A list that was kept. What it says of a pool is another question: whether its bytes are
-    /// entries is all that is looked at.
+    /// A list that was kept. One that no pool can give is refused, at its first entry that is cut, of
+    /// another tag or length, crooked (order above 63, base not a multiple of 2^order), with a word that
+    /// cannot be stored, with marks above 7, reserved with an order or marks, or that does not begin after
+    /// the end of the one before it. Whether it is the list of your pool is another question: keep its
+    /// length and its digest. A list that was cut between two entries is read.
     ///
     /// ```
-    /// # use xapool_host::{BadListed, Entry, Listing, Marks, Word};
+    /// # use xapool_host::{BadListed, Entry, ListFault, Listing, Marks, Word};
     /// let entry = Entry { base: 8, order: 3, word: Word::value(1)?, marks: Marks(0) };
     /// let kept = entry.listed().to_vec();
     /// assert_eq!(Listing::read(kept.clone())?.collect::<Vec<_>>(), [entry]);
-    /// assert_eq!(Listing::read(kept[..20].to_vec()), Err(BadListed { place: 0 }));
+    /// let cut = Listing::read(kept[..20].to_vec());
+    /// assert_eq!(cut, Err(BadListed { place: 0, fault: ListFault::NoEntry }));
+    /// let doubled = Listing::read(kept.repeat(2));
+    /// assert_eq!(doubled, Err(BadListed { place: 21, fault: ListFault::Order }));
     /// # Ok::<(), Box<dyn std::error::Error>>(())
     /// ```
     pub fn read(bytes: Vec<u8>) -> Result<Listing, BadListed> {
-        let mut parts = bytes.chunks(LISTED_BYTES);
-        match parts.position(|part| Entry::read_listed(part).is_none()) {
-            Some(number) => Err(BadListed { place: number * LISTED_BYTES }),
-            None => Ok(Listing { bytes, place: 0 }),
+        // The first index that the next entry may have; none after a run that ends at 2^64 - 1.
+        let mut free = Some(0);
+        for (number, part) in bytes.chunks(LISTED_BYTES).enumerate() {
+            let bad = |fault| BadListed { place: number * LISTED_BYTES, fault };
+            let entry = read_entry(part).ok_or(bad(ListFault::NoEntry))?;
+            entry.fault().map_or(Ok(()), |fault| Err(bad(fault)))?;
+            if free.is_none_or(|free| entry.base < free) {
+                return Err(bad(ListFault::Order));
+            }
+            free = entry.after();
         }
+        Ok(Listing { bytes, place: 0 })
     }
 
     /// The bytes of the whole list, also of the entries that were taken from it.

@@ -1,10 +1,10 @@
 //! A pool that owns or borrows its words.
 
-use crate::answer::{Answer, Refusal};
+use crate::answer::{Refusal, RefusedBatch};
 use crate::batch::{BatchBuilder, Batches};
 use crate::command::Command;
 use crate::find::{ends, Finds};
-use crate::layout::{node_place, ANCHOR_WORDS, NODE_WORDS};
+use crate::layout::{node_place, ANCHOR_WORDS, NODE_WORDS, SLOTS};
 use crate::list::{Listing, LISTED_BYTES};
 use crate::raw;
 use crate::reply::{Replies, REPLY_BYTES};
@@ -26,6 +26,30 @@ pub fn node_count(words: usize) -> Option<usize> {
     (pool_words(nodes) == Some(words)).then_some(nodes)
 }
 
+/// The nodes that entries of order 0 at every index of the range need in an empty pool, in whatever
+/// order they are stored; also more than a pool can have. Where the range does not begin at 0, the
+/// nodes that lead to it from the head are among them. Of several ranges in one pool, the sum and 10
+/// for each range but one are enough. Index 0 alone needs none, though a pool has one at least.
+///
+/// ```
+/// use xapool_host::{nodes_for, MOST_NODES};
+///
+/// assert_eq!(nodes_for(..1_032_128), MOST_NODES);
+/// assert_eq!(nodes_for(..1_032_129), MOST_NODES + 1);
+/// assert_eq!(nodes_for(1 << 40..=1 << 40), 7); // shifts 36, 30, .., 0
+/// ```
+#[must_use]
+pub fn nodes_for(range: impl RangeBounds<u64>) -> usize {
+    let Some((mut first, mut last)) = ends(range) else { return 0 };
+    let mut nodes = 0u64;
+    // One entry at 0 is the head itself. Else each pass is a shift: a node for each 64 of the one below.
+    while last > 0 {
+        (first, last) = (first / SLOTS as u64, last / SLOTS as u64);
+        nodes += last - first + 1;
+    }
+    usize::try_from(nodes).unwrap_or(usize::MAX)
+}
+
 /// Words as they are saved: in order, each as 8 bytes, lowest byte first.
 #[must_use]
 pub fn bytes_of_words(words: &[u64]) -> Vec<u8> {
@@ -38,6 +62,21 @@ pub fn words_of_bytes(bytes: &[u8]) -> Option<Vec<u64>> {
     let words = bytes.chunks_exact(8);
     let word = |bytes: &[u8]| bytes.iter().rev().fold(0, |word, byte| word << 8 | u64::from(*byte));
     words.remainder().is_empty().then(|| words.map(word).collect())
+}
+
+/// Runs the batches one after another, up to the first that is refused.
+pub(crate) fn run_each(
+    batches: &Batches,
+    mut run: impl FnMut(&BatchBuilder) -> Result<Replies, Refusal>,
+) -> Result<Replies, RefusedBatch> {
+    let mut replies = Replies::default();
+    for (number, batch) in batches.iter().enumerate() {
+        match run(batch) {
+            Ok(more) => replies.append(more),
+            Err(refusal) => return Err(RefusedBatch { refusal, batch: number, replies }),
+        }
+    }
+    Ok(replies)
 }
 
 #[derive(Debug)]
@@ -74,8 +113,8 @@ impl Pool<'static> {
         Pool { words: Words::Owned(words) }
     }
 
-    /// The pool that [`Pool::to_bytes`] saved, checked. The check knows the structure, not what was
-    /// stored: keep a digest of a saved pool, [`Crc32c`](crate::Crc32c).
+    /// The pool that [`Pool::to_bytes`] gave, checked. The check knows the structure, not what was
+    /// stored: [`Pool::load`] asks for a digest.
     pub fn from_bytes(bytes: &[u8]) -> Result<Pool<'static>, Refusal> {
         let pool = Pool::from_words(words_of_bytes(bytes).ok_or(Refusal::PoolLength)?);
         pool.check()?;
@@ -99,33 +138,42 @@ impl<'a> Pool<'a> {
         Refusal::unless_done(raw::check(self.words())).map(|_| ())
     }
 
-    /// Runs a batch and gives its replies.
+    /// Runs a batch and gives its replies, one for each command.
     pub fn run(&mut self, batch: &BatchBuilder) -> Result<Replies, Refusal> {
         let mut space = vec![0; REPLY_BYTES * batch.len()];
         let commands = self.run_bytes(batch.bytes(), &mut space)?;
-        let used = space.get(..REPLY_BYTES * commands).unwrap_or(&space);
-        // The library writes only good replies; another one would be told here.
-        Replies::read(used).map_err(|bad| Refusal::Unexpected {
-            answer: u64::from(Answer::Done.number()),
-            number: bad.place as u64,
-        })
+        // The library answers every command, and with good replies; anything else would be told here.
+        let unexpected = |number: usize| Refusal::Unexpected { answer: 0, number: number as u64 };
+        if commands != batch.len() {
+            return Err(unexpected(commands));
+        }
+        Replies::read(&space).map_err(|bad| unexpected(bad.place))
     }
 
-    /// Runs any number of commands, as many batches as they need, and gives all replies. Nothing ran
-    /// if it is refused: only the pool can be at fault, and the first batch tells that.
-    pub fn run_all<T>(&mut self, commands: T) -> Result<Replies, Refusal>
+    /// Runs any number of commands, as many batches as they need, and gives all replies, which know the
+    /// batch and the place of each ([`Replies::place`]). If the first batch is refused, nothing ran; only
+    /// the pool can be at fault, and it tells that. If a later one is, which takes a fault of the memory,
+    /// the error has the replies of those that ran.
+    ///
+    /// ```
+    /// # use xapool_host::{nodes_for, Command, Pool, Word};
+    /// let mut pool = Pool::new(nodes_for(..5000))?;
+    /// let stores = (0..5000).map(|index| Command::Store { index, order: 0, word: Word(3) });
+    /// let replies = pool.run_all(stores)?;
+    /// assert_eq!(replies.all_done()?, 5000);
+    /// assert_eq!(replies.place(4999).map(|place| (place.batch, place.byte)), Some((3, 1700)));
+    /// # Ok::<(), Box<dyn std::error::Error>>(())
+    /// ```
+    pub fn run_all<T>(&mut self, commands: T) -> Result<Replies, RefusedBatch>
     where
         T: IntoIterator<Item = Command>,
     {
         let batches: Batches = commands.into_iter().collect();
         if batches.is_empty() {
-            self.check()?;
+            let refused = |refusal| RefusedBatch { refusal, batch: 0, replies: Replies::default() };
+            return self.check().map_err(refused).map(|()| Replies::default());
         }
-        let mut replies = Replies::default();
-        for batch in &batches {
-            replies.append(self.run(batch)?);
-        }
-        Ok(replies)
+        run_each(&batches, |batch| self.run(batch))
     }
 
     /// Every entry that meets the range and has the mark `filter`, or any with
@@ -134,10 +182,11 @@ impl<'a> Pool<'a> {
     /// ```
     /// # use xapool_host::{Command, Pool, Word, FIND_ANY};
     /// # let mut pool = Pool::new(40)?;
-    /// pool.run_all([
+    /// let replies = pool.run_all([
     ///     Command::Store { index: 8, order: 3, word: Word::value(1)? },
     ///     Command::Store { index: u64::MAX, order: 0, word: Word::value(2)? },
     /// ])?;
+    /// replies.all_done()?;
     /// for entry in pool.find(.., FIND_ANY) {
     ///     println!("{}", entry?.base);
     /// }
@@ -160,7 +209,7 @@ impl<'a> Pool<'a> {
     ///     Command::Store { index: 64, order: 0, word: Word::value(2)? },
     ///     Command::Mark { index: 64, mark: 0 },
     /// ])?;
-    /// assert!(replies.iter().all(|reply| reply.done().is_ok()));
+    /// assert_eq!(replies.all_done()?, 3);
     /// let list = pool.list(15..)?;
     /// assert_eq!((list.len(), list.bytes().len()), (2, 2 * 21));
     /// let lines: Vec<String> = list.map(|entry| entry.to_string()).collect();

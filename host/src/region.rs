@@ -32,6 +32,12 @@ impl Crc32c {
         Crc32c(raw::crc32c(0, region))
     }
 
+    /// One that was kept as its number.
+    #[must_use]
+    pub fn from_value(value: u32) -> Crc32c {
+        Crc32c(value)
+    }
+
     /// Goes on with the next piece.
     pub fn update(&mut self, piece: &[u8]) {
         self.0 = raw::crc32c(self.0, piece);
@@ -51,7 +57,9 @@ impl fmt::Display for Crc32c {
     }
 }
 
-/// How an old and a new region compare. Zeros that nobody wrote are no match.
+/// How an old and a new region compare. This is of the verdict's own word: where no comparison wrote it,
+/// as in memory of zeros or by default, it reads as nothing to compare. Of the regions' bytes it says
+/// nothing: two regions of zeros that were read, of one length above 0, match.
 #[derive(Clone, Copy, Debug, Default, PartialEq, Eq, Hash)]
 #[repr(u64)]
 #[must_use = "only Matched says that the old region may go"]
@@ -108,6 +116,7 @@ pub struct Comparison {
 /// let nothing = compare(b"", b"");
 /// assert_eq!(nothing.old, nothing.new); // and still no match
 /// assert_eq!(nothing.verdict, Verdict::NothingToCompare);
+/// assert_eq!(compare(&[0; 4096], &[0; 4096]).verdict, Verdict::Matched); // zeros that were read
 /// ```
 pub fn compare(old: &[u8], new: &[u8]) -> Comparison {
     let raw::RawComparison { verdict, old_crc, new_crc } = raw::compare(old, new);

@@ -161,16 +161,27 @@ impl Reply {
         }
     }
 
-    /// Where a find up to `last` goes on: after the run that it found, or where it paused; none if
-    /// there is nothing left. [`Pool::find`](crate::Pool::find) does this for you.
-    #[must_use]
-    pub fn next_first(self, last: u64) -> Option<u64> {
-        let next = match self.answer {
-            Answer::Done => self.entry()?.after()?,
-            Answer::Paused => self.index,
-            _ => return None,
+    /// Where a find up to `last` goes on: after the run that it found, or where it paused; none if it
+    /// ended, or what it found ends at `last` or after. Any other answer, or the reply of another
+    /// command, is no end: it is the error. [`Pool::find`](crate::Pool::find) does this for you.
+    ///
+    /// ```
+    /// # use xapool_host::{Answer, BatchBuilder, Command, Pool};
+    /// # let mut pool = Pool::new(1)?;
+    /// let mut batch = BatchBuilder::new();
+    /// batch.push(Command::Find { first: 0, last: 9, filter: 2, budget: 0 })?;
+    /// assert_eq!(pool.run(&batch)?[0].next_first(9), Err(Answer::NoBudget)); // and not 'nothing there'
+    /// # Ok::<(), Box<dyn std::error::Error>>(())
+    /// ```
+    pub fn next_first(self, last: u64) -> Result<Option<u64>, Answer> {
+        let next = match (self.tag, self.answer) {
+            (Tag::Find, Answer::Done) => self.done()?.after(),
+            // Wherever it is: a pause is never an end.
+            (Tag::Find, Answer::Paused) => return Ok(Some(self.index)),
+            (Tag::Find, Answer::Ended) => None,
+            (_, answer) => return Err(answer),
         };
-        (self.tag == Tag::Find && next <= last).then_some(next)
+        Ok(next.filter(|next| *next <= last))
     }
 
     /// Where a paused find goes on.
@@ -197,11 +208,55 @@ impl fmt::Display for Reply {
     }
 }
 
-/// The replies to one batch, or to several, in the order of the commands.
+/// Where a command stood, all counted from 0.
+#[derive(Clone, Copy, Debug, PartialEq, Eq)]
+pub struct Place {
+    /// Its number among all commands.
+    pub command: usize,
+    /// The number of its batch.
+    pub batch: usize,
+    /// The place of its record's first byte in that batch.
+    pub byte: usize,
+}
+
+impl fmt::Display for Place {
+    fn fmt(&self, f: &mut fmt::Formatter) -> fmt::Result {
+        write!(f, "command {}, in batch {} at byte {}", self.command, self.batch, self.byte)
+    }
+}
+
+/// Not every command was done: the first that was not, and how many there are.
+#[derive(Clone, Copy, Debug, PartialEq, Eq)]
+pub struct NotDone {
+    /// Where the first stood.
+    pub place: Place,
+    /// Its kind.
+    pub tag: Tag,
+    /// What it was answered in place of `Done`.
+    pub answer: Answer,
+    /// How many were not done, whatever they were answered.
+    pub count: usize,
+    /// How many commands there were.
+    pub commands: usize,
+}
+
+impl fmt::Display for NotDone {
+    fn fmt(&self, f: &mut fmt::Formatter) -> fmt::Result {
+        let NotDone { place, tag, answer, count, commands } = self;
+        write!(f, "{count} of {commands} commands not done; first {place}: {tag}: {answer}")
+    }
+}
+
+impl std::error::Error for NotDone {}
+
+/// The replies to one batch, or to several, in the order of the commands. They know where each command
+/// stood: [`Replies::place`].
 #[derive(Clone, Debug, Default, PartialEq, Eq)]
 #[must_use = "a reply may say that its command was not done"]
 pub struct Replies {
     replies: Vec<Reply>,
+    /// The number of the first command of each batch.
+    starts: Vec<usize>,
 }
 
 impl Replies {
@@ -211,7 +266,8 @@ impl Replies {
             let place = number * REPLY_BYTES;
             replies.push(Reply::read(part).ok_or(BadRecord { place })?);
         }
-        Ok(Replies { replies })
+        let starts = if replies.is_empty() { Vec::new() } else { vec![0] };
+        Ok(Replies { replies, starts })
     }
 
     /// What the program tamburish wrote to a batch of so many commands. It always exits with 0; only
@@ -229,7 +285,50 @@ impl Replies {
     }
 
     pub(crate) fn append(&mut self, mut more: Replies) {
+        let before = self.len();
+        self.starts.extend(more.starts.iter().map(|start| before + start));
         self.replies.append(&mut more.replies);
+    }
+
+    /// How many commands there were if every one is answered `Done`; else which was not, first. A find
+    /// that ended or paused is not done. Of no commands it is 0: hold the number against what you planned.
+    ///
+    /// ```
+    /// # use xapool_host::{Answer, Command, Pool, Word};
+    /// let mut pool = Pool::new(1)?;
+    /// let store = |index| Command::Store { index, order: 0, word: Word(3) };
+    /// assert_eq!(pool.run_all((0..64).map(store))?.all_done(), Ok(64));
+    /// let not_done = pool.run_all((63..66).map(store))?.all_done().expect_err("one node has 64 slots");
+    /// assert_eq!((not_done.place.command, not_done.place.byte), (1, 20));
+    /// assert_eq!((not_done.answer, not_done.count), (Answer::TooFewNodes, 2));
+    /// # Ok::<(), Box<dyn std::error::Error>>(())
+    /// ```
+    #[must_use = "a command may not be done"]
+    pub fn all_done(&self) -> Result<usize, NotDone> {
+        let not_done = |reply: &&Reply| reply.answer != Answer::Done;
+        let commands = self.len();
+        let first = self.replies.iter().position(|reply| not_done(&reply));
+        let Some((place, reply)) = first.and_then(|at| Some((self.place(at)?, self.get(at)?)))
+        else {
+            return Ok(commands);
+        };
+        let count = self.replies.iter().filter(not_done).count();
+        Err(NotDone { place, tag: reply.tag, answer: reply.answer, count, commands })
+    }
+
+    /// Where the command of this number, from 0, stood.
+    #[must_use]
+    pub fn place(&self, command: usize) -> Option<Place> {
+        let batch = self.starts.partition_point(|start| *start <= command).checked_sub(1)?;
+        let before = self.replies.get(*self.starts.get(batch)?..command)?;
+        let byte = before.iter().map(|reply| reply.tag.record_bytes()).sum();
+        (command < self.len()).then_some(Place { command, batch, byte })
+    }
+
+    /// How many batches they are of.
+    #[must_use]
+    pub fn batches(&self) -> usize {
+        self.starts.len()
     }
 
     /// The replies in order.

@@ -2,7 +2,10 @@
 
 use crate::*;
 
+mod done;
+mod file;
 mod list;
+mod nodes;
 mod region;
 mod reserve;
 
@@ -373,7 +376,7 @@ fn finds_one_by_one_go_on_after_a_run_or_at_a_pause() {
         let replies = pool.run(&batch(&[find(from, LAST, FIND_ANY, 3)])).expect("a good batch");
         found.extend(replies[0].entry().map(|entry| entry.base));
         pauses += usize::from(replies[0].paused_at().is_some());
-        first = replies[0].next_first(LAST);
+        first = replies[0].next_first(LAST).expect("found, paused or ended");
     }
     assert_eq!(found, [8, LAST]);
     assert!(pauses > 10, "{pauses}");
@@ -469,7 +472,7 @@ fn any_number_of_commands() {
     let bad = [&row[..], &[9]].concat();
     assert_eq!(split_batches(&bad), Err(Refusal::BadBatch { place: 100_000 }));
     pool.words_mut()[3] = 1;
-    assert_eq!(pool.run_all([]), Err(Refusal::NotWellFormed));
+    assert_eq!(pool.run_all([]).map_err(Refusal::from), Err(Refusal::NotWellFormed));
 }
 
 #[test]
@@ -600,6 +603,29 @@ fn a_wrong_count_is_not_well_formed() {
             assert_eq!(damaged.run(&batch(&[load(0)])), Err(Refusal::NotWellFormed));
         }
     }
+}
+
+/// Numbers from damaged words are of no place, and none is too large to ask with.
+#[test]
+fn no_node_is_at_no_place() {
+    let (_, pool) = run(4, &[CASE_2, CASE_3]);
+    for number in [4, MOST_NODES, usize::MAX / 70, usize::MAX / 4, usize::MAX - 1024, usize::MAX] {
+        let places = [
+            layout::node_place(number),
+            layout::owner_place(number),
+            layout::count_place(number),
+            layout::mark_place(number, 2),
+            layout::slot_place(number, 63),
+        ];
+        assert!(places.iter().all(|place| pool.words().get(*place).is_none()), "{number}");
+        assert!(layout::slot_place(0, number) >= number);
+        assert_eq!(layout::filled_slots(pool.words(), number), 0);
+        assert_eq!([layout::node_word(number) % 4, layout::sibling_word(number) % 4], [2, 2]);
+    }
+    assert_eq!(
+        [layout::node_word(0), layout::node_word(3), layout::sibling_word(8)],
+        [4098, 4110, 34]
+    );
 }
 
 #[test]

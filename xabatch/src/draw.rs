@@ -1,6 +1,7 @@
 //! Draws what `inspect` read.
 
 use crate::inspect::{Finding, Head, Node, Report, Slot};
+use crate::json::{self, Object};
 use std::collections::BTreeMap;
 use xapool_host::{Marks, Word};
 
@@ -72,7 +73,7 @@ fn header(report: &Report) -> String {
     match report.nodes {
         None => format!("no pool: {} words", report.words),
         Some(nodes) => {
-            let (used, free) = (report.in_use, nodes - report.in_use);
+            let (used, free) = (report.in_use, nodes.saturating_sub(report.in_use));
             format!("pool of {nodes} nodes, {} words: {used} in use, {free} free", report.words)
         }
     }
@@ -193,7 +194,7 @@ impl Counts {
     }
 }
 
-fn summary(report: &Report) -> Vec<String> {
+fn counts_of(report: &Report) -> Counts {
     let mut counts = Counts::default();
     match &report.head {
         Head::Entry(_) => counts.entry(0, marks(report), (0, 0)),
@@ -201,6 +202,46 @@ fn summary(report: &Report) -> Vec<String> {
         Head::Node(node) => counts.node(node),
         Head::Empty | Head::Bad(_) => {}
     }
+    counts
+}
+
+/// The summary as one object. Findings that follow from others are counted, and listed if all are
+/// asked for.
+pub fn json_of(report: &Report, view: &View) -> String {
+    let counts = counts_of(report);
+    let index = |index: Option<u128>| json::or_null(index.map(|index| index.to_string()));
+    let by = |counts: &BTreeMap<u64, usize>| {
+        let add =
+            |object: Object, (kind, count): (&u64, &usize)| object.with(&kind.to_string(), count);
+        counts.iter().fold(Object::new(), add).end()
+    };
+    let listed = report.findings.iter().filter(|finding| view.all || !finding.follows);
+    let free = report.nodes.map(|nodes| nodes.saturating_sub(report.in_use).to_string());
+    Object::new()
+        .with("words", report.words)
+        .with("nodes", json::or_null(report.nodes.map(|nodes| nodes.to_string())))
+        .with("in_use", report.in_use)
+        .with("free", json::or_null(free))
+        .with("entries", counts.orders.values().sum::<usize>())
+        .with("first", index(counts.first))
+        .with("last", index(counts.last))
+        .with("orders", by(&counts.orders))
+        .with("reserved", counts.reserved)
+        .with("marks", json::array(counts.marks.map(|count| count.to_string())))
+        .with("shifts", by(&counts.shifts))
+        .with("well_formed", report.findings.is_empty())
+        .with("findings", json::array(listed.map(finding_json)))
+        .with("follow", report.findings.iter().filter(|finding| finding.follows).count())
+        .end()
+}
+
+fn finding_json(finding: &Finding) -> String {
+    let object = Object::new().with("word", finding.place).text("message", &finding.message);
+    object.with("follows", finding.follows).end()
+}
+
+fn summary(report: &Report) -> Vec<String> {
+    let counts = counts_of(report);
     let by = |what: &str, counts: &BTreeMap<u64, usize>| {
         let each = counts.iter().map(|(kind, count)| format!("{count} of {what} {kind}"));
         each.collect::<Vec<_>>().join(", ")

@@ -16,3 +16,9 @@ pub fn malformed(message: impl Into<String>) -> Failure {
 pub fn usage(message: impl Into<String>) -> Failure {
     Failure { status: 2, message: message.into() }
 }
+
+/// Status 3: a flush failed, so what the file holds may not be on disk.
+pub const NOT_FLUSHED: u8 = 3;
+
+/// Status 4: not every command was done, and `--strict` keeps nothing then.
+pub const NOT_DONE: u8 = 4;

@@ -2,10 +2,19 @@
 
 use crate::failure::{malformed, Failure};
 use crate::os;
-use std::ffi::OsStr;
+use std::ffi::{OsStr, OsString};
 use std::fs::{self, File};
 use std::io::{self, ErrorKind, Read, Write};
 use std::os::fd::AsFd;
+use xabatch::escape;
+use xabatch::locked::read_at_most;
+use xapool_host::layout::{ANCHOR_WORDS, NODE_WORDS};
+use xapool_host::{words_of_bytes, MOST_NODES};
+
+/// The name that stands for it.
+pub fn standard_input() -> OsString {
+    "-".into()
+}
 
 /// How a file is called in messages.
 pub fn name(file: &OsStr) -> String {
@@ -42,6 +51,12 @@ pub fn output_is_open() -> Result<(), Failure> {
     Ok(())
 }
 
+/// One line on standard error. One that cannot be written stops nothing: the exit status tells.
+pub fn complain(message: &str) {
+    let line = format!("xabatch: {}\n", escape::plain(message));
+    let _ = io::stderr().write_all(line.as_bytes());
+}
+
 /// Writes to standard output. Where the reader went away, as `head` does, the status tells it alone.
 pub fn write(bytes: &[u8]) -> Result<(), Failure> {
     output_is_open()?;
@@ -60,4 +75,30 @@ pub fn try_write(bytes: &[u8]) -> io::Result<()> {
 
 pub fn write_lines(lines: &[String]) -> Result<(), Failure> {
     write(lines.iter().map(|line| format!("{line}\n")).collect::<String>().as_bytes())
+}
+
+/// No pool file has more bytes than this.
+pub const MOST_POOL_BYTES: u64 = 8 * (ANCHOR_WORDS + NODE_WORDS * MOST_NODES) as u64;
+
+/// The bytes of a pool file; `-` is standard input. One that is too long for a pool is not read.
+pub fn read_pool(file: &OsStr) -> Result<Vec<u8>, Failure> {
+    let opened = match file == "-" {
+        true if os::was_closed(0) => Err(io::Error::other("it is closed")),
+        true => io::stdin().as_fd().try_clone_to_owned().map(File::from),
+        false => File::open(file),
+    };
+    let read = opened.and_then(|opened| read_at_most(&opened, MOST_POOL_BYTES));
+    no_longer(file, read.map_err(|error| of_file(file, error))?)
+}
+
+/// The bytes of a pool file; none are given of one that has too many.
+pub fn no_longer(file: &OsStr, bytes: Option<Vec<u8>>) -> Result<Vec<u8>, Failure> {
+    bytes.ok_or_else(|| of_file(file, format!("no pool: too long, over {MOST_POOL_BYTES} bytes")))
+}
+
+/// The words of the bytes of a pool file.
+pub fn words_of(file: &OsStr, bytes: &[u8]) -> Result<Vec<u64>, Failure> {
+    let left = bytes.len() % 8;
+    let cut = || of_file(file, format!("{left} bytes after the last whole word"));
+    words_of_bytes(bytes).ok_or_else(cut)
 }

@@ -8,21 +8,23 @@ pub const VERSION: &str = concat!("xabatch ", env!("CARGO_PKG_VERSION"), "\n");
 
 const HELP: &str = "\
 usage: xabatch encode [--long | --split PREFIX] [FILE]     text to a batch
-       xabatch decode [--batch BATCHFILE] [FILE]           replies, a refused call, a batch or a list to text
+       xabatch decode [OPTIONS] [FILE]                     replies, a refused call, a batch or a list to text
        xabatch show [OPTIONS] POOLFILE                     a pool as a tree, and what is wrong with it
-       xabatch list [--bytes] POOLFILE [FIRST..LAST]       the entries of a pool, as evidence
+       xabatch list [OPTIONS] POOLFILE [FIRST..LAST]       the entries of a pool, as evidence
        xabatch new NODES [POOLFILE]                        an empty pool of 1 to 16,384 nodes
-       xabatch run [--no-wait] POOLFILE [FILE]             a batch on a pool file; replies to standard output
+       xabatch run [OPTIONS] POOLFILE [FILE]               a batch on a pool file; replies to standard output
        xabatch crc [FILE..]                                the digest CRC-32C of each file
-       xabatch compare OLD NEW                             whether two files match: before you erase one
-       xabatch help COMMAND                                more on one of these; also xabatch COMMAND --help
+       xabatch compare [OPTIONS] OLD NEW                   whether two files match: before you erase one
+       xabatch help COMMAND                                more on one of these; also xabatch COMMAND -h
        xabatch --version
 
-A FILE that is not named, or is -, is standard input. Results go to standard output.
+A FILE that is not named, or is -, is standard input. Results go to standard output. With --json they
+are one JSON value; numbers of 64 bits are numbers there, also above 2^53, which some readers round.
 
 Exit status: 0 fine; 1 the input is malformed, the pool is not well-formed, the call was refused,
 or a file or the output cannot be read or written; 2 bad usage or a syntax error in the text, which
-is named by FILE:LINE:COLUMN. Of compare: 0 matched; 1 different; 2 nothing to compare, or a fault.
+is named by FILE:LINE:COLUMN; 3 of run and new: a flush to disk failed; 4 of run --strict: not every
+command was done, and nothing is kept. Of compare: 0 matched; 1 different; 2 nothing to compare, or a fault.
 ";
 
 const ENCODE: &str = "\
@@ -48,23 +50,35 @@ A batch has at most 32,768 bytes; a text that needs more is refused, unless:
   --split PREFIX   writes the batches to PREFIX1, PREFIX2, .. and their names to standard output;
                    a file that is there already is not touched, and nothing is written
 
-Where the text has an error, nothing is written.
+Where the text has errors, nothing is written; the first twenty are told, and how many more there are.
 ";
 
 const DECODE: &str = "\
-usage: xabatch decode [--batch BATCHFILE] [FILE]
+usage: xabatch decode [--batch BATCHFILE] [--strict] [--json] [FILE]
 
 Writes a line for each record: replies, the record of a refused call, the commands of a batch, or
-the entries of a list that was kept as bytes.
-The exit status is 1 if a call was refused or a record is bad; the lines before it are written.
+the entries of a list that was kept as bytes. A file of any length takes a fixed amount of memory.
 
   --batch BATCHFILE   the replies are those to this batch: the exit status is 1 unless there is one
                       for each command, of its kind. The program tamburish always exits with 0;
                       this tells whether its output is whole.
+  --strict            the exit status is 1 unless there are replies and each is done
+  --json              one object: records, replies (how many), not_done (answers, and how many replies
+                      have each), fault (what is told on standard error, or null)
+
+A reply is done if its answer is 0, or 12 or 13 of a find, which ended or paused. Any other is not, also
+10 of a load: what is absent is no evidence. How many of how many replies are not done, and why, is
+told on standard error, also without --strict.
+
+The exit status is 1 if a call was refused or a record is bad; the lines before it are written, and its
+place and cause are told: it is cut, of unknown tag, of wrong length, or of a number that no record has.
+So it is with a list that no pool gives: an index that is no multiple of 2^order, a word that cannot be
+stored, a reserved index with an order or marks, an entry that does not lie behind the one before it. That
+a list was cut between two entries, or one was taken out, cannot be told by the list: keep its digest.
 ";
 
 const SHOW: &str = "\
-usage: xabatch show [--summary | --findings] [--range FIRST..LAST] [--all] POOLFILE
+usage: xabatch show [--summary [--json] | --findings] [--range FIRST..LAST] [--all] POOLFILE
 
 Draws a pool file as a tree and lists what is wrong with it: first what is wrong by itself, then how
 much follows from that. A slot that is held without an entry is drawn as 'reserved'; 'filled' is a
@@ -75,13 +89,14 @@ node's own count of slots that hold something, as it stands in the pool.
   --findings            only what is wrong
   --range FIRST..LAST   only the part of the tree that meets these indices
   --all                 what follows is listed too
+  --json                the summary as one object, with the findings
 
 The exit status is 1 if the pool is not well-formed. A well-formed pool can hold wrong entries: the
 check knows the structure, not what you stored.
 ";
 
 const LIST: &str = "\
-usage: xabatch list [--bytes] POOLFILE [FIRST..LAST]
+usage: xabatch list [--bytes | --json] POOLFILE [FIRST..LAST]
 
 Writes a line for each entry that covers an index from FIRST to LAST, both included (all if they are
 not named), in index order and each once: its first index, order, word and marks. An entry that
@@ -95,6 +110,8 @@ held, and there is no entry. The pool is only read.
   --bytes   the list as the library gives it, 21 bytes an entry: tag 32, length 18 (2 bytes), index
             (8), order, entry (8), marks, each number highest byte first; entry 0 is a reserved
             index. Keep it as evidence; 'xabatch decode' writes its lines
+  --json    one object: first, last and entries, each with its index, order, word, value or handle, and
+            marks; a reserved index has 'reserved' in their place
 
 The exit status is 1, and nothing is written, if the pool is not well-formed: 'xabatch show' says
 what is wrong.
@@ -106,24 +123,44 @@ usage: xabatch new NODES [POOLFILE]
 Writes an empty pool of 1 to 16,384 nodes to a new file, or to standard output. A file that is there
 already is not touched. A pool file has the pool's 64-bit words in order, each as 8 bytes, lowest
 byte first.
+
+The file has its name only when it is whole and flushed to disk; then the folder is flushed. A new
+that fails or is killed leaves nothing at that name, or the whole pool. Exit status 3: a flush
+failed; what stands is said.
 ";
 
 const RUN: &str = "\
-usage: xabatch run [--no-wait] POOLFILE [FILE]
+usage: xabatch run [--no-wait] [--strict] [--json] POOLFILE [FILE]
 
 Runs a batch on a pool file and writes the replies to standard output. In this order: the batch is
 read; the pool file is locked and read; the batch runs in memory; the new pool is written beside the
 old one, flushed to disk and renamed to its name, and the folder is flushed; the lock is given back;
-the replies are written. So a reply that you read is of a pool that is safe, a run that fails or is
+the replies are written. Where the batch changes nothing, the file stays, and it and its folder are
+flushed all the same. So a reply that you read is of a pool that is safe, a run that fails or is
 killed leaves the old pool or the new one, whole, and runs at the same time go one after another.
 
   --no-wait   where another run has the lock, fail in place of waiting
+  --strict    nothing is kept unless there is a command and each was done: else the exit status is 4
+              and standard error names the commands, up to twenty. No reply is written then: a 'done'
+              would be of nothing that is in the pool
+  --json      in place of the replies a line of JSON: commands, done, not_done, answers (answer, text
+              and replies of each), kept, changed, nodes, in_use, free
+
+A command was done if its answer is 0; of a find also 12, ended, and 13, paused. All else was not,
+also a load of what is absent. Without --strict the status is 0 then, and a line on standard error
+says how many of how many were not done, and why.
 
 A row of records longer than a batch (32,768 bytes) is run as several batches; all or none reach the
-file. The new file has the owner and mode of the old one; a symbolic link stays and the file that it
-leads to is replaced; another hard link of the old file keeps the old pool. A batch that changes
-nothing writes nothing. If the replies cannot be written, the exit status is 1 and the pool is
-changed: 'xabatch show' says what it holds.
+file. The new file has the owner, the mode and the extended attributes of the old one, access control
+lists among them (but for security.ima and security.evm, which are of the old bytes); where they
+cannot be kept, the pool stays as it was. A symbolic link stays and the file that it leads to is
+replaced; another hard link of the old file keeps the old pool. A file that may not be written serves
+loads and finds.
+
+Exit status 3: the file or its folder cannot be flushed; no reply is written, and what stands is said.
+Run the batch again when that is mended; show and list read a pool that cannot be flushed. If the
+replies cannot be written, the exit status is 1 and the pool is changed: 'xabatch show' says what it
+holds.
 ";
 
 const CRC: &str = "\
@@ -139,7 +176,7 @@ something was compared. 'xabatch compare' knows the difference.
 ";
 
 const COMPARE: &str = "\
-usage: xabatch compare OLD NEW
+usage: xabatch compare [--bytes] [--json] OLD NEW
 
 Compares two files byte by byte and writes the length and the digest CRC-32C of each, and then one
 of these lines:
@@ -148,10 +185,23 @@ of these lines:
   different: from byte 512                   the first byte, from 0, that differs
   different: from byte 512, where old ends   the other is longer, and the same up to there
   nothing to compare: both are empty         also if one of them is: it is no match
+  nothing to compare: one file               OLD is NEW, by a link, a second name or a second device file
+  nothing to compare: both are pools ..      pool files and lists as bytes are an index, not data: that they
+                                             are equal is no evidence, and one of them is enough
+
+  --bytes   compares pool files and lists as any other files
+  --json    one object: verdict, why, old and new (bytes and crc32c of each), first_difference
 
 Exit status: 0 matched, and nothing else; 1 different; 2 nothing to compare, or a fault: bad usage, a
 file that cannot be read or that changes while it is read, a report that cannot be written. So
-'xabatch compare OLD NEW && rm OLD' erases what has a copy, and no more.
+'xabatch compare OLD NEW && rm OLD' erases what has a copy, as far as the file system tells.
+
+Each file is flushed to disk before it is read. A change meanwhile is told by the file and by its name, before
+and after: which file it is, its length, and when it was written and changed. What a file system does not
+tell is not seen: a write to a disk while that disk itself is compared; a write through a mapping in a file
+system in memory, or on another machine; two names of one file on different mounts of a network, a disk and a
+part of it, a loop device and its file. A file of holes alone reads as zeros and matches others, which is
+told on standard error.
 
 One of both may be -, standard input. Files may be larger than memory. Where standard error is a
 terminal, large files have a bar there.

@@ -503,9 +503,14 @@ impl Walk<'_> {
         let Some(owner) = self.word(owner_place(number)).checked_sub(1) else {
             return Some(Link::Head);
         };
-        let (node, slot) = (usize::try_from(owner).ok()? / SLOTS, owner as usize % SLOTS);
-        let above = shift_of(*self.words.get(node_place(node))?)?;
-        (node < self.seen.len() && above == shift + 6).then_some(Link::Slot(node, slot))
+        let owner = usize::try_from(owner).ok()?;
+        let (node, slot) = (owner / SLOTS, owner % SLOTS);
+        // An owner word may name any node: its place is asked for only if the pool has it.
+        if node >= self.seen.len() {
+            return None;
+        }
+        let above = shift_of(self.word(node_place(node)))?;
+        (above == shift + 6).then_some(Link::Slot(node, slot))
     }
 }
 

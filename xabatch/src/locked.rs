@@ -7,15 +7,18 @@
 //!
 //! The successor is written beside it, flushed to disk and renamed, and then the folder is flushed.
 //! A process that ends at any point leaves the old file or the new one, whole, at the path; what it
-//! may leave beside it is removed by the next one.
+//! may leave beside it is removed by the next one. Where the file stays, it and the folder are
+//! flushed all the same: who put it there may have ended between the rename and the flush.
 
-use std::ffi::{OsStr, OsString};
+use crate::attributes;
+use crate::beside::{folder_of, is_unlocked, remove_left_over, Temporary};
 use std::fmt;
 use std::fs::{self, File, Metadata, OpenOptions, Permissions, TryLockError};
 use std::io::{self, Read, Write};
-use std::os::unix::ffi::OsStrExt;
-use std::os::unix::fs::{fchown, MetadataExt, OpenOptionsExt, PermissionsExt};
+use std::os::unix::fs::{fchown, MetadataExt, PermissionsExt};
 use std::path::{Path, PathBuf};
+
+const EEXIST: i32 = 17;
 
 /// What to do where another process has the lock.
 #[derive(Clone, Copy, Debug, PartialEq, Eq)]
@@ -36,27 +39,47 @@ pub struct LockedFile {
     read_only: Option<io::Error>,
 }
 
-/// Why a file was not replaced, or not surely.
+/// Why a file was not written, or not surely.
 #[derive(Debug)]
-pub enum ReplaceError {
-    /// The old file stands as it was.
-    Unchanged(io::Error),
-    /// The new file stands, whole; a power cut may bring the old one back.
-    NotFlushed(io::Error),
+pub struct KeepError {
+    error: io::Error,
+    /// What stands at the path now.
+    left: &'static str,
+    /// It is a flush that failed.
+    flush: bool,
 }
 
-impl fmt::Display for ReplaceError {
-    fn fmt(&self, f: &mut fmt::Formatter) -> fmt::Result {
-        match self {
-            ReplaceError::Unchanged(error) => write!(f, "{error}; the file is as it was"),
-            ReplaceError::NotFlushed(error) => {
-                write!(f, "{error}; the file is replaced, but a power cut may undo that")
-            }
-        }
+const AS_IT_WAS: &str = "the file is as it was";
+const NOT_SURE: &str = "the file is as it was, but a power cut may take what was stored before";
+const REPLACED: &str = "the file is replaced, but a power cut may undo that";
+const NOTHING: &str = "nothing is written";
+const THERE: &str = "the file is there, but a power cut may take it";
+
+impl KeepError {
+    /// For `map_err`.
+    fn of(left: &'static str) -> impl Fn(io::Error) -> KeepError {
+        move |error| KeepError { error, left, flush: false }
+    }
+
+    fn of_flush(left: &'static str) -> impl Fn(io::Error) -> KeepError {
+        move |error| KeepError { error, left, flush: true }
+    }
+
+    /// Whether it is a flush that failed.
+    #[must_use]
+    pub fn is_of_flush(&self) -> bool {
+        self.flush
     }
 }
 
-impl std::error::Error for ReplaceError {}
+impl fmt::Display for KeepError {
+    fn fmt(&self, f: &mut fmt::Formatter) -> fmt::Result {
+        let flush = if self.flush { "flush to disk: " } else { "" };
+        write!(f, "{flush}{}; {}", self.error, self.left)
+    }
+}
+
+impl std::error::Error for KeepError {}
 
 impl LockedFile {
     /// Locks the file at this path, through symbolic links.
@@ -74,74 +97,76 @@ impl LockedFile {
         }
     }
 
-    /// All bytes of the file.
-    pub fn read(&mut self) -> io::Result<Vec<u8>> {
-        let mut bytes = Vec::new();
-        self.file.read_to_end(&mut bytes)?;
-        Ok(bytes)
+    /// All bytes of the file; none if they are more than this.
+    pub fn read(&mut self, most: u64) -> io::Result<Option<Vec<u8>>> {
+        read_at_most(&self.file, most)
     }
 
-    /// Puts a file of these bytes in its place, with its owner and mode; then the lock is free.
-    pub fn replace(mut self, bytes: &[u8]) -> Result<(), ReplaceError> {
+    /// Flushes the file as it is, and its folder; then the lock is free.
+    pub fn flush(self) -> Result<(), KeepError> {
+        let failed = KeepError::of_flush(NOT_SURE);
+        self.file.sync_all().map_err(&failed)?;
+        let folder = folder_of(&self.path).and_then(File::open);
+        folder.and_then(|folder| folder.sync_all()).map_err(&failed)
+    }
+
+    /// Puts a file of these bytes in its place, with its owner, mode and extended attributes; then
+    /// the lock is free.
+    pub fn replace(mut self, bytes: &[u8]) -> Result<(), KeepError> {
         // Opened before anything is changed: it must not be this that fails afterwards.
-        let folder = self.folder().and_then(File::open).map_err(ReplaceError::Unchanged)?;
-        let _new = self.rename_new(bytes).map_err(ReplaceError::Unchanged)?;
-        folder.sync_all().map_err(ReplaceError::NotFlushed)
+        let folder = folder_of(&self.path).and_then(File::open);
+        let folder = folder.map_err(KeepError::of_flush(AS_IT_WAS))?;
+        let new = self.write_new(bytes).map_err(KeepError::of(AS_IT_WAS))?;
+        new.file.sync_all().map_err(KeepError::of_flush(AS_IT_WAS))?;
+        // Locked until the end: nobody reads what is not surely on disk.
+        let _new = self.rename(new).map_err(KeepError::of(AS_IT_WAS))?;
+        folder.sync_all().map_err(KeepError::of_flush(REPLACED))
     }
 
-    /// Gives the new file, which is locked too: nobody reads what is not surely on disk.
-    fn rename_new(&mut self, bytes: &[u8]) -> io::Result<File> {
+    fn write_new(&mut self, bytes: &[u8]) -> io::Result<Temporary> {
         if let Some(error) = self.read_only.take() {
             return Err(error);
         }
-        self.remove_left_over()?;
-        let mut new = Temporary::create(self.path.with_file_name(self.temporary_name()?))?;
+        // None is in use, for the lock is ours.
+        remove_left_over(&self.path, |_| true)?;
+        let mut new = Temporary::beside(&self.path, 0o600)?;
         lock(&new.file, Locking::Wait)?;
         new.file.write_all(bytes)?;
-        new.take_owner_and_mode(&self.file.metadata()?)?;
-        new.file.sync_all()?;
+        self.keep_owner_and_rights(&new.file)?;
+        Ok(new)
+    }
+
+    /// The owner first, for a change of it takes rights away; the mode last, for it is above what an
+    /// access control list gives.
+    fn keep_owner_and_rights(&self, new: &File) -> io::Result<()> {
+        let (old, made) = (self.file.metadata()?, new.metadata()?);
+        if (made.uid(), made.gid()) != (old.uid(), old.gid()) {
+            fchown(new, Some(old.uid()), Some(old.gid())).map_err(|error| {
+                io::Error::new(error.kind(), format!("its owner cannot be kept: {error}"))
+            })?;
+        }
+        attributes::keep(&self.file, new)?;
+        new.set_permissions(Permissions::from_mode(old.mode() & 0o7777))
+    }
+
+    fn rename(&self, new: Temporary) -> io::Result<File> {
         if !is_at(&self.file, &self.path)? {
             let message = "another program put another file in its place meanwhile";
             return Err(io::Error::other(message));
         }
         new.rename(&self.path)
     }
-
-    fn folder(&self) -> io::Result<&Path> {
-        self.path.parent().ok_or_else(|| io::Error::other("it is in no folder"))
-    }
-
-    /// `.NAME.xabatch-`: what the names of our temporary files begin with.
-    fn temporary_prefix(&self) -> io::Result<OsString> {
-        let name = self.path.file_name().ok_or_else(|| io::Error::other("it has no name"))?;
-        let mut prefix = OsString::from(".");
-        prefix.push(name);
-        prefix.push(".xabatch-");
-        Ok(prefix)
-    }
-
-    fn temporary_name(&self) -> io::Result<OsString> {
-        let mut name = self.temporary_prefix()?;
-        name.push(std::process::id().to_string());
-        Ok(name)
-    }
-
-    /// Removes what killed processes left. None is in use, for the lock is ours; one that cannot be
-    /// removed is in nobody's way.
-    fn remove_left_over(&self) -> io::Result<()> {
-        let prefix = self.temporary_prefix()?;
-        for item in fs::read_dir(self.folder()?)?.flatten() {
-            if is_temporary(&item.file_name(), &prefix) {
-                let _ = fs::remove_file(item.path());
-            }
-        }
-        Ok(())
-    }
 }
 
-fn is_temporary(name: &OsStr, prefix: &OsStr) -> bool {
-    let number = name.as_bytes().strip_prefix(prefix.as_bytes());
-    number.is_some_and(|number| !number.is_empty() && number.iter().all(u8::is_ascii_digit))
+/// All bytes; none if they are more than this, which a file's length tells before it is read.
+pub fn read_at_most(file: &File, most: u64) -> io::Result<Option<Vec<u8>>> {
+    let data = file.metadata()?;
+    if data.is_file() && data.len() > most {
+        return Ok(None);
+    }
+    let mut bytes = Vec::new();
+    file.take(most.saturating_add(1)).read_to_end(&mut bytes)?;
+    Ok((bytes.len() as u64 <= most).then_some(bytes))
 }
 
 /// The file, for writing where that may be: who takes a file's permission to be written away does
@@ -185,52 +210,24 @@ fn is_at(file: &File, path: &Path) -> io::Result<bool> {
     }
 }
 
-/// A new file that is removed again unless it is kept.
-struct Temporary {
-    file: File,
-    path: PathBuf,
-    keep: bool,
+/// Writes a file that is not there yet: beside its place, and flushed, before it has its name; then
+/// the folder is flushed. What is there already is not touched.
+pub fn create(path: &Path, bytes: &[u8]) -> Result<(), KeepError> {
+    let folder = folder_of(path).and_then(File::open).map_err(KeepError::of(NOTHING))?;
+    let new = write_beside(path, bytes).map_err(KeepError::of(NOTHING))?;
+    new.file.sync_all().map_err(KeepError::of_flush(NOTHING))?;
+    let _new = new.rename_to_new(path).map_err(KeepError::of(NOTHING))?;
+    folder.sync_all().map_err(KeepError::of_flush(THERE))
 }
 
-impl Temporary {
-    fn create(path: PathBuf) -> io::Result<Temporary> {
-        let file = OpenOptions::new().write(true).create_new(true).mode(0o600).open(&path)?;
-        Ok(Temporary { file, path, keep: false })
+fn write_beside(path: &Path, bytes: &[u8]) -> io::Result<Temporary> {
+    if fs::symlink_metadata(path).is_ok() {
+        return Err(io::Error::from_raw_os_error(EEXIST));
     }
-
-    fn take_owner_and_mode(&self, old: &Metadata) -> io::Result<()> {
-        let new = self.file.metadata()?;
-        if (new.uid(), new.gid()) != (old.uid(), old.gid()) {
-            fchown(&self.file, Some(old.uid()), Some(old.gid())).map_err(|error| {
-                io::Error::new(error.kind(), format!("its owner cannot be kept: {error}"))
-            })?;
-        }
-        self.file.set_permissions(Permissions::from_mode(old.mode() & 0o7777))
-    }
-
-    fn rename(mut self, path: &Path) -> io::Result<File> {
-        let file = self.file.try_clone()?;
-        fs::rename(&self.path, path)?;
-        self.keep = true;
-        Ok(file)
-    }
-}
-
-impl Drop for Temporary {
-    fn drop(&mut self) {
-        if !self.keep {
-            // What is the matter was told already; the next process tries again.
-            let _ = fs::remove_file(&self.path);
-        }
-    }
-}
-
-/// Writes a file that is not there yet, and flushes it; it is removed again if that fails.
-pub fn create(path: &Path, bytes: &[u8]) -> io::Result<()> {
-    let file = OpenOptions::new().write(true).create_new(true).open(path)?;
-    let mut new = Temporary { file, path: path.to_owned(), keep: false };
+    // There is no lock on a file that is not there: who writes one beside it has locked that.
+    remove_left_over(path, is_unlocked)?;
+    let mut new = Temporary::beside(path, 0o666)?;
+    lock(&new.file, Locking::Wait)?;
     new.file.write_all(bytes)?;
-    new.file.sync_all()?;
-    new.keep = true;
-    Ok(())
+    Ok(new)
 }

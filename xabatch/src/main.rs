@@ -6,13 +6,13 @@ mod failure;
 mod files;
 mod help;
 mod os;
+mod pool_file;
 mod regions;
 mod source;
 
 use failure::{usage, Failure};
 use std::ffi::OsString;
 use std::process::ExitCode;
-use xabatch::escape;
 
 fn main() -> ExitCode {
     os::size_limit_is_an_error();
@@ -21,7 +21,7 @@ fn main() -> ExitCode {
         Ok(()) => ExitCode::SUCCESS,
         Err(failure) => {
             if !failure.message.is_empty() {
-                eprintln!("xabatch: {}", escape::plain(&failure.message));
+                files::complain(&failure.message);
             }
             ExitCode::from(failure.status)
         }
@@ -33,7 +33,8 @@ fn act(arguments: &[OsString]) -> Result<(), Failure> {
         return Err(usage("no command; try 'xabatch --help'"));
     };
     let command = command.to_string_lossy();
-    let asks = rest.iter().take_while(|word| *word != "--").any(|word| word == "--help");
+    let is_asking = |word: &OsString| word == "--help" || word == "-h";
+    let asks = rest.iter().take_while(|word| *word != "--").any(is_asking);
     match &*command {
         "--help" | "-h" | "help" => help::write(rest.first()),
         "--version" | "-V" => files::write(help::VERSION.as_bytes()),

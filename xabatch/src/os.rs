@@ -1,14 +1,22 @@
-//! What the standard library has no name for. All `unsafe` code of this crate is here.
+//! What the standard library has no name for. The `unsafe` code of the program is here; that of the
+//! library part is in system.rs.
 
+use std::fs::File;
+use std::io;
+use std::os::fd::AsRawFd;
 use std::sync::atomic::{AtomicU8, Ordering};
 
 const F_GETFD: i32 = 1;
 const SIGXFSZ: i32 = 25;
 const SIG_IGN: usize = 1;
+const SEEK_DATA: i32 = 3;
+/// There is nothing there.
+const ENXIO: i32 = 6;
 
 extern "C" {
     fn fcntl(file: i32, command: i32, ...) -> i32;
     fn signal(number: i32, handler: usize) -> usize;
+    fn lseek(file: i32, offset: i64, whence: i32) -> i64;
 }
 
 /// Bit k: file k was closed when the process began.
@@ -39,4 +47,12 @@ pub fn was_closed(file: u8) -> bool {
 pub fn size_limit_is_an_error() {
     // SAFETY: ignores one signal; no handler is set.
     unsafe { signal(SIGXFSZ, SIG_IGN) };
+}
+
+/// Whether a file that is not empty is holes alone, without any data: it reads as zeros that nobody wrote.
+/// Moves where the file is read next.
+pub fn is_holes_alone(file: &File) -> bool {
+    // SAFETY: asks of an open file where its data begins; no memory is handed over.
+    let data = unsafe { lseek(file.as_raw_fd(), 0, SEEK_DATA) };
+    data == -1 && io::Error::last_os_error().raw_os_error() == Some(ENXIO)
 }

@@ -5,6 +5,8 @@ use std::time::{Duration, Instant};
 
 /// Less than this is read before anyone looks.
 pub const LARGE: u64 = 64 << 20;
+/// The same of what becomes text, or was text: that takes longer.
+pub const LARGE_AS_TEXT: u64 = 4 << 20;
 const WIDTH: u64 = 40;
 const BETWEEN: Duration = Duration::from_millis(100);
 
@@ -21,8 +23,20 @@ pub struct Progress {
 impl Progress {
     /// Of so much work; none is known of what comes through a pipe.
     pub fn of(total: Option<u64>) -> Progress {
+        Progress::from(LARGE, total)
+    }
+
+    /// Of text to or from records. Where the lines themselves go to a terminal there is no bar between them.
+    pub fn as_text(total: Option<u64>) -> Progress {
+        let mut progress = Progress::from(LARGE_AS_TEXT, total);
+        progress.shown &= !io::stdout().is_terminal();
+        progress
+    }
+
+    /// With a bar if there is so much work or more.
+    fn from(least: u64, total: Option<u64>) -> Progress {
         let total = total.unwrap_or(0);
-        let shown = total >= LARGE && io::stderr().is_terminal();
+        let shown = total >= least && io::stderr().is_terminal();
         Progress { total, done: 0, drawn: None, shown }
     }
 

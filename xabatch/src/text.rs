@@ -4,7 +4,7 @@
 //! mark 3) can be tried. An error has the line and column (both from 1) at which it stands.
 
 use std::fmt;
-use xapool_host::{BatchBuilder, BatchFull, Command, Word, FIND_ANY};
+use xapool_host::{BatchBuilder, Command, Word, FIND_ANY};
 
 #[derive(Clone, Debug, PartialEq, Eq)]
 pub struct SyntaxError {
@@ -19,42 +19,81 @@ impl fmt::Display for SyntaxError {
     }
 }
 
+/// So many errors of one text are told.
+pub const MOST_ERRORS: usize = 20;
+
+/// What is wrong with a text: its first errors, and how many more there are.
+#[derive(Clone, Debug, Default, PartialEq, Eq)]
+pub struct SyntaxErrors {
+    pub first: Vec<SyntaxError>,
+    pub more: usize,
+}
+
+impl SyntaxErrors {
+    fn add(&mut self, error: SyntaxError) {
+        if self.first.len() < MOST_ERRORS {
+            self.first.push(error);
+        } else {
+            self.more += 1;
+        }
+    }
+}
+
 /// The batch of a text.
-pub fn batch_of(text: &str) -> Result<BatchBuilder, SyntaxError> {
+pub fn batch_of(text: &str) -> Result<BatchBuilder, SyntaxErrors> {
+    watched_batch_of(text, &mut |_| {})
+}
+
+/// The same; `watch` has the bytes of each line when it was read.
+pub fn watched_batch_of(
+    text: &str,
+    watch: &mut dyn FnMut(usize),
+) -> Result<BatchBuilder, SyntaxErrors> {
     let mut batch = BatchBuilder::new();
-    each_command(text, |command, words, column| {
-        let full = |full: BatchFull| {
-            let message = format!("{full}; --long or --split takes more than one batch");
-            words.error_at(column, message)
-        };
-        batch.push(command).map_err(full)
+    let mut is_full = false;
+    each_command(text, watch, |command| match batch.push(command) {
+        // What follows has no room either: that is told once.
+        _ if is_full => Ok(()),
+        Ok(()) => Ok(()),
+        Err(full) => {
+            is_full = true;
+            Err(format!("{full}; --long or --split takes more than one batch"))
+        }
     })?;
     Ok(batch)
 }
 
 /// All commands of a text, also of one that is too long for a batch.
-pub fn commands_of(text: &str) -> Result<Vec<Command>, SyntaxError> {
+pub fn commands_of(text: &str, watch: &mut dyn FnMut(usize)) -> Result<Vec<Command>, SyntaxErrors> {
     let mut commands = Vec::new();
-    each_command(text, |command, _, _| {
+    each_command(text, watch, |command| {
         commands.push(command);
         Ok(())
     })?;
     Ok(commands)
 }
 
-/// Reads a text line by line; `take` has a command, its line and its column.
+/// Reads a text line by line, also after an error; `take` has each command, and may refuse it.
 fn each_command(
     text: &str,
-    mut take: impl FnMut(Command, &Words, usize) -> Result<(), SyntaxError>,
-) -> Result<(), SyntaxError> {
+    watch: &mut dyn FnMut(usize),
+    mut take: impl FnMut(Command) -> Result<(), String>,
+) -> Result<(), SyntaxErrors> {
+    let mut errors = SyntaxErrors::default();
     for (number, line) in text.lines().enumerate() {
         let mut words = Words::of(line, number + 1);
         let column = words.column();
-        if let Some(command) = words.line()? {
-            take(command, &words, column)?;
-        }
+        let taken = words.line().and_then(|command| match command {
+            Some(command) => take(command).map_err(|message| words.error_at(column, message)),
+            None => Ok(()),
+        });
+        taken.unwrap_or_else(|error| errors.add(error));
+        watch(line.len() + 1);
     }
-    Ok(())
+    if errors.first.is_empty() {
+        return Ok(());
+    }
+    Err(errors)
 }
 
 /// `FIRST..LAST`, as in a find.

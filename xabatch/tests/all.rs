@@ -47,9 +47,10 @@ fn random_pool(seed: u64) -> Pool<'static> {
 fn batch_to_text_and_back() {
     for seed in 0..500 {
         let batch = random_batch(seed, 60);
-        let decoded = decode::decode(batch.bytes());
-        assert_eq!((decoded.lines.len(), decoded.bad), (60, None));
-        let again = text::batch_of(&decoded.lines.join("\n")).expect("its own text");
+        let (items, bad) = decode::decode(batch.bytes());
+        assert_eq!((items.len(), bad), (60, None));
+        let lines: Vec<String> = items.iter().map(|item| item.to_string()).collect();
+        let again = text::batch_of(&lines.join("\n")).expect("its own text");
         assert_eq!(again, batch, "seed {seed}");
     }
 }
@@ -89,7 +90,9 @@ fn errors_have_their_place() {
         ("é load", 1, 1, "unknown"),
     ];
     for (input, line, column, message) in cases {
-        let error = text::batch_of(input).expect_err(input);
+        let errors = text::batch_of(input).expect_err(input);
+        assert_eq!((errors.first.len(), errors.more), (1, 0), "{input}: {errors:?}");
+        let error = &errors.first[0];
         assert_eq!((error.line, error.column), (line, column), "{input}: {error}");
         assert!(error.message.contains(message), "{input}: {error}");
     }
@@ -97,8 +100,12 @@ fn errors_have_their_place() {
 
 #[test]
 fn a_text_too_long_for_a_batch() {
-    let error = text::batch_of(&"load 1\n".repeat(2979)).expect_err("too long");
-    assert_eq!((error.line, error.column), (2979, 1));
+    // What comes after has no room either, and that is one error.
+    for lines in [2979, 4000] {
+        let errors = text::batch_of(&"load 1\n".repeat(lines)).expect_err("too long");
+        let places: Vec<_> = errors.first.iter().map(|error| (error.line, error.column)).collect();
+        assert_eq!((places, errors.more), (vec![(2979, 1)], 0));
+    }
 }
 
 /// Findings there are exactly where the library's check says no.
@@ -398,7 +405,12 @@ fn version_help_and_the_man_page() {
         let (status, help, _) = tool(&["help", command], &[]);
         let help = String::from_utf8(help).expect("text");
         assert_eq!((status, help.starts_with(&format!("usage: xabatch {command} "))), (0, true));
-        assert_eq!(tool(&[command, "--help"], &[]).1, help.as_bytes());
+        for asks in ["--help", "-h"] {
+            assert_eq!(tool(&[command, asks], &[]).1, help.as_bytes());
+            assert_eq!(tool(&[command, "file", asks], &[]).1, help.as_bytes());
+            // After -- it is a file.
+            assert_ne!(tool(&[command, "--", asks], &[]).1, help.as_bytes());
+        }
         assert!(all.contains(&format!("xabatch {command} ")));
         for word in help.split_whitespace().filter(|word| word.contains("--")) {
             let option = word.trim_matches(|c: char| !c.is_ascii_alphabetic() && c != '-');
@@ -411,6 +423,68 @@ fn version_help_and_the_man_page() {
     assert_eq!(tool(&["help", "shwo"], &[]).0, 2);
     assert_eq!(tool(&["run", "--quickly", "p"], &[]).0, 2);
     assert_eq!(tool(&["new", "1", "a", "b"], &[]).0, 2);
+}
+
+/// Each by its line; twenty are enough.
+#[test]
+fn all_errors_of_a_text_are_told() {
+    for (wrong, more) in
+        [(1, None), (2, None), (20, None), (21, Some("1 more error")), (25, Some("5 more errors"))]
+    {
+        let text: String = (0..wrong).map(|at| format!("load {at}\n  lode {at}\n")).collect();
+        for options in [&[][..], &["--long"]] {
+            let (status, out, errors) = tool(&[&["encode"], options].concat(), text.as_bytes());
+            assert_eq!((status, out.len()), (2, 0));
+            let lines: Vec<&str> = errors.lines().collect();
+            let told = wrong.min(20);
+            assert_eq!(lines.len(), told + usize::from(more.is_some()), "{errors}");
+            for (at, line) in lines[..told].iter().enumerate() {
+                let start = format!("xabatch: <stdin>:{}:3: unknown command 'lode'", 2 * at + 2);
+                assert!(line.starts_with(&start), "{line}");
+            }
+            let last = more.map(|more| format!("xabatch: and {more}"));
+            assert!(last.is_none_or(|last| lines[told] == last), "{errors}");
+        }
+    }
+    // A batch that is full is one error, and those after it are told too.
+    let text = "load 1\n".repeat(2980) + "lode 1\n";
+    let errors = tool(&["encode"], text.as_bytes()).2;
+    assert_eq!(errors.lines().count(), 2, "{errors}");
+    assert!(errors.contains(":2979:1: batch is full") && errors.contains(":2981:1: unknown"));
+}
+
+/// On a terminal much text, or many records, have a bar; where the lines go there themselves, none.
+#[test]
+fn encode_and_decode_have_a_bar() {
+    if !tool::bash("command -v script", &[]).1.starts_with(b"/") {
+        eprintln!("no 'script' here: the bar is not tried on a terminal");
+        return;
+    }
+    let folder = tool::Folder::new();
+    let large = "load 1\n".repeat(800_000);
+    std::fs::write(folder.path("large"), &large).expect("written");
+    std::fs::write(folder.path("small"), &large[..7000]).expect("written");
+    let said = |command: &str| {
+        let line = format!("TERM=dumb script -qec '{command}' /dev/null");
+        let line = format!("cd {} && {line}", folder.0.display());
+        let (status, out, _) = tool::bash(&line, &[]);
+        let text = String::from_utf8_lossy(&out).into_owned();
+        // The bar is gone before anything is said.
+        let mut parts = text.split(['\r', '\n']);
+        assert!(parts.all(|part| part.starts_with("xabatch: ") || !part.contains("xabatch: ")));
+        (status, text.contains("%\r"))
+    };
+    assert_eq!(said("\"$X\" encode --long large > records"), (0, true));
+    assert_eq!(said("\"$X\" encode --long small > few"), (0, false));
+    assert_eq!(said("\"$X\" decode records > text"), (0, true));
+    assert_eq!(said("\"$X\" decode few > text"), (0, false));
+    assert_eq!(said("\"$X\" decode records"), (0, false));
+    // With something to say at the end.
+    let absent = [&[130, 0, 21, 10][..], &[0; 20]].concat();
+    std::fs::write(folder.path("replies"), absent.repeat(200_000)).expect("written");
+    assert_eq!(said("\"$X\" decode replies > text"), (0, true));
+    std::fs::write(folder.path("large"), large + "lode 1\nlode 2\n").expect("written");
+    assert_eq!(said("\"$X\" encode --long large > records"), (2, true));
 }
 
 #[test]

@@ -162,7 +162,7 @@ fn faults_have_status_2() {
     for pair in [["/dev/null"; 2], ["/dev/null", &page], [&page, "/dev/null"], [&empty, &empty]] {
         assert_eq!(tool(&["compare", pair[0], pair[1]], &[]).0, 2, "{pair:?}");
     }
-    let line = format!("\"$X\" compare {page} {page}");
+    let line = format!("\"$X\" compare {page} {}", file(&folder, "copy", &[7; 4096]));
     for redirected in ["> /dev/full", ">&-"] {
         assert_eq!(bash(&format!("{line} {redirected}"), &[]).0, 2, "{redirected}");
     }
@@ -173,13 +173,10 @@ fn faults_have_status_2() {
 }
 
 #[test]
-fn a_file_is_compared_with_itself_and_with_a_pipe() {
+fn a_file_is_compared_with_a_pipe() {
     let folder = Folder::new();
     let bytes = random_bytes(4, PIECE + 9);
     let page = file(&folder, "page", &bytes);
-    let (status, out, errors) = tool(&["compare", &page, &page], &[]);
-    assert_eq!((status, lines(out)[2].as_str()), (0, "matched"));
-    assert!(errors.contains("are one file"), "{errors}");
     assert_eq!(tool(&["compare", &page, "-"], &bytes).0, 0);
     assert_eq!(tool(&["compare", "-", &page], &bytes).0, 0);
     assert_eq!(tool(&["compare", "-", &page], &bytes[1..]).0, 1);
@@ -210,8 +207,9 @@ fn a_file_that_changes_while_it_is_read_is_a_fault() {
         assert!(errors.contains("old: it changed while it was read"), "{change}: {errors}");
     }
     // A file that has more bytes than its length says, as those of /proc have.
-    for arguments in [&["crc", "/proc/version"][..], &["compare", "/proc/version", "/proc/version"]]
-    {
+    let folder = Folder::new();
+    let page = file(&folder, "page", &[7; 4096]);
+    for arguments in [&["crc", "/proc/version"][..], &["compare", "/proc/version", &page]] {
         let (status, out, errors) = tool(arguments, &[]);
         assert_eq!((status, out.len()), (arguments.len() as i32 - 1, 0), "{errors}");
         assert!(errors.contains("/proc/version: it changed"), "{errors}");
@@ -261,7 +259,8 @@ fn a_bar_is_for_terminals_and_large_files() {
     }
     let folder = Folder::new();
     let line = |size: &str, how: &str| {
-        format!("cd {} && truncate -s {size} a b && {how}", folder.0.display())
+        let data = "printf x | tee -a a >> b";
+        format!("cd {} && truncate -s {size} a b && {data} && {how}", folder.0.display())
     };
     let terminal = "TERM=dumb script -qec '\"$X\" compare a b' /dev/null";
     let (status, out, _) = bash(&line("40M", terminal), &[]);
@@ -270,5 +269,5 @@ fn a_bar_is_for_terminals_and_large_files() {
     let (status, out, _) = bash(&line("1M", terminal), &[]);
     assert!(status == 0 && !String::from_utf8_lossy(&out).contains('%'));
     let (status, _, errors) = bash(&line("40M", "\"$X\" compare a b"), &[]);
-    assert_eq!((status, errors.as_str()), (0, ""));
+    assert!(status == 0 && !errors.contains('%'), "{errors}");
 }

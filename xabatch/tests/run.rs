@@ -1,8 +1,9 @@
-//! `xabatch run` loses nothing: whatever fails, whenever it is killed, however many run at once.
+//! `xabatch run` loses nothing, however many run at once, and says what it did. (faults.rs has what
+//! fails and what is killed.)
 
 mod tool;
-mod trace;
 
+use std::ffi::CStr;
 use std::fs::{self, File, Permissions};
 use std::io::{Read, Write};
 use std::os::unix::fs::{chown, symlink, MetadataExt, PermissionsExt};
@@ -10,15 +11,7 @@ use std::os::unix::process::CommandExt;
 use std::path::Path;
 use std::process::{Command, Stdio};
 use tool::{bash, batch, run, tool, Folder, TOOL};
-use trace::{trace, Fault, Trace};
-
-const READ: u64 = 0;
-const WRITE: u64 = 1;
-const FLOCK: u64 = 73;
-const FSYNC: u64 = 74;
-const RENAME: u64 = 82;
-const EIO: i64 = 5;
-const ENOSPC: i64 = 28;
+use xabatch::system::{attribute, attribute_names, set_attribute};
 
 fn with(text: &str) -> String {
     format!("{text}\n")
@@ -75,100 +68,6 @@ fn sixteen_at_once() {
     let lost: Vec<&u64> = done.iter().filter(is_lost).collect();
     assert!(lost.is_empty(), "{} were done, but these are lost: {lost:?}", done.len());
     assert_eq!(done.len(), 16, "each waits for its turn");
-}
-
-/// The old pool, a batch that changes it, the pool after that, and a batch to go on with.
-struct Job {
-    old: Vec<u8>,
-    new: Vec<u8>,
-    batch: Vec<u8>,
-    next: Vec<u8>,
-}
-
-impl Job {
-    fn new() -> Job {
-        let folder = Folder::new();
-        let pool = folder.pool(40);
-        run(&pool, &with("store 7 order 0 value 1"));
-        let old = fs::read(&pool).expect("a pool");
-        let batch = batch("store 64 order 0 value 2\nload 7\n");
-        assert_eq!(tool(&["run", &folder.name("p.pool")], &batch).0, 0);
-        let new = fs::read(&pool).expect("a pool");
-        assert!(old != new);
-        let next = tool::batch("store 9 order 0 value 3\nload 7\n");
-        Job { old, new, batch, next }
-    }
-
-    /// Runs it with a fault in a new folder; gives the trace, and holds what is left to the promise.
-    fn with_fault(&self, fault: Fault) -> Trace {
-        let folder = Folder::new();
-        let (pool, replies) = (folder.path("p.pool"), folder.path("replies"));
-        fs::write(&pool, &self.old).expect("written");
-        fs::write(folder.path("batch"), &self.batch).expect("written");
-        let mut command = Command::new(TOOL);
-        // Without an environment the loader makes fewer calls.
-        command.env_clear().arg("run").arg(&pool).arg(folder.path("batch"));
-        command.stdin(Stdio::null()).stderr(Stdio::null());
-        command.stdout(File::create(&replies).expect("a file"));
-        let trace = trace(&mut command, fault);
-        let left = fs::read(&pool).expect("a pool is there");
-        let replied = fs::read(&replies).expect("a file").len();
-        assert!(left == self.old || left == self.new, "{fault:?}: {} bytes", left.len());
-        assert!(replied == 0 || left == self.new, "{fault:?}: replies, but the old pool");
-        if trace.status == Some(0) {
-            assert!((replied, left == self.new) == (48, true), "{fault:?}: status 0");
-        }
-        // What comes next works, and leaves nothing beside the pool.
-        let (status, replies, errors) = tool(&["run", &folder.name("p.pool")], &self.next);
-        assert_eq!((status, replies.len()), (0, 48), "{fault:?}: {errors}");
-        // Byte 44 is the last of the loaded word, and value 1 the word 3.
-        assert_eq!((replies[27], replies[44]), (0, 3), "{fault:?}: the old entry is lost");
-        assert_eq!(folder.names(), ["batch", "p.pool", "replies"], "{fault:?}");
-        trace
-    }
-}
-
-fn position(trace: &Trace, call: (u64, Option<u64>), from: usize) -> usize {
-    let is = |at: &(u64, u64)| at.0 == call.0 && call.1.is_none_or(|first| at.1 == first);
-    let found = trace.calls.iter().skip(from).position(is);
-    from + found.unwrap_or_else(|| panic!("no call {call:?} from {from}: {:?}", trace.calls))
-}
-
-#[test]
-fn lock_read_flush_rename_flush_reply() {
-    let trace = Job::new().with_fault(Fault::Never);
-    let mut at = position(&trace, (FLOCK, None), 0);
-    for call in [(READ, None), (WRITE, None), (FSYNC, None), (RENAME, None), (FSYNC, None)] {
-        at = position(&trace, call, at + 1);
-    }
-    // The replies are the last thing that is written, and to standard output or a copy of it.
-    let last = trace.calls.iter().rposition(|call| call.0 == WRITE).expect("a write");
-    assert!(last > at, "replies before the pool is safe: {:?}", trace.calls);
-    let writes = trace.calls.iter().skip(at).filter(|call| call.0 == WRITE).count();
-    assert_eq!(writes, 1, "{:?}", trace.calls);
-}
-
-#[test]
-fn killed_at_each_system_call() {
-    let job = Job::new();
-    let calls = job.with_fault(Fault::Never).calls.len();
-    assert!(calls > 20, "{calls}");
-    for call in 0..calls {
-        assert_eq!(job.with_fault(Fault::KillBefore(call)).status, None, "call {call}");
-        job.with_fault(Fault::KillAfter(call));
-    }
-}
-
-#[test]
-fn each_system_call_fails() {
-    let job = Job::new();
-    let calls = job.with_fault(Fault::Never).calls;
-    for (call, (number, _)) in calls.iter().enumerate() {
-        job.with_fault(Fault::Fail(call, EIO));
-        if [WRITE, FSYNC, RENAME].contains(number) {
-            job.with_fault(Fault::Fail(call, ENOSPC));
-        }
-    }
 }
 
 #[test]
@@ -233,10 +132,18 @@ fn who_may_not_write_changes_nothing() {
         let (status, errors) = nobody("store 5 order 0 value 9\n");
         assert_eq!((status, errors.contains(message)), (Some(1), true), "{errors}");
         assert!(errors.contains("the file is as it was"), "{errors}");
-        assert_eq!(nobody("load 5\n"), (Some(0), String::new()));
+        assert_eq!(nobody("find 5..5 any budget 9\n"), (Some(0), String::new()));
         assert!(fs::read(&pool).expect("a pool") == before);
         assert_eq!(folder.names(), ["p.pool", "xabatch"]);
     }
+    // A folder that may not be read cannot be flushed, and what is not flushed is not acknowledged.
+    modes(0o711, 0o666);
+    let (status, errors) = nobody("find 5..5 any budget 9\n");
+    assert_eq!(
+        (status, errors.contains("flush to disk: Permission denied")),
+        (Some(3), true),
+        "{errors}"
+    );
 }
 
 #[test]
@@ -280,7 +187,7 @@ fn the_lock_is_free_while_replies_are_written() {
     for text in ["load 1\n".repeat(6000), "store 1 order 0 value 1\n".repeat(6000)] {
         let mut command = Command::new(TOOL);
         command.arg("run").arg(&pool).stdin(Stdio::piped()).stdout(Stdio::piped());
-        let mut slow = command.spawn().expect("the tool starts");
+        let mut slow = command.stderr(Stdio::null()).spawn().expect("the tool starts");
         slow.stdin.take().expect("a pipe").write_all(&batch(&text)).expect("it reads");
         // More replies than a pipe holds: once the first is there, the rest waits for us.
         let mut output = slow.stdout.take().expect("a pipe");
@@ -371,4 +278,107 @@ fn the_file_at_fault_is_named() {
     fs::write(&pool, bytes).expect("written");
     let (_, _, errors) = tool(&["run", &folder.name("p.pool"), &folder.name("bad.batch")], &[]);
     assert!(errors.contains("p.pool: pool is not well-formed"), "{errors}");
+}
+
+/// An access control list: a version, and then the tag, rights and number of each line.
+fn access(lines: &[(u16, u16, u32)]) -> Vec<u8> {
+    let mut bytes = 2u32.to_le_bytes().to_vec();
+    for (tag, rights, number) in lines {
+        bytes.extend(tag.to_le_bytes());
+        bytes.extend(rights.to_le_bytes());
+        bytes.extend(number.to_le_bytes());
+    }
+    bytes
+}
+
+const ACCESS: &CStr = c"system.posix_acl_access";
+const DEFAULT: &CStr = c"system.posix_acl_default";
+
+/// Owner rw, user 65534 r, group -, mask r, others -.
+fn access_of_another() -> Vec<u8> {
+    let none = u32::MAX;
+    access(&[(1, 6, none), (2, 4, 65_534), (4, 0, none), (16, 4, none), (32, 0, none)])
+}
+
+#[test]
+fn attributes_and_access_lists_stay() {
+    let folder = Folder::new();
+    let pool = folder.pool(2);
+    let open = || File::open(&pool).expect("a pool");
+    let with = "a file system with attributes";
+    set_attribute(&open(), c"user.note", b"kept").expect(with);
+    set_attribute(&open(), c"user.empty", b"").expect(with);
+    set_attribute(&open(), c"user.long", &[7; 3000]).expect(with);
+    set_attribute(&open(), ACCESS, &access_of_another()).expect(with);
+    let before = attribute_names(&open()).expect("names");
+    let mode = fs::metadata(&pool).expect("a pool").mode();
+    assert!(run(&pool, &self::with("store 5 order 0 value 9")).contains("done"));
+    assert_eq!(attribute_names(&open()).expect("names"), before);
+    let value = |name: &CStr| attribute(&open(), name).expect("a value").expect("it is there");
+    assert_eq!((value(c"user.note"), value(c"user.empty")), (b"kept".to_vec(), Vec::new()));
+    assert_eq!(value(c"user.long"), [7; 3000]);
+    assert_eq!(value(ACCESS), access_of_another());
+    assert_eq!(fs::metadata(&pool).expect("a pool").mode(), mode);
+}
+
+/// What a folder hands down to new files is no right to a pool that did not have it.
+#[test]
+fn no_access_list_is_added() {
+    let folder = Folder::new();
+    let pool = folder.pool(2);
+    let parent = File::open(&folder.0).expect("a folder");
+    set_attribute(&parent, DEFAULT, &access_of_another()).expect("a file system with attributes");
+    assert!(run(&pool, &with("store 5 order 0 value 9")).contains("done"));
+    let pool = File::open(&pool).expect("a pool");
+    assert_eq!(attribute(&pool, ACCESS).expect("a value"), None);
+}
+
+/// Sixteen make the pool at once: one has made it, and the others say so.
+#[test]
+fn one_of_many_makes_the_pool() {
+    let folder = Folder::new();
+    let start = |_| {
+        let mut command = Command::new(TOOL);
+        command.args(["new", "3", "p.pool"]).current_dir(&folder.0).stderr(Stdio::null());
+        command.spawn().expect("the tool starts")
+    };
+    let processes: Vec<_> = (0..16).map(start).collect();
+    let status = |mut process: std::process::Child| process.wait().expect("it ends").code();
+    let made: Vec<_> = processes.into_iter().map(status).collect();
+    assert_eq!(made.iter().filter(|status| **status == Some(0)).count(), 1, "{made:?}");
+    assert!(made.iter().all(|status| [Some(0), Some(1)].contains(status)), "{made:?}");
+    assert!(run(&folder.path("p.pool"), &with("store 5 order 0 value 9")).contains("done"));
+    assert_eq!(folder.names(), ["p.pool"]);
+}
+
+/// What another process is writing is locked, and stays.
+#[test]
+fn new_removes_what_is_left_over_and_no_more() {
+    let folder = Folder::new();
+    let names =
+        [".p.pool.xabatch-1", ".p.pool.xabatch-2", ".p.pool.xabatch-x", ".q.pool.xabatch-1"];
+    let files = names.map(|name| File::create(folder.path(name)).expect("a file"));
+    files[1].lock().expect("the lock");
+    assert_eq!(tool(&["new", "3", &folder.name("p.pool")], &[]).0, 0);
+    assert_eq!(folder.names(), [names[1], names[2], names[3], "p.pool"]);
+}
+
+/// As any new file: what the mask lets through.
+#[test]
+fn a_new_pool_has_the_mode_of_the_mask() {
+    let folder = Folder::new();
+    let line = format!("cd {}; umask 027; \"$X\" new 3 p.pool", folder.0.display());
+    assert_eq!(bash(&line, &[]).0, 0);
+    let mode = fs::metadata(folder.path("p.pool")).expect("a pool").mode();
+    assert_eq!(mode & 0o7777, 0o640);
+}
+
+#[test]
+fn help_is_given_after_a_command() {
+    let help = tool(&["help", "run"], &[]);
+    assert_eq!((help.0, help.1.starts_with(b"usage: xabatch run")), (0, true));
+    assert_eq!(tool(&["run", "-h"], &[]), help);
+    assert_eq!(tool(&["run", "p.pool", "--help"], &[]), help);
+    // After -- it is a file.
+    assert_eq!(tool(&["run", "--", "-h"], &[]).0, 1);
 }

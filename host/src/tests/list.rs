@@ -161,12 +161,63 @@ fn a_list_that_was_kept_is_read_or_not() {
     assert_eq!((rest.next().map(|entry| entry.base), rest.len()), (Some(8), 2));
     assert_eq!(rest.bytes(), list.bytes());
     for cut in (0..63).filter(|cut| cut % 21 != 0) {
-        let bad = BadListed { place: cut - cut % 21 };
+        let bad = BadListed { place: cut - cut % 21, fault: ListFault::NoEntry };
         assert_eq!(Listing::read(bytes[..cut].to_vec()), Err(bad), "{cut} bytes");
     }
     for (place, byte) in [(21, 33), (22, 1), (23, 17), (32, 64), (41, 8)] {
         let mut other = bytes.clone();
         other[place] = byte;
-        assert_eq!(Listing::read(other), Err(BadListed { place: 21 }), "byte {place}");
+        let bad = Listing::read(other).expect_err("a bad byte");
+        assert_eq!(bad.place, 21, "byte {place}");
     }
+}
+
+fn entry(base: u64, order: u8, word: u64, marks: u8) -> Entry {
+    Entry { base, order, word: Word(word), marks: Marks(marks) }
+}
+
+/// What is wrong with the list of these entries, if something is.
+fn fault(entries: &[Entry]) -> Option<(usize, ListFault)> {
+    let bytes = entries.iter().flat_map(|entry| entry.listed()).collect();
+    Listing::read(bytes).err().map(|bad| (bad.place, bad.fault))
+}
+
+/// R6 to R9, R143 and R202: aligned runs of order 0 to 63 that do not meet, by rising index, none twice, with
+/// words that can be stored.
+#[test]
+fn a_list_that_no_pool_gives_is_refused() {
+    let (low, high) = (entry(8, 3, 3, 7), entry(64, 0, 4, 0));
+    assert_eq!(fault(&[low, high, entry(LAST, 0, 5, 0)]), None);
+    assert_eq!(fault(&[entry(0, 63, 3, 0), entry(MIDDLE, 63, 5, 0)]), None);
+    let order = Some((21, ListFault::Order));
+    assert_eq!(fault(&[high, low]), order, "unsorted");
+    assert_eq!(fault(&[low, low]), order, "doubled");
+    assert_eq!(fault(&[Entry::reserved(5), Entry::reserved(5)]), order, "doubled and reserved");
+    for base in 8..16 {
+        assert_eq!(fault(&[low, entry(base, 0, 5, 0)]), order, "{base} is in 8..=15");
+        assert_eq!(fault(&[low, Entry::reserved(base)]), order, "{base} is in 8..=15");
+    }
+    assert_eq!(fault(&[low, entry(16, 0, 5, 0)]), None);
+    // After the last index nothing comes, and 0 is not after it.
+    for last in [entry(LAST, 0, 3, 0), entry(MIDDLE, 63, 3, 0)] {
+        assert_eq!(fault(&[last, entry(0, 0, 5, 0)]), order);
+        assert_eq!(fault(&[last, entry(LAST, 0, 5, 0)]), order);
+    }
+    for (base, order) in [(1, 1), (12, 3), (LAST, 1), (MIDDLE + 8, 63), (0, 64), (0, 255), (5, 64)]
+    {
+        let place = Some((21, ListFault::Run));
+        assert_eq!(fault(&[entry(0, 0, 3, 0), entry(base.max(1), order, 5, 0)]), place, "{base}");
+    }
+    for word in [2, 6, 1030, 1026, 4098, LAST - 1] {
+        assert_eq!(fault(&[low, entry(64, 0, word, 0)]), Some((21, ListFault::Word)), "{word}");
+    }
+    for marks in [8, 16, 255] {
+        assert_eq!(fault(&[low, entry(64, 0, 3, marks)]), Some((21, ListFault::Marks)));
+    }
+    for (order, marks) in [(1, 0), (0, 1), (0, 4), (6, 7)] {
+        let reserved = fault(&[low, entry(64, order, 0, marks)]);
+        assert_eq!(reserved, Some((21, ListFault::Reserved)), "order {order}, marks {marks}");
+    }
+    let text = BadListed { place: 21, fault: ListFault::Order }.to_string();
+    assert_eq!(text, "byte 21: it does not begin after the end of the entry before it");
 }

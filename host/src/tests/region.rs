@@ -148,6 +148,9 @@ fn nothing_is_never_a_match() {
     assert_eq!(pieces.comparison().verdict, Verdict::NothingToCompare);
     pieces.take(b"x", b"");
     assert_eq!(pieces.comparison().verdict, Verdict::NothingToCompare);
+    // Zeros that were read are bytes like any other.
+    compared(&[0; 64], &[0; 64]);
+    assert_eq!(compare(&[0; 64], &[0; 64]).verdict, Verdict::Matched);
     // Digests can be equal where regions are not.
     let (old, new) = same_digest();
     assert_eq!(Crc32c::of(&old), Crc32c::of(&new));

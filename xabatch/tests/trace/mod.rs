@@ -1,7 +1,9 @@
 //! A process watched at each of its system calls, to end it or to let one fail. (Linux on x86-64;
 //! no tool is needed, but the system must let a process trace its own children.)
 
+use std::fs;
 use std::io;
+use std::os::unix::fs::MetadataExt;
 use std::os::unix::process::CommandExt;
 use std::process::Command;
 
@@ -38,11 +40,22 @@ pub enum Fault {
     Fail(usize, i64),
 }
 
+/// A system call that was made.
+#[derive(Clone, Copy, Debug, PartialEq, Eq)]
+pub struct Call {
+    pub number: u64,
+    /// Its first argument.
+    pub first: u64,
+    /// Device and inode of the file whose number that is, if it is one.
+    pub file: Option<(u64, u64)>,
+    /// What it gave; none if the process ended in it.
+    pub result: Option<i64>,
+}
+
 /// How a watched process went.
 #[derive(Debug)]
 pub struct Trace {
-    /// Each system call: its number and first argument.
-    pub calls: Vec<(u64, u64)>,
+    pub calls: Vec<Call>,
     /// The exit status; none if a signal ended it.
     pub status: Option<i32>,
 }
@@ -70,6 +83,14 @@ fn wait(process: i32) -> i32 {
 fn end(process: i32) {
     // SAFETY: our child, which we have not waited for to its end.
     unsafe { kill(process, SIGKILL) };
+}
+
+/// The call at whose beginning the process stopped.
+fn call_of(process: i32) -> Call {
+    let (number, first) = (register(process, ORIG_RAX), register(process, RDI));
+    let file = fs::metadata(format!("/proc/{process}/fd/{first}")).ok();
+    let file = file.map(|data| (data.dev(), data.ino()));
+    Call { number, first, file, result: None }
 }
 
 #[allow(clippy::zombie_processes)] // it is waited for by its number
@@ -104,9 +125,13 @@ pub fn trace(command: &mut Command, fault: Fault) -> Trace {
         }
         inside = !inside;
         if inside {
-            calls.push((register(process, ORIG_RAX), register(process, RDI)));
+            calls.push(call_of(process));
         }
-        at_call(process, fault, calls.len() - 1, inside);
+        let number = calls.len() - 1;
+        at_call(process, fault, number, inside);
+        if !inside {
+            calls[number].result = Some(register(process, RAX) as i64);
+        }
     }
 }
 
