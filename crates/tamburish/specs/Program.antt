@@ -4,7 +4,8 @@ use mathlib.Core.List.{List, [], _∷_, _++_}
 use lib.Dec.{ltb}
 use lib.ListN.{length, drop}
 use Rattle.blocks.specs.Choice.{pick}
-use Rattle.xapool.specs.Calls.{Called, badRecord, refuseCall, run}
+use Rattle.batch.specs.Batch.{Parsed, Parsed.commands, Parsed.refused, parse}
+use Rattle.xapool.specs.Calls.{Called, badRecord, refuseCall, replies, run}
 use Rattle.xapool.specs.Demand.{Call.init, wordsAfter}
 
 -- R230: the longest batch that the program takes
@@ -40,3 +41,20 @@ size c = sizeFor (c .result .answer) (c .result .number)
 
 abbrev pub space : Called → List ℕ
 space c = spaceFor (c .result .answer) (c .result .number) (c .reply)
+
+-- WHAT THE PROGRAM WRITES, by the bytes that it read alone: a pool of 40 nodes (R3), the model from an empty list
+abbrev pub programNodes : ℕ
+programNodes = 40
+
+abbrev pub inputBytes : ℕ
+inputBytes = 8193
+
+abbrev pub outputBytes : ℕ
+outputBytes = 17856
+
+abbrev pub writtenFor : Parsed → List ℕ
+writtenFor (refused at) = refusalBytes badRecord at
+writtenFor (commands cs) = replies programNodes [] cs
+
+abbrev pub written : List ℕ → List ℕ
+written bs = pick (ltb maxInput (length bs)) (refusalBytes badRecord maxInput) (writtenFor (parse bs))
