@@ -3,3 +3,4 @@ pub mod ParseLaws
 pub mod WriteLaws
 pub mod BoundLaws
 pub mod CutLaws
+pub mod RecordLaws
