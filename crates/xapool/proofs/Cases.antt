@@ -2,6 +2,10 @@
 -- and words of the pool out.
 use mathlib.Core.Path.{_≡_, refl}
 use mathlib.Core.Bool.{true}
+use mathlib.Core.List.{[], _∷_, _++_}
+use lib.ListN.{drop, replicate}
+use Rattle.layout.specs.Words.{poolWords}
+use Rattle.verify.specs.Answers.{initWords}
 use Rattle.tree.specs.Tree.{tall, has, slotMark}
 use Rattle.tree.specs.Slots.{slot}
 use Rattle.layout.specs.Words.{fieldOf}
@@ -20,3 +24,15 @@ pub starred-cases : casesHold cases ≡ true
 unfolding tall has slotMark slot fieldOf slotOf span below depthTo stopTier turnAt step findFrom readAt parseFrom restAt parse execute
     isWellFormed P.run C.run cases
 starred-cases = refl
+
+-- case 14 (R119), of literal bytes: nothing here is made by the definitions' own encoders
+pub case-14 :
+    drop 48 (C.run (initWords (replicate (poolWords 3) 0))
+    (0x01 ∷ 0x00 ∷ 0x11 ∷ replicate 8 0 ++ 0x00 ∷ replicate 7 0 ++ 0x03
+    ∷ 0x01 ∷ 0x00 ∷ 0x11 ∷ replicate 7 0 ++ 0x40 ∷ 0x00 ∷ replicate 7 0 ++ 0x05
+    ∷ 0x02 ∷ 0x00 ∷ 0x08 ∷ replicate 7 0 ++ 0x40 ∷ [])
+    (replicate 72 0) .reply)
+    ≡ 0x82 ∷ 0x00 ∷ 0x15 ∷ 0x00 ∷ replicate 7 0 ++ 0x40 ∷ 0x00 ∷ replicate 7 0 ++ 0x05 ∷ 0x00 ∷ 0x00 ∷ 0x02 ∷ []
+unfolding tall has slotMark slot fieldOf slotOf span below depthTo stopTier turnAt step findFrom readAt parseFrom restAt parse execute
+    isWellFormed P.run C.run
+case-14 = refl

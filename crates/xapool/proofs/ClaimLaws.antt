@@ -36,6 +36,7 @@ use Rattle.execute.specs.Part.{mayWrite}
 use Rattle.execute.proofs.ExecuteLaws.{Kept, next-kept, states-kept, short-11, reserve-11}
 use Rattle.execute.proofs.Footprint.{footprint, refused-words}
 use Rattle.execute.proofs.ReplyFits.{reply-fits}
+use Rattle.execute.proofs.TableLaws.{rows}
 use Rattle.xapool.specs.Calls.{Called, run, runParsed, replies, result, done, listOver}
 use Rattle.xapool.specs.Running.{wordsOf}
 use Rattle.xapool.specs.Demand.{
@@ -147,6 +148,7 @@ module _ (n : ℕ) (s : State) (k : Kept n s) (c : Command) where
         refused = refused-words n s k c;
         shortage = λ i o w e. short-exact n (s .list) i o w;
         reserve-shortage = λ i e. reserve-exact n (s .list) i;
+        row = rows n (s .list) (k .valid) c;
         fits = reply-fits n (s .list) (k .valid) c f;
       }
 

@@ -22,6 +22,7 @@ use Rattle.batch.specs.Batch.{Parsed, Parsed.commands, Parsed.refused, parse}
 use Rattle.batch.specs.Reply.{replyBytes}
 use Rattle.execute.specs.Execute.{execute, tooFewNodes}
 use Rattle.execute.specs.Part.{mayWrite}
+use Rattle.execute.specs.Table.{CommandRow}
 use Rattle.execute.specs.Widths.{FitsReply}
 use Rattle.verify.specs.Answers.{checkAnswer, initAnswer, initWords}
 use Rattle.xapool.specs.Calls.{
@@ -121,6 +122,8 @@ pub record Commanded (n : ℕ) (l : List Entry) (c : Command) (ws ws′ : List �
   pub refused : (execute n l c .reply .answer ≡ 0 → ⊥) → ws′ ≡ ws
   pub shortage : (i k w : ℕ) → c ≡ Store i k w → ShortExact n l i k w
   pub reserve-shortage : (i : ℕ) → c ≡ Reserve i → ReserveShort n l i
+  -- R73 to R81: its answer is the one whose row of the table holds (execute/TableLaws: `row-sole`)
+  pub row : CommandRow n l c (execute n l c)
   -- R49: no field of its reply is cut
   pub fits : FitsReply (execute n l c .reply)
 
