@@ -116,6 +116,7 @@ pub extern "C" fn xapool_init(pool: &mut [u64]) -> Result
 #[no_mangle]
 pub extern "C" fn xapool_check(pool: &[u64]) -> Result
     ensures { λ r. ⌜ r ≡ checkResult (now (pool .entry)) ⌝ }
+    ensures { λ _. ⌜ now (pool .exit) ≡ now (pool .entry) ⌝ }
 {
     let answer = verify::check(pool);
     Result {
