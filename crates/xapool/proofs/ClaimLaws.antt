@@ -31,12 +31,12 @@ use Rattle.batch.specs.Reply.{replyBytes}
 use Rattle.batch.proofs.BoundLaws.{AllFit, parse-fits}
 use Rattle.batch.proofs.CutLaws.{cut}
 use Rattle.execute.specs.Execute.{Executed, execute, replyOf, short, reserving}
-use Rattle.execute.specs.State.{State, next, states}
+use Rattle.execute.specs.State.{State, Kept, next, states}
 use Rattle.execute.specs.Part.{mayWrite}
-use Rattle.execute.proofs.ExecuteLaws.{Kept, next-kept, states-kept, short-11, reserve-11}
+use Rattle.execute.proofs.ExecuteLaws.{next-kept, states-kept, short-11, reserve-11}
 use Rattle.execute.proofs.Footprint.{footprint, refused-words}
 use Rattle.execute.proofs.ReplyFits.{reply-fits}
-use Rattle.execute.proofs.TableLaws.{rows}
+use Rattle.execute.proofs.TableLaws.{rows, row-sole}
 use Rattle.xapool.specs.Calls.{Called, run, runParsed, replies, result, done, listOver}
 use Rattle.xapool.specs.Running.{wordsOf}
 use Rattle.xapool.specs.Demand.{
@@ -149,6 +149,7 @@ module _ (n : ℕ) (s : State) (k : Kept n s) (c : Command) where
         shortage = λ i o w e. short-exact n (s .list) i o w;
         reserve-shortage = λ i e. reserve-exact n (s .list) i;
         row = rows n (s .list) (k .valid) c;
+        sole = row-sole n (s .list) (k .valid);
         fits = reply-fits n (s .list) (k .valid) c f;
       }
 
