@@ -4,3 +4,4 @@ pub mod WriteLaws
 pub mod BoundLaws
 pub mod CutLaws
 pub mod RecordLaws
+pub mod Literals

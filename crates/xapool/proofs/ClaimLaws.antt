@@ -30,6 +30,7 @@ use Rattle.batch.specs.Batch.{Parsed, Parsed.commands, Parsed.refused, parse}
 use Rattle.batch.specs.Reply.{replyBytes}
 use Rattle.batch.proofs.BoundLaws.{AllFit, parse-fits}
 use Rattle.batch.proofs.CutLaws.{cut}
+use Rattle.listing.proofs.ListedLaws.{listed-fits}
 use Rattle.execute.specs.Execute.{Executed, execute, replyOf, short, reserving}
 use Rattle.execute.specs.State.{State, Kept, next, states}
 use Rattle.execute.specs.Part.{mayWrite}
@@ -222,8 +223,10 @@ module _ {n : ℕ} {l : List Entry} {os : Places} {ws : List ℕ} (lo : 1 ≤ n)
     at-call Call.init b = rw (sized-is (sized lo hi p)) refl
     at-call Call.check b = ap (λ (a : ℕ). result a 0) (prescribed-0 (sized lo hi p) p)
     at-call (Call.batch bs rs) b = at-batch bs rs b (parse bs) refl
-    at-call (Call.list a z bs) b =
-        list-checked ws a z bs (prescribed-0 (sized lo hi p) p) ∙ ap (λ (x : List Entry). listOver x a z bs) (decode-list p)
+    at-call (Call.list a z bs) b = (
+      list-checked ws a z bs (prescribed-0 (sized lo hi p) p) ∙ ap (λ (x : List Entry). listOver x a z bs) (decode-list p),
+      listed-fits a z (p .valid),
+    )
 
 -- R102
 pub demand-3-whole : {n : ℕ} {l : List Entry} {ws : List ℕ} → Starts n l ws → {cs : List Call} → All Bytewise cs →

@@ -12,6 +12,7 @@ use Rattle.verify.specs.Answers.{checkAnswer, Verdict, Verdict.well-formed, Ver
 use Rattle.verify.proofs.AnswerLaws.{answered, meaning, accepted, well-formed-0}
 use Rattle.batch.specs.Batch.{Parsed, Parsed.commands, Parsed.refused, parse}
 use Rattle.batch.specs.Reply.{replyBytes}
+use Rattle.batch.proofs.RecordLaws.{refused-exactly}
 use Rattle.xapool.specs.Calls.{Called, refuseCall, done, run}
 use Rattle.xapool.specs.Refusal.{
   CallRow,
@@ -31,7 +32,7 @@ module _ (ws bs rs : List ℕ) where
       s = accepted ws e
 
       go : (p : Parsed) → parse bs ≡ p → CallRow ws bs rs (run ws bs rs)
-      go (Parsed.refused at) q = subst (CallRow ws bs rs) (sym (run-checked ws bs rs e q)) (row-3 s at q)
+      go (Parsed.refused at) q = subst (CallRow ws bs rs) (sym (run-checked ws bs rs e q)) (row-3 s at (refused-exactly bs at .0 q))
       go (Parsed.commands cs) q =
           subst (CallRow ws bs rs) (sym (run-checked ws bs rs e q))
           (byT (ltb (length rs) (replyBytes * length cs)) (λ t. rw t (row-4 s cs q (ltb-true _ _ t)))
@@ -61,7 +62,7 @@ module _ (ws bs rs : List ℕ) where
       let e : 2 ≡ checkAnswer ws = answered ws 2 (malformed n z f) in
       sym (run-unchecked ws bs rs (λ x. let z : _≡_ {A = ℕ} 2 0 = e ∙ x in omega arith)
       ∙ ap (λ (a : ℕ). refuseCall ws rs a 0) (sym e))
-  call-sole (row-3 s at q) = sym (run-checked ws bs rs (well-formed-0 s) q)
+  call-sole (row-3 s at q) = sym (run-checked ws bs rs (well-formed-0 s) (refused-exactly bs at .1 q))
   call-sole (row-4 s cs q h) =
       sym (run-checked ws bs rs (well-formed-0 s) q ∙ rw (lt-ltb (length rs) (replyBytes * length cs) h) refl)
   call-sole (row-0 s cs q h) =
