@@ -34,6 +34,7 @@ use Rattle.tamburish.specs.Program.{
   size,
   space,
   programNodes,
+  inputBytes,
   outputBytes,
   writtenFor,
   written,
@@ -137,3 +138,15 @@ module _ (ws bs rs : List ℕ) (pool : length ws ≡ poolWords programNodes) (ou
       (λ t. let h : length bs ≤ maxInput = ltb-false _ _ t in
       let e = ran-is h in
       rw (t, e, runs) (by-parse (parse bs) refl h))
+
+-- the program's numbers: 8,192 bytes are taken and one more is read, 40 nodes; and its refusals in bytes (R56, R230)
+pub program-in-numbers : (inputBytes ≡ 8193) × (programNodes ≡ 40)
+program-in-numbers = (refl, refl)
+
+pub refusals-in-bytes : (bs : List ℕ) →
+    (8192 < length bs → written bs ≡ 0xff ∷ 0x00 ∷ 0x03 ∷ 0x03 ∷ 0x20 ∷ 0x00 ∷ [])
+    × (length bs ≤ 8192 → parse bs ≡ Parsed.refused 0x1234 → written bs ≡ 0xff ∷ 0x00 ∷ 0x03 ∷ 0x03 ∷ 0x12 ∷ 0x34 ∷ [])
+refusals-in-bytes bs = (
+  λ h. rw (lt-ltb maxInput (length bs) h) refl,
+  λ h e. rw (le-ltb maxInput (length bs) h, e) refl,
+)

@@ -25,8 +25,7 @@ cast-t7 c = search needs
 
 returns : tie.Need-returns
 returns c =
-    let r = c .before .before .before .compare-digests in
-    (
+    let r = c .before .before .before .compare-digests in (
       ap (λ (n : ℕ). numbered n (r .result)) (c .before .before .number .ensures)
           ∙ ap (λ (x : Compared). numbered (number (x .verdict)) x) (r .ensures),
       (refl, refl),
