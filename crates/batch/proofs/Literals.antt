@@ -1,5 +1,5 @@
--- The bytes of a batch and of a reply in numbers alone (R42 to R49, R204), and the limit of a batch (R43, R71). No constant of the formats
--- is used for what comes out, so that none can change here and in the code together.
+-- The bytes of a batch and of a reply in numbers alone (R42 to R49, R204), and the limit of a batch (R43, R71). No constant of the
+-- formats is used for what comes out, so that none can change here and in the code together.
 use Prim.Native.Nat.{ℕ, _≤_, _<_}
 use mathlib.Core.Path.{_≡_, refl}
 use mathlib.Core.List.{List, [], _∷_}

@@ -13,8 +13,8 @@ use Rattle.execute.specs.Execute.{execute}
 use Rattle.execute.specs.State.{State, states}
 use Rattle.execute.specs.Part.{partOf}
 
--- case 3 in a pool of 5 nodes: the head is node 0, node 1 is over 0 to 63, node 2 over 64 to 127, the others are free. The words from
--- 0 on are the anchor's, from 4 on those of node 0, and 70 of each further node
+-- case 3 in a pool of 5 nodes: the head is node 0, node 1 is over 0 to 63, node 2 over 64 to 127, the others are free. The words
+-- from 0 on are the anchor's, from 4 on those of node 0, and 70 of each further node
 pub part-in-numbers :
     map
     (partOf 5 (states 5 (record { list = []; places = replicate 5 none }) (Store 0 0 3 ∷ Store 64 0 5 ∷ [])))

@@ -1,5 +1,5 @@
--- The listing is in index order, has each entry once, and has exactly those whose run meets the range (R143); no field of theirs is cut
--- (R144).
+-- The listing is in index order, has each entry once, and has exactly those whose run meets the range (R143); no field of theirs is
+-- cut (R144).
 use Prim.Native.Nat.{ℕ, _+_, _^_, _≤_, _<_, max}
 use mathlib.Core.List.{List, [], _∷_}
 use native.Mathlib.Omega.{arith}

@@ -1,5 +1,5 @@
--- The bytes of a listing in numbers alone (R144 to R146, R202). No constant of the format is used for what comes out, so that none can
--- change here and in the code together.
+-- The bytes of a listing in numbers alone (R144 to R146, R202). No constant of the format is used for what comes out, so that none
+-- can change here and in the code together.
 use mathlib.Core.Path.{_≡_, refl}
 use mathlib.Core.List.{[], _∷_}
 use lib.ListN.{replicate}

@@ -17,7 +17,20 @@ use Rattle.batch.specs.declared.Command.{Command}
 use Rattle.batch.specs.declared.Cursor.{Cursor}
 use Rattle.batch.specs.declared.Read.{Read}
 use Rattle.batch.specs.declared.Read.the-variants.{Next, Bad, End}
-use Rattle.batch.specs.Batch.{maxBatch, headBytes, fieldBytes, Parsed, Parsed.commands, Parsed.refused, consTo, parseRead, readAt, parseFrom, restAt, parse}
+use Rattle.batch.specs.Batch.{
+  maxBatch,
+  headBytes,
+  fieldBytes,
+  Parsed,
+  Parsed.commands,
+  Parsed.refused,
+  consTo,
+  parseRead,
+  readAt,
+  parseFrom,
+  restAt,
+  parse,
+}
 use Rattle.batch.specs.Reply.{replyBytes}
 use Rattle.batch.proofs.ParseLaws.{WasRead, was-read, Whole, whole, Onward, next-after, not-refused, parse-long, parse-rest}
 use Rattle.xapool.specs.Calls.{Called, badRecord, refuseCall, replies, run, runParsed}
@@ -118,7 +131,8 @@ module _ (ws bs rs : List ℕ) (pool : length ws ≡ poolWords programNodes) (ou
       let f : 11 * length cs ≤ length bs = few bs cs e in
       let r : replyBytes * length cs ≤ length rs = omega arith in
       rw (le-ltb (length rs) (replyBytes * length cs) r, decode-list (start .stands .prescribed))
-      (take-first (replies programNodes [] cs) (drop (replyBytes * length cs) rs) (24 * length cs) (replies-length programNodes [] cs))
+      (take-first (replies programNodes [] cs) (drop (replyBytes * length cs) rs) (24 * length cs)
+      (replies-length programNodes [] cs))
 
   ran-is : length bs ≤ maxInput → ran ws bs rs ≡ run (initWords ws) bs rs
   unfolding ran

@@ -1,5 +1,5 @@
--- The starred cases (R106 to R118, R182, R191, R192) hold, by computation from the definitions: bytes of a batch in, bytes of the replies
--- and words of the pool out.
+-- The starred cases (R106 to R118, R182, R191, R192, R208) hold, by computation from the definitions: bytes of a batch in, bytes
+-- of the replies and words of the pool out, with the words that the last command may write. And case 14, in numbers alone.
 use mathlib.Core.Path.{_≡_, refl}
 use mathlib.Core.Bool.{true}
 use mathlib.Core.List.{[], _∷_, _++_}
@@ -24,7 +24,8 @@ unfolding tall has slotMark slot fieldOf slotOf span below depthTo stopTier turn
     isWellFormed P.run C.run cases
 starred-cases = refl
 
--- case 14 (R119) in numbers alone, the whole call: result, every word and every byte. Nothing is made by the definitions' own encoders
+-- case 14 (R119) in numbers alone, the whole call: result, every word and every byte. Nothing is made by the definitions' own
+-- encoders
 pub case-14 :
     C.run (initWords (replicate 214 0))
     (0x01 ∷ 0x00 ∷ 0x11 ∷ replicate 8 0x00 ++ 0x00 ∷ replicate 7 0x00 ++ 0x03

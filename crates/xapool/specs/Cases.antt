@@ -78,7 +78,7 @@ neededBy l (Unmark i m) = 0
 neededBy l (Find a z f k) = 0
 neededBy l (Reserve i) = needed l (store l i 0 reservedWord)
 
--- the places of all words of the anchor and of some nodes, in numbers
+-- the places of all words of some nodes, in numbers (R27)
 abbrev pub wordsAt : List ℕ → List ℕ
 wordsAt [] = []
 wordsAt (m ∷ ms) = upTo (λ w. w) (4 + 70 * m) 70 ++ wordsAt ms
@@ -132,6 +132,10 @@ store3 = store2 ++ (Store 64 0 5 ∷ [])
 abbrev reserve5 : List Command
 reserve5 = Reserve 5 ∷ []
 
+-- the nodes 0, 1, .., n in all
+abbrev firstNodes : ℕ → List ℕ
+firstNodes n = upTo (λ m. m) 0 n
+
 -- slots from .. of node m, count of them, hold x
 abbrev slotsHold : (m from count x : ℕ) → List Fact
 slotsHold m from count x = upTo (λ j. word (slotPlace m j) x) from count
@@ -168,12 +172,27 @@ cases =
       facts = writes (0 ∷ 1 ∷ 2 ∷ []) ∷ needs 3 ∷ entry 1 64 0 5 0 0 ∷ shifts (6 ∷ 0 ∷ 0 ∷ []) ∷ [];
     }
     -- case 4 (R109); of five nodes the last stays free
-    ∷ record { n = 6; before = store3; last = Store 4096 0 7; facts = writes (0 ∷ 3 ∷ 4 ∷ 5 ∷ []) ∷ needs 3 ∷ entry 1 4096 0 7 0 0 ∷ [] }
+    ∷ record {
+      n = 6;
+      before = store3;
+      last = Store 4096 0 7;
+      facts = writes (0 ∷ 3 ∷ 4 ∷ 5 ∷ []) ∷ needs 3 ∷ entry 1 4096 0 7 0 0 ∷ [];
+    }
     ∷ record { n = 5; before = store3; last = Store 4095 0 7; facts = writes (0 ∷ 3 ∷ []) ∷ needs 1 ∷ entry 1 4095 0 7 0 0 ∷ [] }
     -- case 5 (R110)
-    ∷ record { n = 11; before = []; last = Store last64 0 5; facts = writes (0 ∷ 1 ∷ 2 ∷ 3 ∷ 4 ∷ 5 ∷ 6 ∷ 7 ∷ 8 ∷ 9 ∷ 10 ∷ []) ∷ needs 11 ∷ entry 1 last64 0 5 0 0 ∷ [] }
+    ∷ record {
+      n = 11;
+      before = [];
+      last = Store last64 0 5;
+      facts = writes (firstNodes 11) ∷ needs 11 ∷ entry 1 last64 0 5 0 0 ∷ [];
+    }
     -- case 6 (R111)
-    ∷ record { n = 21; before = store2; last = Store last64 0 5; facts = writes (0 ∷ 1 ∷ 2 ∷ 3 ∷ 4 ∷ 5 ∷ 6 ∷ 7 ∷ 8 ∷ 9 ∷ 10 ∷ 11 ∷ 12 ∷ 13 ∷ 14 ∷ 15 ∷ 16 ∷ 17 ∷ 18 ∷ 19 ∷ 20 ∷ []) ∷ needs 21 ∷ entry 1 last64 0 5 0 0 ∷ [] }
+    ∷ record {
+      n = 21;
+      before = store2;
+      last = Store last64 0 5;
+      facts = writes (firstNodes 21) ∷ needs 21 ∷ entry 1 last64 0 5 0 0 ∷ [];
+    }
     -- case 7 (R112)
     ∷ record { n = 1; before = []; last = Store 0 6 5; facts = writes (0 ∷ []) ∷ needs 1 ∷ shifts (6 ∷ []) ∷ [] }
     ∷ record { n = 1; before = Store 0 6 5 ∷ []; last = Load 63; facts = writesNone ∷ entry 2 0 6 5 0 1 ∷ [] }
@@ -215,7 +234,8 @@ cases =
       before = matched;
       last = Store 4096 3 9;
       facts =
-          writes (0 ∷ 1 ∷ 2 ∷ []) ∷ entry 1 4096 3 9 1 0
+          writes (0 ∷ 1 ∷ 2 ∷ [])
+          ∷ entry 1 4096 3 9 1 0
           ∷ word marksWord 1
           ∷ marksHold 0 (2 ∷ 1 ∷ 1 ∷ []) ++ marksHold 2 (0 ∷ 0 ∷ 0 ∷ []);
     }
@@ -236,18 +256,34 @@ cases =
       n = 4;
       before = matched ++ brother;
       last = Store 4096 0 5;
-      facts = writes (0 ∷ 1 ∷ 2 ∷ []) ∷ entry 1 4096 0 5 1 0 ∷ word marksWord 5 ∷ asAfter (marked ++ brother) ∷ marksHold 2 (2 ∷ 2 ∷ 0 ∷ 1 ∷ []);
+      facts =
+          writes (0 ∷ 1 ∷ 2 ∷ [])
+          ∷ entry 1 4096 0 5 1 0
+          ∷ word marksWord 5
+          ∷ asAfter (marked ++ brother)
+          ∷ marksHold 2 (2 ∷ 2 ∷ 0 ∷ 1 ∷ []);
     }
-    ∷ record { n = 1; before = store2 ++ (Mark 0 2 ∷ []); last = Store 0 0 3; facts = writes [] ∷ entry 1 0 0 3 0 0 ∷ asAfter store2 ∷ [] }
+    ∷ record {
+      n = 1;
+      before = store2 ++ (Mark 0 2 ∷ []);
+      last = Store 0 0 3;
+      facts = writes [] ∷ entry 1 0 0 3 0 0 ∷ asAfter store2 ∷ [];
+    }
     -- case 11 (R116)
-    ∷ record { n = 3; before = store3; last = Erase 64; facts = writes (0 ∷ 1 ∷ 2 ∷ []) ∷ entry 3 64 0 5 0 0 ∷ asAfter store2 ∷ [] }
+    ∷ record {
+      n = 3;
+      before = store3;
+      last = Erase 64;
+      facts = writes (0 ∷ 1 ∷ 2 ∷ []) ∷ entry 3 64 0 5 0 0 ∷ asAfter store2 ∷ [];
+    }
     -- case 12 (R117)
     ∷ record {
       n = 1;
       before = [];
       last = Store (2 ^ 63) 63 5;
       facts =
-          writes (0 ∷ []) ∷ entry 1 (2 ^ 63) 63 5 0 0
+          writes (0 ∷ [])
+          ∷ entry 1 (2 ^ 63) 63 5 0 0
           ∷ shifts (60 ∷ [])
           ∷ word (slotPlace 0 7) 0
           ∷ word (slotPlace 0 8) 5

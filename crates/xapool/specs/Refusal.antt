@@ -1,5 +1,5 @@
--- The rows of the table of a call's answers (R68 to R72, R81), and of a listing's (R148). Answers stand in it as numbers, so that it
--- holds `Calls` to them.
+-- The rows of the table of a call's answers (R68 to R72, R81), and of a listing's (R148). Answers stand in it as numbers, so that
+-- it holds `Calls` to them.
 use Prim.Native.Nat.{ℕ, _*_, _≤_, _<_}
 use mathlib.Core.Path.{_≡_}
 use mathlib.Core.List.{List, _++_}

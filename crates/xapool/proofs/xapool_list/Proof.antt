@@ -14,7 +14,8 @@ check-requires c κs = search needs
 
 returns : tie.Need-returns
 returns c =
-    let (r, b) = list-refused _ _ _ _ _ (c .before .check .ensures) (list-unchecked _ _ _ _ (λ e. c .if1 .taken (c .before .check .ensures ∙ e))) in
+    let (r, b) = list-refused _ _ _ _ _ (c .before .check .ensures)
+    (list-unchecked _ _ _ _ (λ e. c .if1 .taken (c .before .check .ensures ∙ e))) in
     (r, (b, refl))
 
 returns-2 : tie.Need-returns-2
