@@ -3,3 +3,5 @@ pub mod ParseLaws
 pub mod WriteLaws
 pub mod BoundLaws
 pub mod CutLaws
+pub mod RecordLaws
+pub mod Literals

@@ -2,3 +2,4 @@ pub mod Bytes
 pub mod Batch
 pub mod Reply
 pub mod Fits
+pub mod Records

@@ -30,7 +30,6 @@ use Rattle.model.proofs.AlignedLaws.{store-is, bare-is}
 use Rattle.tree.specs.Tree.{nodes, newNodes, needed}
 use Rattle.tree.proofs.ChangeLaws.{clear-new}
 use Rattle.tree.proofs.RelabelLaws.{new-nodes-map}
-use Rattle.layout.specs.Places.{Placed}
 use Rattle.layout.proofs.PlacesLaws.{placed-new, free-places}
 use Rattle.layout.proofs.StayLaws.{none-new}
 use Rattle.lookup.specs.Find.{anyMark}
@@ -40,7 +39,7 @@ use Rattle.batch.specs.declared.Command.the-variants.{Store, Load, Erase, Mark,
 use Rattle.batch.specs.Reply.{replyTag}
 use Rattle.batch.specs.Fits.{Fits}
 use Rattle.execute.specs.Execute.{execute, short, refuse, replyOf, tooFewNodes, reserving, isTaken}
-use Rattle.execute.specs.State.{State, next, states}
+use Rattle.execute.specs.State.{State, Kept, next, states}
 use Rattle.tree.proofs.ReadLaws.{over-none}
 
 -- COMMANDS THAT ONLY READ leave the list
@@ -137,10 +136,6 @@ module _ (n : ℕ) (l : List Entry) (v : Valid l) where
   execute-keeps (Reserve i) f = reserved-keeps i f (covering l i) refl
 
 -- STATES
-pub record Kept (n : ℕ) (s : State) : Type 0 where
-  pub valid : Valid (s .list)
-  pub placed : Placed n (s .list) (s .places)
-
 pub next-kept : {n : ℕ} {s : State} (c : Command) → Fits c → Kept n s → Kept n (next n s c)
 next-kept {n} {s} c f k =
     let h : Keeps n (s .list) (execute n (s .list) c .list) = execute-keeps n (s .list) (k .valid) c f in

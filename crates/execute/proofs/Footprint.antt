@@ -42,9 +42,9 @@ use Rattle.layout.proofs.StayLaws.{same-places}
 use Rattle.batch.specs.declared.Command.{Command}
 use Rattle.batch.specs.declared.Command.the-variants.{Store, Load, Erase, Mark, Unmark, Find, Reserve}
 use Rattle.execute.specs.Execute.{execute, short}
-use Rattle.execute.specs.State.{State, next}
+use Rattle.execute.specs.State.{State, Kept, next}
 use Rattle.execute.specs.Part.{rangeOf, addressed, changing, mayWrite}
-use Rattle.execute.proofs.ExecuteLaws.{Kept, load-list, find-list, index-aligned}
+use Rattle.execute.proofs.ExecuteLaws.{load-list, find-list, index-aligned}
 use Rattle.execute.proofs.LocalLaws.{
   Agree,
   agree-store,

@@ -6,3 +6,4 @@ pub mod Footprint
 pub mod BudgetLaws
 pub mod TableLaws
 pub mod ReplyFits
+pub mod Literals

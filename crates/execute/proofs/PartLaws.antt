@@ -21,9 +21,8 @@ use Rattle.tree.specs.Tree.{tierOrder, height, has, Node}
 use Rattle.layout.specs.Words.{anchorWords, nodeOf, fieldIn, fieldAt, field, IsField}
 use Rattle.layout.specs.Places.{Places, numberIn, newPlaces, allocate, keepIf, wordAt}
 use Rattle.layout.proofs.NumberLaws.{prune-get, allocate-stays, keep-some, in-standing}
-use Rattle.execute.specs.State.{State}
+use Rattle.execute.specs.State.{State, Kept}
 use Rattle.execute.specs.Part.{Range, firstOf, meetsRange, isHead, nodePart, inPart}
-use Rattle.execute.proofs.ExecuteLaws.{Kept}
 use Rattle.execute.proofs.LocalLaws.{Agree, field-agree}
 use Rattle.tree.proofs.NodeListLaws.{has-tier}
 

@@ -6,10 +6,11 @@ use mathlib.Core.Option.{Option, none, some}
 use lib.Dec.{leb, ltb, eqb}
 use lib.ListN.{getD}
 use Rattle.blocks.specs.Choice.{pick, both, either}
+use Rattle.blocks.specs.Lists.{keep, upTo}
 use Rattle.model.specs.declared.Entry.{Entry}
 use Rattle.model.specs.Model.{covering}
 use Rattle.tree.specs.Tree.{tierOrder, height, Node}
-use Rattle.layout.specs.Words.{anchorWords, nodeOf}
+use Rattle.layout.specs.Words.{anchorWords, poolWords, nodeOf}
 use Rattle.batch.specs.declared.Command.{Command}
 use Rattle.batch.specs.declared.Command.the-variants.{Store, Load, Erase, Mark, Unmark, Find, Reserve}
 use Rattle.execute.specs.Execute.{execute}
@@ -77,3 +78,7 @@ abbrev pub mayWrite : ℕ → State → Command → ℕ → Bool
 mayWrite n s c w =
     both (changing c)
     (both (eqb (execute n (s .list) c .reply .answer) 0) (inPart s (next n s c) (addressed (s .list) c) w))
+
+-- the places of the words that it may write, all of them
+abbrev pub partOf : ℕ → State → Command → List ℕ
+partOf n s c = keep (mayWrite n s c) (upTo (λ w. w) 0 (poolWords n))

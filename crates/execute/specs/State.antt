@@ -2,7 +2,8 @@
 use Prim.Native.Nat.{ℕ}
 use mathlib.Core.List.{List, [], _∷_}
 use Rattle.model.specs.declared.Entry.{Entry}
-use Rattle.layout.specs.Places.{Places, newPlaces}
+use Rattle.model.specs.Model.{Valid}
+use Rattle.layout.specs.Places.{Places, Placed, newPlaces}
 use Rattle.batch.specs.declared.Command.{Command}
 use Rattle.execute.specs.Execute.{execute}
 
@@ -10,6 +11,11 @@ use Rattle.execute.specs.Execute.{execute}
 pub record State : Type 0 where
   pub list : List Entry
   pub places : Places
+
+-- what every command keeps: the list is valid, and each node of its tree stands at one number below n
+pub record Kept (n : ℕ) (s : State) : Type 0 where
+  pub valid : Valid (s .list)
+  pub placed : Placed n (s .list) (s .places)
 
 module _ (n : ℕ) where
   -- one command: the list after it, and the places after it (R35 to R37)

@@ -2,6 +2,7 @@ pub mod FieldLaws
 pub mod FillLaws
 pub mod FreeLaws
 pub mod FreshLaws
+pub mod Literals
 pub mod PassLaws
 pub mod SaysLaws
 pub mod NewNumberLaws

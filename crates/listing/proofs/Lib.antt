@@ -3,3 +3,4 @@ pub mod BetweenLaws
 pub mod CountLaws
 pub mod VisitLaws
 pub mod ListedLaws
+pub mod Literals

@@ -1,20 +1,20 @@
--- The listing is in index order, has each entry once, and has exactly those whose run meets the range (R143).
+-- The listing is in index order, has each entry once, and has exactly those whose run meets the range (R143); no field of theirs is
+-- cut (R144).
 use Prim.Native.Nat.{ℕ, _+_, _^_, _≤_, _<_, max}
-use mathlib.Core.Path.{_≡_}
-use mathlib.Core.Bool.{true}
 use mathlib.Core.List.{List, [], _∷_}
 use native.Mathlib.Omega.{arith}
 use lib.Dec.{leb, ltb}
 use borrow.Author.Tests.{leb-true, ltb-true}
 use Rattle.blocks.specs.Choice.{both}
-use Rattle.blocks.specs.Lists.{In, Distinct, d-end, d-more}
-use Rattle.blocks.proofs.BoolLaws.{both-l, both-r}
+use Rattle.blocks.specs.Lists.{In, All, Distinct, d-end, d-more}
+use Rattle.blocks.proofs.BoolLaws.{byT, both-l, both-r}
 use Rattle.blocks.proofs.BlockLaws.{pow-pos}
-use Rattle.blocks.proofs.ListLaws.{look}
+use Rattle.blocks.proofs.ListLaws.{each, look}
 use Rattle.model.specs.declared.Entry.{Entry}
-use Rattle.model.specs.Model.{Sorted, done, more, Valid, covers, meets}
+use Rattle.model.specs.Model.{EntryOk, Sorted, done, more, Valid, meets, reserved}
 use Rattle.model.proofs.ValidLaws.{covers-i, covers-lo, covers-hi, sorted-ok}
 use Rattle.listing.specs.Listing.{listed}
+use Rattle.listing.specs.Claims.{Meets, FitsListed}
 use Rattle.listing.proofs.BetweenLaws.{keep-in, in-keep, sorted-keep, sorted-above, meets-i}
 
 -- in index order, and apart
@@ -28,13 +28,6 @@ distinct (more {e} h ok s) = d-more {p = e} (λ m. omega (arith, sorted-above s 
 -- each once
 pub listed-once : {l : List Entry} (a z : ℕ) → Valid l → Distinct (listed l a z)
 listed-once a z v = distinct (listed-sorted a z v)
-
--- the entry covers an index of the range
-pub record Meets (a z : ℕ) (e : Entry) : Type 0 where
-  pub index : ℕ
-  pub from : a ≤ index
-  pub to : index ≤ z
-  pub covered : covers index e ≡ true
 
 -- exactly those
 module _ {l : List Entry} (a z : ℕ) (v : Valid l) {e : Entry} where
@@ -57,3 +50,15 @@ module _ {l : List Entry} (a z : ℕ) (v : Valid l) {e : Entry} where
       let lo : e .base ≤ m .index = covers-lo e (m .index) (look (sorted-ok v) i) (m .covered) in
       let hi : m .index < e .base + 2 ^ e .order = covers-hi e (m .index) (look (sorted-ok v) i) (m .covered) in
       in-keep (meets a z) i (meets-i a z e (omega (arith, m .to)) (omega (arith, m .from)))
+
+-- R144
+entry-fits : {e : Entry} → EntryOk e → FitsListed e
+entry-fits {e} ok = record {
+  base-fits = ok .in-range;
+  order-fits = omega (arith, ok .order-le);
+  word-fits = byT (reserved e) (λ r. rw r (omega arith)) (λ r. rw r (ok .word-fits));
+  marks-fit = omega (arith, ok .marks-fit);
+}
+
+pub listed-fits : {l : List Entry} (a z : ℕ) → Valid l → All FitsListed (listed l a z)
+listed-fits {l} a z v = each (listed l a z) (λ e m. entry-fits (look (sorted-ok (listed-sorted a z v)) m))

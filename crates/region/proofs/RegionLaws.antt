@@ -126,6 +126,9 @@ one-is-matched Nothing e = absurd (omega arith)
 one-is-matched Matched e = refl
 one-is-matched Different e = absurd (omega arith)
 
+pub verdicts-in-numbers : (number Nothing ≡ 0) × (number Matched ≡ 1) × (number Different ≡ 2)
+verdicts-in-numbers = (refl, refl, refl)
+
 -- R169: regions that match have one digest
 pub compared-is : (old new : List ℕ) {v : Comparison} {a b : ℕ} → v ≡ compare old new → a ≡ crc32c 0 old → b ≡ crc32c 0 new
     → record { verdict = v; «old_crc» = a; «new_crc» = b } ≡ compared old new

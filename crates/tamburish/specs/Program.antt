@@ -1,10 +1,11 @@
 -- What the program writes: the replies of a run on a pool just initialised, or the record of its refusal (R56, R230).
-use Prim.Native.Nat.{ℕ, zero, suc, _*_, _/_, _%_}
+use Prim.Native.Nat.{ℕ, zero, suc, _+_, _*_, _/_, _%_}
 use mathlib.Core.List.{List, [], _∷_, _++_}
 use lib.Dec.{ltb}
 use lib.ListN.{length, drop}
 use Rattle.blocks.specs.Choice.{pick}
-use Rattle.xapool.specs.Calls.{Called, badRecord, refuseCall, run}
+use Rattle.batch.specs.Batch.{Parsed, Parsed.commands, Parsed.refused, parse}
+use Rattle.xapool.specs.Calls.{Called, badRecord, refuseCall, replies, run}
 use Rattle.xapool.specs.Demand.{Call.init, wordsAfter}
 
 -- R230: the longest batch that the program takes
@@ -40,3 +41,26 @@ size c = sizeFor (c .result .answer) (c .result .number)
 
 abbrev pub space : Called → List ℕ
 space c = spaceFor (c .result .answer) (c .result .number) (c .reply)
+
+-- WHAT THE PROGRAM WRITES, by the bytes that it read alone
+-- R3
+abbrev pub programNodes : ℕ
+programNodes = 40
+
+-- the program reads up to one byte more than it takes, so that a longer batch is seen to be too long
+abbrev pub inputBytes : ℕ
+inputBytes = maxInput + 1
+
+-- 24 bytes for each of the 744 commands that fit into 8,192 bytes, the shortest having 11
+abbrev pub outputBytes : ℕ
+outputBytes = 17856
+
+-- the replies of the model on a pool of 40 nodes, from an empty list on
+
+abbrev pub writtenFor : Parsed → List ℕ
+writtenFor (refused at) = refusalBytes badRecord at
+writtenFor (commands cs) = replies programNodes [] cs
+
+-- R56, R230
+abbrev pub written : List ℕ → List ℕ
+written bs = pick (ltb maxInput (length bs)) (refusalBytes badRecord maxInput) (writtenFor (parse bs))

@@ -2,9 +2,9 @@
 // refused call is one record of six bytes: tag 255, length 3, the answer, and the place in two bytes (R56).
 ghost use Prim.Native.Nat.{_≤_};
 ghost use mathlib.Core.Path.{_≡_};
-ghost use lib.ListN.{length};
+ghost use lib.ListN.{length, take};
 ghost use Rattle.tamburish.specs.Program;
-ghost use Rattle.tamburish.specs.Program.{ran, refusalSize, refusalOver};
+ghost use Rattle.tamburish.specs.Program.{ran, refusalSize, refusalOver, inputBytes, outputBytes, written};
 
 // 4 + 70 * 40 words for 40 nodes.
 const POOL_WORDS: usize = 2804;
@@ -57,11 +57,22 @@ fn respond(pool: &mut [u64], batch: &[u8], reply: &mut [u8]) -> usize
     (REPLY_BYTES * number) as usize
 }
 
-fn main() {
+// What the program does with the n bytes that it read, on a pool of its own: how many bytes of `output` are to be written. The
+// input has room for one byte more than the program takes.
+fn answer(input: &[u8], n: usize, output: &mut [u8]) -> usize
+    requires { ⌜ (n ≤ inputBytes) × (length (now input) ≡ inputBytes) ⌝ }
+    requires { ⌜ length (now output) ≡ outputBytes ⌝ }
+    ensures { λ r. ⌜ r ≤ outputBytes ⌝ }
+    ensures { λ r. ⌜ take r (now (output .exit)) ≡ written (take n (now (input .entry))) ⌝ }
+{
     let mut pool = [0u64; POOL_WORDS];
+    respond(&mut pool, &input[..n], output)
+}
+
+fn main() {
     let mut input = [0u8; INPUT_BYTES];
     let mut output = [0u8; OUTPUT_BYTES];
     let n = io::read_full(0, &mut input);
-    let m = respond(&mut pool, &input[..n], &mut output);
+    let m = answer(&input, n, &mut output);
     io::write_all(1, &output[0..m]);
 }

@@ -1,6 +1,6 @@
--- The check's answer as an equation, and what an answer of 0 gives.
+-- The check's answer as an equation, and what an answer of 0 gives; init's answers, each exactly when.
 use Prim.Native.Nat.{ℕ}
-use mathlib.Core.Path.{_≡_, sym, subst}
+use mathlib.Core.Path.{_≡_, refl, sym, subst}
 use mathlib.Core.Bool.{true, false}
 use mathlib.Core.List.{List}
 use native.Mathlib.Omega.{arith}
@@ -12,7 +12,7 @@ use Rattle.layout.specs.WellFormed.{Sized, Prescribed, WellFormed}
 use Rattle.layout.specs.Decide.{nodeCount, isSized, isWellFormed}
 use Rattle.decode.proofs.DecideLaws.{count-of, sized-is, is-sized, well-formed-is, is-well-formed}
 use Rattle.decode.proofs.DecodeLaws.{well-formed-sized, prescribed}
-use Rattle.verify.specs.Answers.{checkAnswer, Verdict, well-formed, wrong-size, malformed}
+use Rattle.verify.specs.Answers.{checkAnswer, initAnswer, Verdict, well-formed, wrong-size, malformed}
 
 pub not-sized : {ws : List ℕ} → ((n : ℕ) → Sized n ws → ⊥) → isSized ws ≡ false
 not-sized {ws} f = is-false (λ t. f (nodeCount ws) (is-sized ws t))
@@ -26,6 +26,11 @@ answered ws r (malformed n s f) =
     is-false (λ t. f _ _ (subst (λ (k : ℕ). Prescribed k (listOf ws) (placesOf ws) ws) (count-of s)
     (is-well-formed (nodeCount ws) ws t))) in
     rw (sized-is s, no)
+
+-- R69, R84: init answers 0 where the length is a pool's, and 1 where it is not
+pub init-answers : (ws : List ℕ) →
+    ((n : ℕ) → Sized n ws → initAnswer ws ≡ 0) × (((n : ℕ) → Sized n ws → ⊥) → initAnswer ws ≡ 1)
+init-answers ws = (λ n s. rw (sized-is s) refl, λ f. rw (not-sized f) refl)
 
 -- and the meaning of each answer
 pub meaning : (ws : List ℕ) → Verdict ws (checkAnswer ws)

@@ -148,6 +148,10 @@ pub as-ensures : {ws bs rs ws′ rs′ : List ℕ} {a n : ℕ} → Comes ws bs r
     (result a n ≡ run ws bs rs .result) × ((ws′ ≡ run ws bs rs .words) × (rs′ ≡ run ws bs rs .reply))
 as-ensures x = (x .result-is, (x .words-are, x .reply-is))
 
+-- and a fourth, of the bytes that were lent shared
+pub with-lent : {A B C D : Type 0} → A × (B × C) → D → A × (B × (C × D))
+with-lent x d = (x .0, (x .1 .0, (x .1 .1, d)))
+
 -- an answer by the number that the code has of it
 pub comes-as : {ws bs rs ws′ rs′ : List ℕ} {a b n : ℕ} → a ≡ b → Comes ws bs rs b n ws′ rs′ →
     Comes ws bs rs a n ws′ rs′

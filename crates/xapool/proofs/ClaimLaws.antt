@@ -30,12 +30,14 @@ use Rattle.batch.specs.Batch.{Parsed, Parsed.commands, Parsed.refused, parse}
 use Rattle.batch.specs.Reply.{replyBytes}
 use Rattle.batch.proofs.BoundLaws.{AllFit, parse-fits}
 use Rattle.batch.proofs.CutLaws.{cut}
+use Rattle.listing.proofs.ListedLaws.{listed-fits}
 use Rattle.execute.specs.Execute.{Executed, execute, replyOf, short, reserving}
-use Rattle.execute.specs.State.{State, next, states}
+use Rattle.execute.specs.State.{State, Kept, next, states}
 use Rattle.execute.specs.Part.{mayWrite}
-use Rattle.execute.proofs.ExecuteLaws.{Kept, next-kept, states-kept, short-11, reserve-11}
+use Rattle.execute.proofs.ExecuteLaws.{next-kept, states-kept, short-11, reserve-11}
 use Rattle.execute.proofs.Footprint.{footprint, refused-words}
 use Rattle.execute.proofs.ReplyFits.{reply-fits}
+use Rattle.execute.proofs.TableLaws.{rows, row-sole}
 use Rattle.xapool.specs.Calls.{Called, run, runParsed, replies, result, done, listOver}
 use Rattle.xapool.specs.Running.{wordsOf}
 use Rattle.xapool.specs.Demand.{
@@ -147,6 +149,8 @@ module _ (n : ℕ) (s : State) (k : Kept n s) (c : Command) where
         refused = refused-words n s k c;
         shortage = λ i o w e. short-exact n (s .list) i o w;
         reserve-shortage = λ i e. reserve-exact n (s .list) i;
+        row = rows n (s .list) (k .valid) c;
+        sole = row-sole n (s .list) (k .valid);
         fits = reply-fits n (s .list) (k .valid) c f;
       }
 
@@ -219,8 +223,10 @@ module _ {n : ℕ} {l : List Entry} {os : Places} {ws : List ℕ} (lo : 1 ≤ n)
     at-call Call.init b = rw (sized-is (sized lo hi p)) refl
     at-call Call.check b = ap (λ (a : ℕ). result a 0) (prescribed-0 (sized lo hi p) p)
     at-call (Call.batch bs rs) b = at-batch bs rs b (parse bs) refl
-    at-call (Call.list a z bs) b =
-        list-checked ws a z bs (prescribed-0 (sized lo hi p) p) ∙ ap (λ (x : List Entry). listOver x a z bs) (decode-list p)
+    at-call (Call.list a z bs) b = (
+      list-checked ws a z bs (prescribed-0 (sized lo hi p) p) ∙ ap (λ (x : List Entry). listOver x a z bs) (decode-list p),
+      listed-fits a z (p .valid),
+    )
 
 -- R102
 pub demand-3-whole : {n : ℕ} {l : List Entry} {ws : List ℕ} → Starts n l ws → {cs : List Call} → All Bytewise cs →

@@ -32,8 +32,8 @@ use Rattle.batch.specs.Batch.{Parsed, Parsed.commands, Parsed.refused, parse}
 use Rattle.batch.specs.Reply.{replyBytes}
 use Rattle.batch.proofs.BoundLaws.{AllFit, parse-fits}
 use Rattle.batch.proofs.CutLaws.{cut}
-use Rattle.execute.specs.State.{State, next, states}
-use Rattle.execute.proofs.ExecuteLaws.{Kept, states-kept}
+use Rattle.execute.specs.State.{State, Kept, next, states}
+use Rattle.execute.proofs.ExecuteLaws.{states-kept}
 use Rattle.xapool.specs.Calls.{Called, run, runParsed}
 use Rattle.xapool.specs.Demand.{
   Call,

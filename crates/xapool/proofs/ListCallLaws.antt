@@ -5,14 +5,14 @@ use mathlib.Core.List.{List}
 use native.Mathlib.Omega.{arith}
 use lib.Dec.{leb, ltb}
 use lib.ListN.{length}
-use borrow.Author.Tests.{eq-eqb, ne-eqb, lt-ltb, le-ltb, ltb-true, ltb-false, leb-true, leb-false}
+use borrow.Author.Tests.{eq-eqb, ne-eqb, lt-ltb, le-ltb, ltb-true, ltb-false, leb-true, leb-false, le-leb, lt-leb}
 use Rattle.blocks.proofs.BoolLaws.{byT}
 use Rattle.model.specs.declared.Entry.{Entry}
 use Rattle.layout.specs.WellFormed.{WellFormed}
 use Rattle.layout.specs.Decode.{listOf}
 use Rattle.decode.proofs.DecodeLaws.{well-formed-list}
 use Rattle.verify.specs.Answers.{checkAnswer, Verdict, Verdict.well-formed, Verdict.wrong-size, Verdict.malformed}
-use Rattle.verify.proofs.AnswerLaws.{meaning, accepted}
+use Rattle.verify.proofs.AnswerLaws.{answered, meaning, accepted, well-formed-0}
 use Rattle.listing.specs.declared.Listed.{Listed}
 use Rattle.listing.specs.Listing.{listed, entryBytes, fits, outcome, filledWith}
 use Rattle.xapool.specs.Calls.{Evidence, evidence, result, done, badRange, listResult, listOver, list}
@@ -87,3 +87,19 @@ module _ (ws : List ℕ) (a z : ℕ) (bs : List ℕ) where
       go r e (malformed n y f) =
           subst (ListRow ws a z bs) (sym (list-unchecked (λ x. let y : _≡_ {A = ℕ} 0 2 = sym x ∙ e in omega arith)
           ∙ ap (λ (r : ℕ). evidence bs r 0) e)) (list-2 n y f)
+
+  -- and a row whose condition holds is what the listing comes to
+  pub list-sole : {x : Evidence} → ListRow ws a z bs x → x ≡ list ws a z bs
+  list-sole (list-1 f) =
+      let e : 1 ≡ checkAnswer ws = answered ws 1 (wrong-size f) in
+      sym (list-unchecked (λ x. let y : _≡_ {A = ℕ} 1 0 = e ∙ x in omega arith) ∙ ap (λ (r : ℕ). evidence bs r 0) (sym e))
+  list-sole (list-2 n y f) =
+      let e : 2 ≡ checkAnswer ws = answered ws 2 (malformed n y f) in
+      sym (list-unchecked (λ x. let y : _≡_ {A = ℕ} 2 0 = e ∙ x in omega arith) ∙ ap (λ (r : ℕ). evidence bs r 0) (sym e))
+  list-sole (list-8 s h) = sym (list-turned (well-formed-0 s) h)
+  list-sole (list-4 s g h) =
+      sym (list-checked (well-formed-0 s)
+      ∙ rw (le-ltb z a g, lt-leb (entryBytes * length (listed (listOf ws) a z)) (length bs) h) refl)
+  list-sole (list-0 s g h) =
+      sym (list-checked (well-formed-0 s)
+      ∙ rw (le-ltb z a g, le-leb (entryBytes * length (listed (listOf ws) a z)) (length bs) h) refl)

@@ -23,9 +23,9 @@ use Rattle.batch.proofs.BatchLaws.{read-end, read-no}
 use Rattle.batch.proofs.ParseLaws.{rest-end, rest-bad, rest-next, not-refused}
 use Rattle.batch.proofs.WriteLaws.{overwrite-append}
 use Rattle.execute.specs.Execute.{execute}
-use Rattle.execute.specs.State.{State, next, states}
+use Rattle.execute.specs.State.{State, Kept, next, states}
 use Rattle.execute.specs.Contracts.{stateOf, wordsTo, Executes}
-use Rattle.execute.proofs.ExecuteLaws.{Kept, next-kept}
+use Rattle.execute.proofs.ExecuteLaws.{next-kept}
 use Rattle.xapool.specs.Calls.{replies}
 use Rattle.xapool.specs.Running.{wordsOf, Ahead, Ends, Turned, Running}
 

@@ -11,7 +11,7 @@ use Rattle.model.specs.declared.Entry.{Entry}
 use Rattle.model.specs.Model.{reservedWord, store}
 use Rattle.tree.specs.Tree.{tierOrder, Node, nodes, needed}
 use Rattle.layout.specs.Words.{poolWords, headWord, marksWord, markPlace, slotPlace}
-use Rattle.layout.specs.Decode.{listOf}
+use Rattle.layout.specs.Decode.{listOf, placesOf}
 use Rattle.layout.specs.Decide.{equal}
 use Rattle.verify.specs.Answers.{initWords}
 use Rattle.batch.specs.Bytes.{bytesThen}
@@ -19,6 +19,7 @@ use Rattle.batch.specs.declared.Command.{Command}
 use Rattle.batch.specs.declared.Command.the-variants.{Store, Load, Erase, Mark, Unmark, Find, Reserve}
 use Rattle.batch.specs.Reply.{replyBytes, encode, answered}
 use Rattle.batch.specs.declared.Reply.{Reply}
+use Rattle.execute.specs.Part.{partOf}
 use Rattle.xapool.specs.Calls.{Called, done, run}
 
 -- what a case says of its last command, by its reply and by the pool's words
@@ -33,6 +34,10 @@ pub data Fact : Type 0 where
   word : (place value : ℕ) → Fact
   -- the same words as after other commands
   asAfter : List Command → Fact
+  -- it may write the words of the anchor and of the nodes with these numbers, and no others (R39)
+  writes : List ℕ → Fact
+  -- it may write no word at all (R40)
+  writesNone : Fact
 
 -- a case: a pool of n nodes just initialised, commands, then one more
 pub record Case : Type 0 where
@@ -73,6 +78,15 @@ neededBy l (Unmark i m) = 0
 neededBy l (Find a z f k) = 0
 neededBy l (Reserve i) = needed l (store l i 0 reservedWord)
 
+-- the places of all words of some nodes, in numbers (R27)
+abbrev pub wordsAt : List ℕ → List ℕ
+wordsAt [] = []
+wordsAt (m ∷ ms) = upTo (λ w. w) (4 + 70 * m) 70 ++ wordsAt ms
+
+-- what a command may write, on the words before it
+abbrev pub partOn : ℕ → List ℕ → Command → List ℕ
+partOn n ws c = partOf n (record { list = listOf ws; places = placesOf ws }) c
+
 -- the last reply, and the words; lists are those that words decode to
 module _ (n : ℕ) (before : List Command) (c : Command) (words reply : List ℕ) where
   abbrev pub holds : Fact → Bool
@@ -81,6 +95,8 @@ module _ (n : ℕ) (before : List Command) (c : Command) (words reply : List ℕ
   holds (shifts ss) = equal (map shiftOf (nodes (listOf words))) ss
   holds (word p x) = eqb (getD words p 0) x
   holds (asAfter cs) = equal words (ran n cs .words)
+  holds (writes ms) = equal (partOn n (ran n before .words) c) (0 ∷ 1 ∷ 2 ∷ 3 ∷ wordsAt ms)
+  holds writesNone = equal (partOn n (ran n before .words) c) []
 
   abbrev pub allHold : List Fact → Bool
   allHold [] = true
@@ -116,6 +132,10 @@ store3 = store2 ++ (Store 64 0 5 ∷ [])
 abbrev reserve5 : List Command
 reserve5 = Reserve 5 ∷ []
 
+-- the nodes 0, 1, .., n in all
+abbrev firstNodes : ℕ → List ℕ
+firstNodes n = upTo (λ m. m) 0 n
+
 -- slots from .. of node m, count of them, hold x
 abbrev slotsHold : (m from count x : ℕ) → List Fact
 slotsHold m from count x = upTo (λ j. word (slotPlace m j) x) from count
@@ -140,58 +160,73 @@ last64 = 2 ^ 64 - 1
 unfoldable pub cases : List Case
 cases =
     -- case 1 (R106)
-    record { n = 1; before = []; last = Load 0; facts = answer 2 10 0 0 ∷ [] }
+    record { n = 1; before = []; last = Load 0; facts = writesNone ∷ answer 2 10 0 0 ∷ [] }
     -- case 2 (R107)
-    ∷ record { n = 1; before = []; last = Store 0 0 3; facts = entry 1 0 0 3 0 0 ∷ word headWord 3 ∷ shifts [] ∷ [] }
+    ∷ record { n = 1; before = []; last = Store 0 0 3; facts = writes [] ∷ entry 1 0 0 3 0 0 ∷ word headWord 3 ∷ shifts [] ∷ [] }
     -- case 3 (R108): with 2 nodes and with 3
-    ∷ record { n = 2; before = store2; last = Store 64 0 5; facts = needs 3 ∷ answer 1 11 0 0 ∷ asAfter store2 ∷ [] }
+    ∷ record { n = 2; before = store2; last = Store 64 0 5; facts = writesNone ∷ needs 3 ∷ answer 1 11 0 0 ∷ asAfter store2 ∷ [] }
     ∷ record {
       n = 3;
       before = store2;
       last = Store 64 0 5;
-      facts = needs 3 ∷ entry 1 64 0 5 0 0 ∷ shifts (6 ∷ 0 ∷ 0 ∷ []) ∷ [];
+      facts = writes (0 ∷ 1 ∷ 2 ∷ []) ∷ needs 3 ∷ entry 1 64 0 5 0 0 ∷ shifts (6 ∷ 0 ∷ 0 ∷ []) ∷ [];
     }
-    -- case 4 (R109)
-    ∷ record { n = 6; before = store3; last = Store 4096 0 7; facts = needs 3 ∷ entry 1 4096 0 7 0 0 ∷ [] }
-    ∷ record { n = 4; before = store3; last = Store 4095 0 7; facts = needs 1 ∷ entry 1 4095 0 7 0 0 ∷ [] }
+    -- case 4 (R109); of five nodes the last stays free
+    ∷ record {
+      n = 6;
+      before = store3;
+      last = Store 4096 0 7;
+      facts = writes (0 ∷ 3 ∷ 4 ∷ 5 ∷ []) ∷ needs 3 ∷ entry 1 4096 0 7 0 0 ∷ [];
+    }
+    ∷ record { n = 5; before = store3; last = Store 4095 0 7; facts = writes (0 ∷ 3 ∷ []) ∷ needs 1 ∷ entry 1 4095 0 7 0 0 ∷ [] }
     -- case 5 (R110)
-    ∷ record { n = 11; before = []; last = Store last64 0 5; facts = needs 11 ∷ entry 1 last64 0 5 0 0 ∷ [] }
+    ∷ record {
+      n = 11;
+      before = [];
+      last = Store last64 0 5;
+      facts = writes (firstNodes 11) ∷ needs 11 ∷ entry 1 last64 0 5 0 0 ∷ [];
+    }
     -- case 6 (R111)
-    ∷ record { n = 21; before = store2; last = Store last64 0 5; facts = needs 21 ∷ entry 1 last64 0 5 0 0 ∷ [] }
+    ∷ record {
+      n = 21;
+      before = store2;
+      last = Store last64 0 5;
+      facts = writes (firstNodes 21) ∷ needs 21 ∷ entry 1 last64 0 5 0 0 ∷ [];
+    }
     -- case 7 (R112)
-    ∷ record { n = 1; before = []; last = Store 0 6 5; facts = needs 1 ∷ shifts (6 ∷ []) ∷ [] }
-    ∷ record { n = 1; before = Store 0 6 5 ∷ []; last = Load 63; facts = entry 2 0 6 5 0 1 ∷ [] }
+    ∷ record { n = 1; before = []; last = Store 0 6 5; facts = writes (0 ∷ []) ∷ needs 1 ∷ shifts (6 ∷ []) ∷ [] }
+    ∷ record { n = 1; before = Store 0 6 5 ∷ []; last = Load 63; facts = writesNone ∷ entry 2 0 6 5 0 1 ∷ [] }
     -- case 8 (R113)
     ∷ record {
       n = 1;
       before = [];
       last = Store 8 3 5;
-      facts = entry 1 8 3 5 0 0 ∷ word (slotPlace 0 8) 5 ∷ slotsHold 0 9 7 34;
+      facts = writes (0 ∷ []) ∷ entry 1 8 3 5 0 0 ∷ word (slotPlace 0 8) 5 ∷ slotsHold 0 9 7 34;
     }
     -- case 8a (R182): 14, and the tests before it and after it
-    ∷ record { n = 1; before = []; last = Store 13 3 5; facts = answer 1 14 0 0 ∷ asAfter [] ∷ [] }
-    ∷ record { n = 1; before = []; last = Store 13 64 0; facts = answer 1 5 0 0 ∷ asAfter [] ∷ [] }
-    ∷ record { n = 1; before = []; last = Store 13 3 0; facts = answer 1 14 0 0 ∷ asAfter [] ∷ [] }
-    ∷ record { n = 1; before = []; last = Store 8 3 0; facts = answer 1 6 0 0 ∷ asAfter [] ∷ [] }
+    ∷ record { n = 1; before = []; last = Store 13 3 5; facts = writesNone ∷ answer 1 14 0 0 ∷ asAfter [] ∷ [] }
+    ∷ record { n = 1; before = []; last = Store 13 64 0; facts = writesNone ∷ answer 1 5 0 0 ∷ asAfter [] ∷ [] }
+    ∷ record { n = 1; before = []; last = Store 13 3 0; facts = writesNone ∷ answer 1 14 0 0 ∷ asAfter [] ∷ [] }
+    ∷ record { n = 1; before = []; last = Store 8 3 0; facts = writesNone ∷ answer 1 6 0 0 ∷ asAfter [] ∷ [] }
     -- case 9 (R114): the load, then the erase
     ∷ record {
       n = 1;
       before = Store 8 3 5 ∷ Store 10 0 9 ∷ [];
       last = Load 15;
-      facts = entry 2 8 3 9 0 1 ∷ [];
+      facts = writesNone ∷ entry 2 8 3 9 0 1 ∷ [];
     }
     ∷ record {
       n = 1;
       before = Store 8 3 5 ∷ Store 10 0 9 ∷ [];
       last = Erase 11;
-      facts = entry 3 8 3 9 0 0 ∷ shifts [] ∷ asAfter [] ∷ [];
+      facts = writes (0 ∷ []) ∷ entry 3 8 3 9 0 0 ∷ shifts [] ∷ asAfter [] ∷ [];
     }
     -- case 10 (R115)
     ∷ record {
       n = 2;
       before = Store 64 0 5 ∷ Mark 64 0 ∷ Store 65 0 7 ∷ Mark 65 1 ∷ [];
       last = Store 64 6 9;
-      facts = entry 1 64 6 9 3 0 ∷ word marksWord 3 ∷ shifts (6 ∷ []) ∷ [];
+      facts = writes (0 ∷ 1 ∷ []) ∷ entry 1 64 6 9 3 0 ∷ word marksWord 3 ∷ shifts (6 ∷ []) ∷ [];
     }
     -- case 10a (R191): alone, and beside a brother that has mark 2
     ∷ record {
@@ -199,7 +234,8 @@ cases =
       before = matched;
       last = Store 4096 3 9;
       facts =
-          entry 1 4096 3 9 1 0
+          writes (0 ∷ 1 ∷ 2 ∷ [])
+          ∷ entry 1 4096 3 9 1 0
           ∷ word marksWord 1
           ∷ marksHold 0 (2 ∷ 1 ∷ 1 ∷ []) ++ marksHold 2 (0 ∷ 0 ∷ 0 ∷ []);
     }
@@ -207,86 +243,102 @@ cases =
       n = 4;
       before = matched ++ brother;
       last = Store 4096 3 9;
-      facts = entry 1 4096 3 9 1 0 ∷ word marksWord 5 ∷ marksHold 2 (2 ∷ 2 ∷ 0 ∷ 1 ∷ []);
+      facts = writes (0 ∷ 1 ∷ 2 ∷ []) ∷ entry 1 4096 3 9 1 0 ∷ word marksWord 5 ∷ marksHold 2 (2 ∷ 2 ∷ 0 ∷ 1 ∷ []);
     }
     -- case 10b (R192): the same, and an entry as head
     ∷ record {
       n = 3;
       before = matched;
       last = Store 4096 0 5;
-      facts = entry 1 4096 0 5 1 0 ∷ word marksWord 1 ∷ asAfter marked ∷ marksHold 2 (0 ∷ 0 ∷ 0 ∷ []);
+      facts = writes (0 ∷ 1 ∷ 2 ∷ []) ∷ entry 1 4096 0 5 1 0 ∷ word marksWord 1 ∷ asAfter marked ∷ marksHold 2 (0 ∷ 0 ∷ 0 ∷ []);
     }
     ∷ record {
       n = 4;
       before = matched ++ brother;
       last = Store 4096 0 5;
-      facts = entry 1 4096 0 5 1 0 ∷ word marksWord 5 ∷ asAfter (marked ++ brother) ∷ marksHold 2 (2 ∷ 2 ∷ 0 ∷ 1 ∷ []);
+      facts =
+          writes (0 ∷ 1 ∷ 2 ∷ [])
+          ∷ entry 1 4096 0 5 1 0
+          ∷ word marksWord 5
+          ∷ asAfter (marked ++ brother)
+          ∷ marksHold 2 (2 ∷ 2 ∷ 0 ∷ 1 ∷ []);
     }
-    ∷ record { n = 1; before = store2 ++ (Mark 0 2 ∷ []); last = Store 0 0 3; facts = entry 1 0 0 3 0 0 ∷ asAfter store2 ∷ [] }
+    ∷ record {
+      n = 1;
+      before = store2 ++ (Mark 0 2 ∷ []);
+      last = Store 0 0 3;
+      facts = writes [] ∷ entry 1 0 0 3 0 0 ∷ asAfter store2 ∷ [];
+    }
     -- case 11 (R116)
-    ∷ record { n = 3; before = store3; last = Erase 64; facts = entry 3 64 0 5 0 0 ∷ asAfter store2 ∷ [] }
+    ∷ record {
+      n = 3;
+      before = store3;
+      last = Erase 64;
+      facts = writes (0 ∷ 1 ∷ 2 ∷ []) ∷ entry 3 64 0 5 0 0 ∷ asAfter store2 ∷ [];
+    }
     -- case 12 (R117)
     ∷ record {
       n = 1;
       before = [];
       last = Store (2 ^ 63) 63 5;
       facts =
-          entry 1 (2 ^ 63) 63 5 0 0
+          writes (0 ∷ [])
+          ∷ entry 1 (2 ^ 63) 63 5 0 0
           ∷ shifts (60 ∷ [])
           ∷ word (slotPlace 0 7) 0
           ∷ word (slotPlace 0 8) 5
           ∷ slotsHold 0 9 7 34 ++ (word (slotPlace 0 16) 0 ∷ []);
     }
-    ∷ record { n = 1; before = []; last = Store (2 ^ 63) 64 5; facts = answer 1 5 0 0 ∷ asAfter [] ∷ [] }
+    ∷ record { n = 1; before = []; last = Store (2 ^ 63) 64 5; facts = writesNone ∷ answer 1 5 0 0 ∷ asAfter [] ∷ [] }
     -- case 13 (R118): found, paused, and by a mark
-    ∷ record { n = 3; before = store3; last = Find 1 last64 3 64; facts = entry 6 64 0 5 0 64 ∷ [] }
-    ∷ record { n = 3; before = store3; last = Find 1 last64 3 63; facts = answer 6 13 64 63 ∷ [] }
+    ∷ record { n = 3; before = store3; last = Find 1 last64 3 64; facts = writesNone ∷ entry 6 64 0 5 0 64 ∷ [] }
+    ∷ record { n = 3; before = store3; last = Find 1 last64 3 63; facts = writesNone ∷ answer 6 13 64 63 ∷ [] }
     ∷ record {
       n = 3;
       before = store3 ++ (Mark 64 0 ∷ []);
       last = Find 1 last64 0 64;
-      facts = entry 6 64 0 5 1 2 ∷ [];
+      facts = writesNone ∷ entry 6 64 0 5 1 2 ∷ [];
     }
     -- reserved places (R208): on a fresh pool, and alone at index 0
     ∷ record {
       n = 1;
       before = [];
       last = Reserve 5;
-      facts = needs 1 ∷ answer 7 0 5 0 ∷ word (slotPlace 0 5) 1030 ∷ shifts (0 ∷ []) ∷ [];
+      facts = writes (0 ∷ []) ∷ needs 1 ∷ answer 7 0 5 0 ∷ word (slotPlace 0 5) 1030 ∷ shifts (0 ∷ []) ∷ [];
     }
-    ∷ record { n = 1; before = []; last = Reserve 0; facts = answer 7 0 0 0 ∷ word headWord 1030 ∷ shifts [] ∷ [] }
+    ∷ record { n = 1; before = []; last = Reserve 0; facts = writes [] ∷ answer 7 0 0 0 ∷ word headWord 1030 ∷ shifts [] ∷ [] }
     -- what is covered, by an entry and by a reservation
     ∷ record {
       n = 1;
       before = Store 8 3 5 ∷ [];
       last = Reserve 9;
-      facts = answer 7 15 0 0 ∷ asAfter (Store 8 3 5 ∷ []) ∷ [];
+      facts = writesNone ∷ answer 7 15 0 0 ∷ asAfter (Store 8 3 5 ∷ []) ∷ [];
     }
-    ∷ record { n = 1; before = reserve5; last = Reserve 5; facts = answer 7 15 0 0 ∷ asAfter reserve5 ∷ [] }
+    ∷ record { n = 1; before = reserve5; last = Reserve 5; facts = writesNone ∷ answer 7 15 0 0 ∷ asAfter reserve5 ∷ [] }
     -- a store over it, of order 0 and of order 3
     ∷ record {
       n = 1;
       before = reserve5;
       last = Store 5 0 9;
-      facts = entry 1 5 0 9 0 0 ∷ asAfter (Store 5 0 9 ∷ []) ∷ [];
+      facts = writes (0 ∷ []) ∷ entry 1 5 0 9 0 0 ∷ asAfter (Store 5 0 9 ∷ []) ∷ [];
     }
     ∷ record {
       n = 1;
       before = reserve5;
       last = Store 0 3 9;
-      facts = entry 1 0 3 9 0 0 ∷ asAfter (Store 0 3 9 ∷ []) ∷ [];
+      facts = writes (0 ∷ []) ∷ entry 1 0 3 9 0 0 ∷ asAfter (Store 0 3 9 ∷ []) ∷ [];
     }
     -- load, find, mark and erase of it
-    ∷ record { n = 1; before = reserve5; last = Load 5; facts = answer 2 10 0 1 ∷ [] }
+    ∷ record { n = 1; before = reserve5; last = Load 5; facts = writesNone ∷ answer 2 10 0 1 ∷ [] }
     ∷ record {
       n = 1;
       before = reserve5 ++ (Store 7 0 9 ∷ []);
       last = Find 5 last64 3 3;
-      facts = entry 6 7 0 9 0 3 ∷ [];
+      facts = writesNone ∷ entry 6 7 0 9 0 3 ∷ [];
     }
-    ∷ record { n = 1; before = Reserve 0 ∷ []; last = Find 0 last64 3 5; facts = answer 6 12 0 2 ∷ [] }
-    ∷ record { n = 1; before = reserve5; last = Mark 5 0; facts = answer 4 10 0 0 ∷ asAfter reserve5 ∷ [] }
-    ∷ record { n = 1; before = reserve5; last = Erase 5; facts = answer 3 0 5 0 ∷ asAfter [] ∷ [] }
+    ∷ record { n = 1; before = Reserve 0 ∷ []; last = Find 0 last64 3 5; facts = writesNone ∷ answer 6 12 0 2 ∷ [] }
+    ∷ record { n = 1; before = reserve5; last = Mark 5 0; facts = writesNone ∷ answer 4 10 0 0 ∷ asAfter reserve5 ∷ [] }
+    ∷ record { n = 1; before = reserve5; last = Erase 5; facts = writes (0 ∷ []) ∷ answer 3 0 5 0 ∷ asAfter [] ∷ [] }
     -- short of nodes
-    ∷ record { n = 2; before = store2; last = Reserve 64; facts = needs 3 ∷ answer 7 11 0 0 ∷ asAfter store2 ∷ [] }
+    ∷ record { n = 2; before = store2; last = Reserve 64; facts = writesNone ∷ needs 3 ∷ answer 7 11 0 0 ∷ asAfter store2 ∷ [] }
     ∷ []

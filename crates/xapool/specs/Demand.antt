@@ -7,6 +7,7 @@ use mathlib.Core.Option.{none}
 use lib.Dec.{ltb}
 use lib.ListN.{length, getD, take, drop}
 use Rattle.blocks.specs.Choice.{pick}
+use Rattle.blocks.specs.Lists.{All}
 use Rattle.model.specs.declared.Entry.{Entry}
 use Rattle.model.specs.Model.{storable, maxOrder, aligned, store, reservedWord, covering}
 use Rattle.tree.specs.Tree.{nodes, needed}
@@ -20,8 +21,11 @@ use Rattle.batch.specs.declared.Command.{Command}
 use Rattle.batch.specs.declared.Command.the-variants.{Store, Reserve}
 use Rattle.batch.specs.Batch.{Parsed, Parsed.commands, Parsed.refused, parse}
 use Rattle.batch.specs.Reply.{replyBytes}
-use Rattle.execute.specs.Execute.{execute, tooFewNodes}
+use Rattle.listing.specs.Listing.{listed}
+use Rattle.listing.specs.Claims.{FitsListed}
+use Rattle.execute.specs.Execute.{Executed, execute, tooFewNodes}
 use Rattle.execute.specs.Part.{mayWrite}
+use Rattle.execute.specs.Table.{CommandRow}
 use Rattle.execute.specs.Widths.{FitsReply}
 use Rattle.verify.specs.Answers.{checkAnswer, initAnswer, initWords}
 use Rattle.xapool.specs.Calls.{
@@ -121,6 +125,9 @@ pub record Commanded (n : ℕ) (l : List Entry) (c : Command) (ws ws′ : List �
   pub refused : (execute n l c .reply .answer ≡ 0 → ⊥) → ws′ ≡ ws
   pub shortage : (i k w : ℕ) → c ≡ Store i k w → ShortExact n l i k w
   pub reserve-shortage : (i : ℕ) → c ≡ Reserve i → ReserveShort n l i
+  -- R73 to R81: what it comes to has a row of the table, and a row whose condition holds is what it comes to
+  pub row : CommandRow n l c (execute n l c)
+  pub sole : {x : Executed} → CommandRow n l c x → x ≡ execute n l c
   -- R49: no field of its reply is cut
   pub fits : FitsReply (execute n l c .reply)
 
@@ -148,11 +155,12 @@ module _ (n : ℕ) (l : List Entry) (ws : List ℕ) where
       (length rs < replyBytes * length cs → run ws bs rs ≡ refuseCall ws rs replyShort (length cs))
       × (replyBytes * length cs ≤ length rs → Ran bs rs cs)
 
+  -- of a listing its result and bytes, and that no field of an entry in it is cut (R144)
   abbrev pub AtCall : Call → Type 0
   AtCall init = initResult ws ≡ result done 0
   AtCall check = checkResult ws ≡ result done 0
   AtCall (batch bs rs) = AtBatch bs rs (parse bs)
-  AtCall (list a z bs) = C.list ws a z bs ≡ listOver l a z bs
+  AtCall (list a z bs) = (C.list ws a z bs ≡ listOver l a z bs) × All FitsListed (listed l a z)
 
 -- ALL CALLS (R102): the words after the list, and every call of it at its moment
 pub record Demand3 (n : ℕ) (l : List Entry) (ws : List ℕ) (cs : List Call) : Type 0 where

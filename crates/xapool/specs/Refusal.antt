@@ -1,4 +1,5 @@
--- The rows of the table of a call's answers (R68 to R72, R81), and of a listing's (R148).
+-- The rows of the table of a call's answers (R68 to R72, R81), and of a listing's (R148). Answers stand in it as numbers, so that
+-- it holds `Calls` to them.
 use Prim.Native.Nat.{ℕ, _*_, _≤_, _<_}
 use mathlib.Core.Path.{_≡_}
 use mathlib.Core.List.{List, _++_}
@@ -9,17 +10,14 @@ use Rattle.layout.specs.WellFormed.{WellFormed, Sized, Prescribed}
 use Rattle.layout.specs.Decode.{listOf, placesOf}
 use Rattle.layout.specs.Decide.{nodeCount}
 use Rattle.batch.specs.declared.Command.{Command}
-use Rattle.batch.specs.Batch.{Parsed, Parsed.commands, Parsed.refused, parse}
+use Rattle.batch.specs.Batch.{Parsed, Parsed.commands, parse}
+use Rattle.batch.specs.Records.{Refuses}
 use Rattle.batch.specs.Reply.{replyBytes}
 use Rattle.listing.specs.Listing.{listed, entryBytes, listing}
 use Rattle.xapool.specs.Calls.{
   Called,
   refuseCall,
-  badRecord,
-  replyShort,
-  badRange,
   running,
-  done,
   Evidence,
   evidence,
   result,
@@ -30,9 +28,9 @@ pub data CallRow (ws bs rs : List ℕ) : Called → Type 0 where
   row-1 : ((n : ℕ) → Sized n ws → ⊥) → CallRow ws bs rs (refuseCall ws rs 1 0)
   row-2 : (n : ℕ) → Sized n ws → ((l : List Entry) (os : Places) → Prescribed n l os ws → ⊥) →
       CallRow ws bs rs (refuseCall ws rs 2 0)
-  row-3 : WellFormed ws → (at : ℕ) → parse bs ≡ Parsed.refused at → CallRow ws bs rs (refuseCall ws rs badRecord at)
+  row-3 : WellFormed ws → (at : ℕ) → Refuses bs at → CallRow ws bs rs (refuseCall ws rs 3 at)
   row-4 : WellFormed ws → (cs : List Command) → parse bs ≡ Parsed.commands cs → length rs < replyBytes * length cs →
-      CallRow ws bs rs (refuseCall ws rs replyShort (length cs))
+      CallRow ws bs rs (refuseCall ws rs 4 (length cs))
   row-0 : WellFormed ws → (cs : List Command) → parse bs ≡ Parsed.commands cs → replyBytes * length cs ≤ length rs →
       CallRow ws bs rs (running (nodeCount ws) (record { list = listOf ws; places = placesOf ws }) cs rs)
 
@@ -41,12 +39,12 @@ pub data ListRow (ws : List ℕ) (a z : ℕ) (bs : List ℕ) : Evidence → Type
   list-1 : ((n : ℕ) → Sized n ws → ⊥) → ListRow ws a z bs (evidence bs 1 0)
   list-2 : (n : ℕ) → Sized n ws → ((l : List Entry) (os : Places) → Prescribed n l os ws → ⊥) →
       ListRow ws a z bs (evidence bs 2 0)
-  list-8 : WellFormed ws → z < a → ListRow ws a z bs (evidence bs badRange 0)
+  list-8 : WellFormed ws → z < a → ListRow ws a z bs (evidence bs 8 0)
   list-4 : WellFormed ws → a ≤ z → length bs < entryBytes * length (listed (listOf ws) a z) →
-      ListRow ws a z bs (evidence bs replyShort (length (listed (listOf ws) a z)))
+      ListRow ws a z bs (evidence bs 4 (length (listed (listOf ws) a z)))
   list-0 : WellFormed ws → a ≤ z → entryBytes * length (listed (listOf ws) a z) ≤ length bs →
       ListRow ws a z bs
       (record {
-        result = result done (length (listed (listOf ws) a z));
+        result = result 0 (length (listed (listOf ws) a z));
         buffer = listing (listed (listOf ws) a z) ++ drop (entryBytes * length (listed (listOf ws) a z)) bs;
       })

@@ -116,6 +116,7 @@ pub extern "C" fn xapool_init(pool: &mut [u64]) -> Result
 #[no_mangle]
 pub extern "C" fn xapool_check(pool: &[u64]) -> Result
     ensures { λ r. ⌜ r ≡ checkResult (now (pool .entry)) ⌝ }
+    ensures { λ _. ⌜ now (pool .exit) ≡ now (pool .entry) ⌝ }
 {
     let answer = verify::check(pool);
     Result {
@@ -130,6 +131,7 @@ pub extern "C" fn xapool_run(pool: &mut [u64], batch: &[u8], reply: &mut [u8]) -
     ensures { λ r. ⌜ r ≡ Calls.run (now (pool .entry)) (now (batch .entry)) (now (reply .entry)) .result ⌝ }
     ensures { λ _. ⌜ now (pool .exit) ≡ Calls.run (now (pool .entry)) (now (batch .entry)) (now (reply .entry)) .words ⌝ }
     ensures { λ _. ⌜ now (reply .exit) ≡ Calls.run (now (pool .entry)) (now (batch .entry)) (now (reply .entry)) .reply ⌝ }
+    ensures { λ _. ⌜ now (batch .exit) ≡ now (batch .entry) ⌝ }
 {
     let mut map = [0u64; MAP_WORDS];
     let answer = verify::check_map(pool, &mut map);
@@ -154,6 +156,7 @@ pub extern "C" fn xapool_run(pool: &mut [u64], batch: &[u8], reply: &mut [u8]) -
 #[no_mangle]
 pub extern "C" fn xapool_count(batch: &[u8]) -> Result
     ensures { λ r. ⌜ r ≡ countResult (now (batch .entry)) ⌝ }
+    ensures { λ _. ⌜ now (batch .exit) ≡ now (batch .entry) ⌝ }
 {
     let counted = reader::count_through(batch);
     match counted {
@@ -174,6 +177,7 @@ pub extern "C" fn xapool_count(batch: &[u8]) -> Result
 pub extern "C" fn xapool_list(pool: &[u64], first: u64, last: u64, buffer: &mut [u8]) -> Result
     ensures { λ r. ⌜ r ≡ Calls.list (now (pool .entry)) first last (now (buffer .entry)) .result ⌝ }
     ensures { λ _. ⌜ now (buffer .exit) ≡ Calls.list (now (pool .entry)) first last (now (buffer .entry)) .buffer ⌝ }
+    ensures { λ _. ⌜ now (pool .exit) ≡ now (pool .entry) ⌝ }
 {
     let checked = verify::check(pool);
     if checked != DONE {
@@ -213,6 +217,7 @@ pub struct Comparison {
 #[no_mangle]
 pub extern "C" fn xapool_crc32c(crc: u32, region: &[u8]) -> u32
     ensures { λ r. ⌜ r ≡ crc32c crc (now (region .entry)) ⌝ }
+    ensures { λ _. ⌜ now (region .exit) ≡ now (region .entry) ⌝ }
 {
     crc32c::crc32c(crc, region)
 }
@@ -221,6 +226,8 @@ pub extern "C" fn xapool_crc32c(crc: u32, region: &[u8]) -> u32
 #[no_mangle]
 pub extern "C" fn xapool_compare(old: &[u8], new: &[u8]) -> Comparison
     ensures { λ r. ⌜ r ≡ compareResult (now (old .entry)) (now (new .entry)) ⌝ }
+    ensures { λ _. ⌜ now (old .exit) ≡ now (old .entry) ⌝ }
+    ensures { λ _. ⌜ now (new .exit) ≡ now (new .entry) ⌝ }
 {
     let c = region::compare_digests(old, new);
     let verdict = c.verdict;

@@ -52,7 +52,7 @@ returns-2 c =
     let r = d .before .before .before .before .before in
     let i = made r in
     said _ _ _ _ (omega (arith, few i .if1 .left)) (i .xapool-init .ensures .1) (r .xapool-run .ensures .0)
-    (r .xapool-run .ensures .1 .0) (r .xapool-run .ensures .1 .1) (d .if2 .taken) (began i .pre)
+    (r .xapool-run .ensures .1 .0) (r .xapool-run .ensures .1 .1 .0) (d .if2 .taken) (began i .pre)
     (f .refusal2 .ensures .0) (f .refusal2 .ensures .1)
 
 mul-result : tie.Need-mul-result
@@ -72,7 +72,7 @@ returns-3 c =
     let r = c .before .before .before .before .before in
     let i = made r in
     did _ _ _ _ (omega (arith, few i .if1 .left)) (i .xapool-init .ensures .1) (r .xapool-run .ensures .0)
-    (r .xapool-run .ensures .1 .0) (r .xapool-run .ensures .1 .1) (c .if2 .left)
+    (r .xapool-run .ensures .1 .0) (r .xapool-run .ensures .1 .1 .0) (c .if2 .left)
 
 pub respond-spec : {M : Type 1} → statement M
 respond-spec =

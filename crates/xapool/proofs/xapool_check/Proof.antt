@@ -1,5 +1,5 @@
 -- `xapool_check`: / Whether a pool is well-formed: whether some list of entries prescribes its words.
-use mathlib.Core.Path.{ap}
+use mathlib.Core.Path.{ap, refl}
 use Prim.Native.Nat.{ℕ}
 use Rattle.xapool.specs.Calls.{result}
 use borrow.Author.Needs.{needs}
@@ -10,7 +10,7 @@ check-requires : tie.Need-check-requires
 check-requires c κs = search needs
 
 returns : tie.Need-returns
-returns c = ap (λ (a : ℕ). result a 0) (c .check .ensures)
+returns c = (ap (λ (a : ℕ). result a 0) (c .check .ensures), refl)
 
 pub xapool-check-spec : {M : Type 1} → statement M
 xapool-check-spec = tie.close (tie.spec check-requires returns)

@@ -1,5 +1,5 @@
 -- `xapool_compare`: whether an old and a new region match, and the digest of each.
-use mathlib.Core.Path.{ap, _∙_}
+use mathlib.Core.Path.{refl, ap, _∙_}
 use Prim.Native.Nat.{ℕ}
 use Rattle.region.specs.declared.Compared.{Compared}
 use Rattle.region.specs.Region.{number}
@@ -25,9 +25,11 @@ cast-t7 c = search needs
 
 returns : tie.Need-returns
 returns c =
-    let r = c .before .before .before .compare-digests in
-    ap (λ (n : ℕ). numbered n (r .result)) (c .before .before .number .ensures)
-    ∙ ap (λ (x : Compared). numbered (number (x .verdict)) x) (r .ensures)
+    let r = c .before .before .before .compare-digests in (
+      ap (λ (n : ℕ). numbered n (r .result)) (c .before .before .number .ensures)
+          ∙ ap (λ (x : Compared). numbered (number (x .verdict)) x) (r .ensures),
+      (refl, refl),
+    )
 
 pub xapool-compare-spec : {M : Type 1} → statement M
 xapool-compare-spec =

@@ -1,6 +1,6 @@
 -- `xapool_count`: / How many commands a batch has, read through the reader that holds it: answer 0 and their
 -- number, or answer 3 and the / place of its first bad record.
-use mathlib.Core.Path.{sym, _∙_}
+use mathlib.Core.Path.{refl, sym, _∙_}
 use Rattle.xapool.proofs.CallLaws.{count-done, count-refused}
 use borrow.Author.Needs.{needs}
 use Rattle.xapool.proofs.xapool_count.Statement.{statement}
@@ -16,10 +16,10 @@ enum-known-counted-2 : tie.Need-enum-known-counted-2
 enum-known-counted-2 c = search needs
 
 returns : tie.Need-returns
-returns c = count-refused _ (sym (c .before .counted .given .1) ∙ c .before .before .before .count-through .ensures)
+returns c = (count-refused _ (sym (c .before .counted .given .1) ∙ c .before .before .before .count-through .ensures), refl)
 
 returns-2 : tie.Need-returns-2
-returns-2 c = count-done _ (sym (c .before .counted2 .given .1) ∙ c .before .before .before .count-through .ensures)
+returns-2 c = (count-done _ (sym (c .before .counted2 .given .1) ∙ c .before .before .before .count-through .ensures), refl)
 
 pub xapool-count-spec : {M : Type 1} → statement M
 xapool-count-spec =

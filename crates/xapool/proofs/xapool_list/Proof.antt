@@ -13,11 +13,16 @@ check-requires : tie.Need-check-requires
 check-requires c κs = search needs
 
 returns : tie.Need-returns
-returns c = list-refused _ _ _ _ _ (c .before .check .ensures) (list-unchecked _ _ _ _ (λ e. c .if1 .taken (c .before .check .ensures ∙ e)))
+returns c =
+    let (r, b) = list-refused _ _ _ _ _ (c .before .check .ensures)
+    (list-unchecked _ _ _ _ (λ e. c .if1 .taken (c .before .check .ensures ∙ e))) in
+    (r, (b, refl))
 
 returns-2 : tie.Need-returns-2
-returns-2 c = list-refused _ _ _ _ _ refl (list-turned _ _ _ _ (sym (c .before .before .check .ensures) ∙ c .before .if1 .left)
-    (c .if2 .taken))
+returns-2 c =
+    let (r, b) = list-refused _ _ _ _ _ refl (list-turned _ _ _ _ (sym (c .before .before .check .ensures) ∙ c .before .if1 .left)
+    (c .if2 .taken)) in
+    (r, (b, refl))
 
 list-requires : tie.Need-list-requires
 list-requires c κs = accepted _ (sym (c .before .before .before .check .ensures) ∙ c .before .before .if1 .left)
@@ -38,8 +43,11 @@ returns-3 c =
       ap listResult (sym (c .before .listed .given .1)) ∙ list-result _ _ _ _ ok
           (c .before .before .before .before .before .before .before .if2 .left) _
           (c .before .before .before .before .before .list .ensures .0),
-      list-buffer _ _ _ _ ok (c .before .before .before .before .before .before .before .if2 .left)
-          (c .before .before .before .before .before .list .ensures .1),
+      (
+        list-buffer _ _ _ _ ok (c .before .before .before .before .before .before .before .if2 .left)
+            (c .before .before .before .before .before .list .ensures .1),
+        refl,
+      ),
     )
 
 same-length-2 : tie.Need-same-length-2
@@ -52,8 +60,11 @@ returns-4 c =
       ap listResult (sym (c .before .listed2 .given .1)) ∙ list-result _ _ _ _ ok
           (c .before .before .before .before .before .before .before .if2 .left) _
           (c .before .before .before .before .before .list .ensures .0),
-      list-buffer _ _ _ _ ok (c .before .before .before .before .before .before .before .if2 .left)
-          (c .before .before .before .before .before .list .ensures .1),
+      (
+        list-buffer _ _ _ _ ok (c .before .before .before .before .before .before .before .if2 .left)
+            (c .before .before .before .before .before .list .ensures .1),
+        refl,
+      ),
     )
 
 pub xapool-list-spec : {M : Type 1} → statement M

@@ -1,7 +1,7 @@
 -- `xapool_run`: / Runs a batch of commands on a pool, and writes 24 bytes of reply for each.
-use mathlib.Core.Path.{sym, _∙_}
+use mathlib.Core.Path.{refl, sym, _∙_}
 use Rattle.freemap.proofs.MapLaws.{blank-map}
-use Rattle.xapool.proofs.CallLaws.{run-unchecked, run-bad, comes-refused, comes-as, as-ensures}
+use Rattle.xapool.proofs.CallLaws.{run-unchecked, run-bad, comes-refused, comes-as, as-ensures, with-lent}
 use borrow.Author.Needs.{needs}
 use Rattle.xapool.proofs.xapool_run.Statement.{statement}
 use Rattle.xapool.proofs.xapool_run.Tie as tie
@@ -30,7 +30,7 @@ same-length c = search needs
 
 returns : tie.Need-returns
 returns c = let e = c .before .before .check-map .ensures .0 in
-    as-ensures (comes-as e (comes-refused (run-unchecked _ _ _ (λ z. c .if1 .taken (e ∙ z)))))
+    with-lent (as-ensures (comes-as e (comes-refused (run-unchecked _ _ _ (λ z. c .if1 .taken (e ∙ z)))))) refl
 
 count-requires : tie.Need-count-requires
 count-requires c κs = search needs
@@ -58,8 +58,8 @@ same-length-2 c = search needs
 
 returns-2 : tie.Need-returns-2
 returns-2 c = let p = passed-bad c in
-    as-ensures (comes-refused (run-bad _ _ _ (sym (checked p .check-map .ensures .0) ∙ p .if1 .left)
-    (sym (c .before .counted .given .1) ∙ c .before .before .before .count .ensures)))
+    with-lent (as-ensures (comes-refused (run-bad _ _ _ (sym (checked p .check-map .ensures .0) ∙ p .if1 .left)
+    (sym (c .before .counted .given .1) ∙ c .before .before .before .count .ensures)))) refl
 
 same-length-3 : tie.Need-same-length-3
 same-length-3 c = search needs
@@ -68,7 +68,7 @@ same-length-4 : tie.Need-same-length-4
 same-length-4 c = search needs
 
 returns-3 : tie.Need-returns-3
-returns-3 c = c .before .before .before .before .before .run-counted .ensures
+returns-3 c = with-lent (c .before .before .before .before .before .run-counted .ensures) refl
 
 pub xapool-run-spec : {M : Type 1} → statement M
 xapool-run-spec =

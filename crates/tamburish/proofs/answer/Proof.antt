@@ -1,0 +1,40 @@
+-- `answer`: what the program does with the bytes that it read.
+use borrow.Author.Needs.{needs}
+use native.Mathlib.Omega.{arith}
+use mathlib.Core.Path.{_≡_, refl, sym, ap, ap₂, subst, _∙_}
+use lib.ListN.{length, take, length-take}
+use Rattle.tamburish.proofs.WrittenLaws.{program-writes}
+use Rattle.tamburish.proofs.answer.Statement.{statement}
+use Rattle.tamburish.proofs.answer.Tie as tie
+
+slice-aggregate-respond : tie.Need-slice-aggregate-respond
+slice-aggregate-respond c = search needs
+
+slice-aggregate-respond-2 : tie.Need-slice-aggregate-respond-2
+slice-aggregate-respond-2 c =
+    let s = c .before .before .before .before in
+    let l = length-take (s .args .n) (s .args .input .now) in
+    let e : length (take (s .args .n) (s .args .input .now)) ≡ s .args .n = omega (arith, l, s .pre .0 .0, s .pre .0 .1) in
+    sym e
+
+respond-requires : tie.Need-respond-requires
+respond-requires c κs = search needs
+
+same-length : tie.Need-same-length
+same-length c = search needs
+
+returns : tie.Need-returns
+returns c =
+    let e = c .before .before .before .respond .ensures in
+    let p = c .before .before .before .before .before .before .before .before .before .pre in
+    (omega (arith, e .1 .0, p .1), ap₂ take (e .0) (e .1 .1 .0) ∙ program-writes _ _ _ refl (p .1))
+
+pub answer-spec : {M : Type 1} → statement M
+answer-spec =
+    tie.close
+    (tie.spec
+    slice-aggregate-respond
+    slice-aggregate-respond-2
+    respond-requires
+    same-length
+    returns)
