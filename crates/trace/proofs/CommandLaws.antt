@@ -108,6 +108,15 @@ answers-present : (t d : ℕ) (o p : Option Entry) → (p ≡ none → o ≡ non
 answers-present t d o (some x) f z = (x, refl)
 answers-present t d o none f z = absurd (clash (rw (f refl) at z) refl)
 
+-- where nothing covers an index, nothing starts there
+pub none-starts : (i : ℕ) {l : List Entry} {y : Entry} → In y l → covering l i ≡ none → startsIn i 0 y ≡ true → ⊥
+none-starts i {l} {y} m q c =
+    let lo : i ≤ y .base = leb-true _ _ (both-l (leb i (y .base)) (ltb (y .base) (i + 2 ^ 0)) c) in
+    let hi : y .base < i + 1 = ltb-true _ _ (both-r (leb i (y .base)) (ltb (y .base) (i + 2 ^ 0)) c) in
+    let b : y .base ≡ i = omega arith in
+    let (z, g) = found i l m (subst (λ (j : ℕ). covers j y ≡ true) b (covers-self y)) in
+    let w : _≡_ {A = ℕ} 0 1 = cc in omega arith
+
 -- WHAT A COMMAND COMES TO
 -- it leaves the list, and its answer is not 0
 pub record Left (n : ℕ) (l : List Entry) (c : Command) : Type 0 where
@@ -343,13 +352,5 @@ module _ (e : Entry) where
   gone n l (ran (Reserve i)) t f = elim (reserve-comes n l i) [
     | inl x ↦ absurd (clash t (to (stands e) (x .list-is) f))
     | inr x ↦ let (y, m, s, c) = gone-new i 0 reservedWord l t (to (stands e) (x .list-is) f) in
-        absurd (in-none y m (x .free) c)
+        absurd (none-starts i m (x .free) c)
   ]
-    where
-      in-none : (y : Entry) → In y l → covering l i ≡ none → startsIn i 0 y ≡ true → ⊥
-      in-none y m q c =
-          let lo : i ≤ y .base = leb-true _ _ (both-l (leb i (y .base)) (ltb (y .base) (i + 2 ^ 0)) c) in
-          let hi : y .base < i + 1 = ltb-true _ _ (both-r (leb i (y .base)) (ltb (y .base) (i + 2 ^ 0)) c) in
-          let b : y .base ≡ i = omega arith in
-          let (z, g) = found i l m (subst (λ (j : ℕ). covers j y ≡ true) b (covers-self y)) in
-          let w : _≡_ {A = ℕ} 0 1 = cc in omega arith

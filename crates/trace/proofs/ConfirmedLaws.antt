@@ -5,15 +5,16 @@ use mathlib.Core.Bool.{true, false}
 use mathlib.Core.Logic.{_⊎_, inl, inr}
 use mathlib.Core.List.{List, [], _∷_, _++_, append-assoc}
 use lib.Dec.{eqb}
-use borrow.Author.Tests.{eqb-true}
+use borrow.Author.Tests.{eqb-true, eq-eqb}
 use Rattle.blocks.specs.Choice.{both}
-use Rattle.blocks.specs.Lists.{All, also}
+use Rattle.blocks.specs.Lists.{All}
 use Rattle.blocks.proofs.BoolLaws.{clash, both-l, both-r, both-no}
 use Rattle.model.specs.declared.Entry.{Entry}
 use Rattle.model.specs.Model.{matchedMark, covers}
 use Rattle.layout.specs.Decide.{nodeCount}
 use Rattle.verify.specs.Answers.{initAnswer}
 use Rattle.batch.specs.declared.Command.the-variants.{Store, Load, Erase, Mark, Unmark, Find, Reserve}
+use Rattle.execute.specs.Execute.{execute}
 use Rattle.xapool.specs.Demand.{Call, listAfterAll, Bytewise, Starts, Starts.fresh}
 use Rattle.trace.specs.Trace.{
   Step,
@@ -23,10 +24,12 @@ use Rattle.trace.specs.Trace.{
   next,
   after,
   throughout,
+  never,
   did,
   stands,
   matched,
   match,
+  unmatch,
   Source,
   Origin,
   MarkedBy,
@@ -36,10 +39,13 @@ use Rattle.trace.proofs.StepLaws.{
   Since,
   after-append,
   first-moment,
+  last-moment,
   matched-stands,
   matched-since,
   matched-spared,
+  matched-remains,
 }
+use Rattle.trace.proofs.ConverseLaws.{mark-matches}
 use Rattle.trace.proofs.TraceLaws.{after-calls, going}
 use Rattle.trace.proofs.MomentLaws.{nil-append, in-batch}
 use Rattle.trace.proofs.SourceLaws.{traced-at}
@@ -132,3 +138,24 @@ confirmed ws q {cs} b e t =
         Source (nodeCount ws) [] cs (x .until) e
     source x (inl s) = s
     source x (inr h) = absurd (clash (first-moment (nodeCount ws) (stands e) [] (x .until) h) refl)
+
+-- R248: a mark of 2 with answer 0 over a record that stands makes it matched, until a step that takes it or its mark
+pub matches : {n : ℕ} {l : List Entry} {ws : List ℕ} → Starts n l ws → {cs : List Call} → All Bytewise cs → (e : Entry) →
+    (xs ys : List Step) → steps cs ≡ xs ++ ys → (m : MarkedBy n l cs xs e) → stands e (after n l (m .before)) ≡ true →
+    never n (unmatch n e) (after n l xs) ys ≡ true → matched e (listAfterAll n l cs) ≡ true
+matches {n} {l} st {cs} b e xs ys q m t h =
+    let s : Step = ran (Mark (m .index) matchedMark) in
+    let k : List Entry = after n l (m .before) in
+    let r : after n l xs ≡ next n k s = ap (after n l) (m .last) ∙ after-append n l (m .before) (s ∷ []) in
+    let p : steps cs ≡ m .before ++ (s ∷ ys) =
+    q ∙ ap (λ (x : List Step). x ++ ys) (m .last) ∙ append-assoc (m .before) (s ∷ []) ys in
+    let d : did n k (Mark (m .index) matchedMark) ≡ true =
+    eq-eqb (execute n k (Mark (m .index) matchedMark) .reply .answer) 0 (m .done .answer) in
+    let u : matched e (next n k s) ≡ true =
+    mark-matches n k (going st b (m .before) (s ∷ ys) p .valid) e t (m .index) d (m .marking) in
+    let w : throughout n (matched e) (after n l xs) ys ≡ true =
+    matched-remains n (after n l xs) (going st b xs ys q .valid) (going st b xs ys q .to-come) e
+    (subst (λ (x : List Entry). matched e x ≡ true) (sym r) u) h in
+    subst (λ (x : List Entry). matched e x ≡ true)
+    (sym (after-append n l xs ys) ∙ ap (after n l) (sym q) ∙ after-calls n l cs)
+    (last-moment n (matched e) (after n l xs) ys w)

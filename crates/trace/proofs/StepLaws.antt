@@ -6,11 +6,10 @@ use mathlib.Core.Logic.{_⊎_, inl, inr}
 use mathlib.Core.List.{List, [], _∷_, _++_}
 use Rattle.blocks.specs.Choice.{both}
 use Rattle.blocks.specs.Lists.{All, end, also}
-use Rattle.blocks.proofs.BoolLaws.{byT, clash, is-false, both-i, both-l, both-r, both-no}
+use Rattle.blocks.proofs.BoolLaws.{byT, clash, is-false, both-i, both-l, both-r, not-true}
 use Rattle.blocks.proofs.ListLaws.{any-more}
 use Rattle.model.specs.declared.Entry.{Entry}
 use Rattle.model.specs.Model.{Valid, Sorted.done, hasMark, matchedMark}
-use Rattle.batch.specs.declared.Command.the-variants.{Store, Load, Erase, Mark, Unmark, Find, Reserve}
 use Rattle.batch.specs.Fits.{Fits}
 use Rattle.execute.proofs.ExecuteLaws.{execute-keeps}
 use Rattle.trace.specs.Trace.{
@@ -21,7 +20,6 @@ use Rattle.trace.specs.Trace.{
   after,
   throughout,
   never,
-  did,
   same,
   stands,
   matched,
@@ -32,6 +30,7 @@ use Rattle.trace.specs.Trace.{
 }
 use Rattle.trace.proofs.CommandLaws.{born, gone}
 use Rattle.trace.proofs.MatchLaws.{mark-born, unmatched}
+use Rattle.trace.proofs.ConverseLaws.{mark-gone}
 
 pub after-append : (n : ℕ) (l : List Entry) (xs ys : List Step) → after n l (xs ++ ys) ≡ after n (after n l xs) ys
 after-append n l [] ys = refl
@@ -45,14 +44,6 @@ pub last-moment : (n : ℕ) (q : List Entry → Bool) (l : List Entry) (ss : Lis
     q (after n l ss) ≡ true
 last-moment n q l [] h = h
 last-moment n q l (s ∷ ss) h = last-moment n q (next n l s) ss (both-r (q l) (throughout n q (next n l s) ss) h)
-
--- a test that holds at every moment, and what it brings with it
-weaken : (n : ℕ) (q r : List Entry → Bool) → ((l : List Entry) → q l ≡ true → r l ≡ true) → (l : List Entry)
-    (ss : List Step) → throughout n q l ss ≡ true → throughout n r l ss ≡ true
-weaken n q r f l [] h = f l h
-weaken n q r f l (s ∷ ss) h =
-    both-i (f l (both-l (q l) (throughout n q (next n l s) ss) h))
-    (weaken n q r f (next n l s) ss (both-r (q l) (throughout n q (next n l s) ss) h))
 
 -- THE CLAIMS, of any test
 module _ (n : ℕ) (l : List Entry) (ss : List Step) where
@@ -128,6 +119,14 @@ module _ (n : ℕ) (I : List Entry → Type 0) (F : Step → Type 0)
       let z : p l s ≡ false = is-false (λ y. clash (first-moment n q (next n l s) ss r) (one l v s y)) in
       both-i {a = not (p l s)} (rw z) (spared one (next n l s) (keep l s v f) fs r)
 
+  remains : ((l : List Entry) → I l → (s : Step) → q l ≡ true → q (next n l s) ≡ false → p l s ≡ true) →
+      (l : List Entry) → I l → {ss : List Step} → All F ss → q l ≡ true → never n p l ss ≡ true → throughout n q l ss ≡ true
+  remains one l v end t h = t
+  remains one l v (also {x = s} {l = ss} f fs) t h =
+      let z : p l s ≡ false = not-true (p l s) (both-l (not (p l s)) (never n p (next n l s) ss) h) in
+      let u : q (next n l s) ≡ true = byT (q (next n l s)) (λ y. y) (λ y. absurd (clash (one l v s t y) z)) in
+      both-i t (remains one (next n l s) (keep l s v f) fs u (both-r (not (p l s)) (never n p (next n l s) ss) h))
+
 -- nothing asked
 abbrev Any : {A : Type 0} → A → Type 0
 Any x = Unit
@@ -175,5 +174,6 @@ module _ (n : ℕ) (l : List Entry) (v : Valid l) {ss : List Step} (fs : All Fit
   pub matched-spared : throughout n (matched e) l ss ≡ true → never n (unmatch n e) l ss ≡ true
   matched-spared h = spared n Valid Fitting (next-valid n) (unmatch n e) (matched e) (unmatched e n) l v fs h
 
-  pub matched-throughout : throughout n (matched e) l ss ≡ true → throughout n (stands e) l ss ≡ true
-  matched-throughout h = weaken n (matched e) (stands e) (matched-stands e) l ss h
+  pub matched-remains : matched e l ≡ true → never n (unmatch n e) l ss ≡ true → throughout n (matched e) l ss ≡ true
+  matched-remains t h =
+      remains n Valid Fitting (next-valid n) (unmatch n e) (matched e) (λ k w s. mark-gone n k w e s) l v fs t h
