@@ -8,7 +8,7 @@ use lib.Dec.{eqb}
 use borrow.Author.Tests.{eqb-true, eq-eqb}
 use Rattle.blocks.specs.Choice.{both}
 use Rattle.blocks.specs.Lists.{All}
-use Rattle.blocks.proofs.BoolLaws.{clash, both-l, both-r, both-no}
+use Rattle.blocks.proofs.BoolLaws.{clash, both-i, both-l, both-r, both-no}
 use Rattle.model.specs.declared.Entry.{Entry}
 use Rattle.model.specs.Model.{matchedMark, covers}
 use Rattle.layout.specs.Decide.{nodeCount}
@@ -152,7 +152,7 @@ matches {n} {l} st {cs} b e xs ys q m t h =
     let d : did n k (Mark (m .index) matchedMark) ≡ true =
     eq-eqb (execute n k (Mark (m .index) matchedMark) .reply .answer) 0 (m .done .answer) in
     let u : matched e (next n k s) ≡ true =
-    mark-matches n k (going st b (m .before) (s ∷ ys) p .valid) e t (m .index) d (m .marking) in
+    mark-matches n k (going st b (m .before) (s ∷ ys) p .valid) e t (Mark (m .index) matchedMark) (both-i d (m .marking)) in
     let w : throughout n (matched e) (after n l xs) ys ≡ true =
     matched-remains n (after n l xs) (going st b xs ys q .valid) (going st b xs ys q .to-come) e
     (subst (λ (x : List Entry). matched e x ≡ true) (sym r) u) h in

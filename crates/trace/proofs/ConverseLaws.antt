@@ -37,6 +37,7 @@ use Rattle.model.specs.Model.{
 use Rattle.model.proofs.InsertLaws.{any-insert}
 use Rattle.model.proofs.WordLaws.{present-some}
 use Rattle.model.proofs.ValidLaws.{sole, sorted-ok}
+use Rattle.batch.specs.declared.Command.{Command}
 use Rattle.batch.specs.declared.Command.the-variants.{Store, Load, Erase, Mark, Unmark, Find, Reserve}
 use Rattle.execute.specs.Execute.{execute}
 use Rattle.trace.specs.Trace.{
@@ -46,10 +47,11 @@ use Rattle.trace.specs.Trace.{
   next,
   did,
   same,
-  names,
   stands,
   matched,
   enters,
+  names,
+  marks,
   enter,
   take,
   unmatch,
@@ -167,10 +169,9 @@ module _ (n : ℕ) (l : List Entry) (v : Valid l) (e : Entry) where
   abbrev two : Entry → Bool
   two x = both (same e x) (hasMark matchedMark x)
 
-  -- a mark of 2 that is done makes the record over its index matched
-  pub mark-matches : stands e l ≡ true → (i : ℕ) → did n l (Mark i matchedMark) ≡ true → covers i e ≡ true →
+  marks-it : stands e l ≡ true → (i : ℕ) → did n l (Mark i matchedMark) ≡ true → covers i e ≡ true →
       matched e (execute n l (Mark i matchedMark) .list) ≡ true
-  mark-matches t i d c = elim (mark-comes n l i matchedMark) [
+  marks-it t i d c = elim (mark-comes n l i matchedMark) [
     | inl x ↦ absurd (clash d (x .not-done))
     | inr x ↦ to (matched e) (sym (x .list-is)) (go (x .only d) (any-in (same e) l t))
   ]
@@ -185,6 +186,23 @@ module _ (n : ℕ) (l : List Entry) (v : Valid l) (e : Entry) where
           let u : reserved y ≡ false = subst (λ (h : Entry). reserved h ≡ false) w r in
           any-map two (withMark i matchedMark true) l
           ∙ in-any (λ h. two (withMark i matchedMark true h)) m (both-i s (rw (k, u) (word-marks (y .marks))))
+
+  -- a mark of 2 that is done makes the record over its index matched
+  pub mark-matches : stands e l ≡ true → (c : Command) → both (did n l c) (marks e c) ≡ true →
+      matched e (execute n l c .list) ≡ true
+  mark-matches t (Store i k w) d = absurd (clash d (both-no (did n l (Store i k w))))
+  mark-matches t (Load i) d = absurd (clash d (both-no (did n l (Load i))))
+  mark-matches t (Erase i) d = absurd (clash d (both-no (did n l (Erase i))))
+  mark-matches t (Unmark i m) d = absurd (clash d (both-no (did n l (Unmark i m))))
+  mark-matches t (Find a z f k) d = absurd (clash d (both-no (did n l (Find a z f k))))
+  mark-matches t (Reserve i) d = absurd (clash d (both-no (did n l (Reserve i))))
+  mark-matches t (Mark i m) d =
+      let c : both (eqb m matchedMark) (covers i e) ≡ true =
+      both-r (did n l (Mark i m)) (both (eqb m matchedMark) (covers i e)) d in
+      let q : matchedMark ≡ m = sym (eqb-true _ _ (both-l (eqb m matchedMark) (covers i e) c)) in
+      subst (λ (x : ℕ). did n l (Mark i x) ≡ true → matched e (execute n l (Mark i x) .list) ≡ true) q
+      (λ u. marks-it t i u (both-r (eqb m matchedMark) (covers i e) c))
+      (both-l (did n l (Mark i m)) (both (eqb m matchedMark) (covers i e)) d)
 
   -- what had mark 2 has it after a command, or the command takes the record or its mark
   kept : {x : Entry} → In x l → two x ≡ true → (i m : ℕ) (b : Bool) → m < 3 →

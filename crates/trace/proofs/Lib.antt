@@ -8,4 +8,5 @@ pub mod SourceLaws
 pub mod LostLaws
 pub mod ConfirmedLaws
 pub mod ConverseLaws
+pub mod AuditLaws
 pub mod Example
