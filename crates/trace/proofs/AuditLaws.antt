@@ -5,12 +5,11 @@ use mathlib.Core.Path.{_≡_, refl}
 use mathlib.Core.Bool.{Bool, true, false, not}
 use mathlib.Core.List.{List, [], _∷_}
 use mathlib.Core.Option.{Option, none, some}
-use lib.Dec.{leb, eqb}
 use Rattle.blocks.specs.Choice.{both, either}
-use Rattle.blocks.proofs.BoolLaws.{byT, both-l, both-r, not-true}
+use Rattle.blocks.proofs.BoolLaws.{both-l, both-r, not-true}
 use Rattle.blocks.proofs.ListLaws.{any-in, in-any}
 use Rattle.model.specs.declared.Entry.{Entry}
-use Rattle.model.specs.Model.{Valid, storable, covers, covering}
+use Rattle.model.specs.Model.{Valid, covering}
 use Rattle.tree.specs.Tree.{tall, has, slotMark}
 use Rattle.tree.specs.Slots.{slot}
 use Rattle.batch.specs.declared.Command.{Command}

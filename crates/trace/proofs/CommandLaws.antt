@@ -8,7 +8,7 @@ use mathlib.Core.Option.{Option, none, some}
 use native.Mathlib.Omega.{arith}
 use lib.Dec.{leb, ltb, eqb}
 use borrow.Author.Tests.{eq-eqb, leb-true, leb-false, le-leb, ltb-true}
-use Rattle.blocks.specs.Choice.{both, either}
+use Rattle.blocks.specs.Choice.{either}
 use Rattle.blocks.specs.Lists.{any, In}
 use Rattle.blocks.proofs.BoolLaws.{byT, clash, both-i, both-l, both-r, either-e, either-yes, not-false}
 use Rattle.blocks.proofs.ListLaws.{any-in, in-any, in-without, without-in}

@@ -86,7 +86,7 @@ use Rattle.trace.proofs.CommandLaws.{
 }
 use Rattle.trace.proofs.MatchLaws.{below-2, over-starts, new-covers}
 
-self : (e : Entry) → same e e ≡ true
+pub self : (e : Entry) → same e e ≡ true
 self e = is-same {e = e} {x = e} (record { base = refl; order = refl; word = refl })
 
 module _ (n : ℕ) (l : List Entry) where

@@ -8,5 +8,6 @@ pub mod SourceLaws
 pub mod LostLaws
 pub mod ConfirmedLaws
 pub mod ConverseLaws
+pub mod ShownLaws
 pub mod AuditLaws
 pub mod Example

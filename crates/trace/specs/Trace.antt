@@ -1,4 +1,4 @@
--- What an inspector signs (R240 to R250): where a record of the model comes from, how it goes, and what its mark 2 is
+-- What an inspector signs (R240 to R251): where a record of the model comes from, how it goes, and what its mark 2 is
 -- worth. No word of the pool is read.
 use Prim.Native.Nat.{ℕ, _+_, _-_, _*_, _^_, _≤_}
 use mathlib.Core.Path.{_≡_}
@@ -9,14 +9,16 @@ use lib.Dec.{leb, ltb, eqb}
 use lib.ListN.{length}
 use lib.ListN as L
 use Rattle.blocks.specs.Choice.{pick, both, either}
-use Rattle.blocks.specs.Lists.{any}
+use Rattle.blocks.specs.Lists.{any, All}
 use Rattle.model.specs.declared.Entry.{Entry}
 use Rattle.model.specs.Model.{storable, reservedWord, matchedMark, covers, meets, hasMark, startsIn}
 use Rattle.batch.specs.declared.Command.{Command}
 use Rattle.batch.specs.declared.Command.the-variants.{Store, Load, Erase, Mark, Unmark, Find, Reserve}
 use Rattle.batch.specs.Batch.{Parsed, Parsed.commands, Parsed.refused, parse}
 use Rattle.batch.specs.Reply.{replyBytes}
+use Rattle.listing.specs.Listing.{entryBytes, listing}
 use Rattle.execute.specs.Execute.{execute}
+use Rattle.xapool.specs.Calls.{Evidence}
 use Rattle.xapool.specs.Demand.{Call, Call.init, Call.check, Call.batch, Call.list, wordsAfterAll, Stands}
 
 -- STEPS (R240)
@@ -221,6 +223,16 @@ pub record Confirmed (n : ℕ) (l : List Entry) (cs : List Call) (e : Entry) : T
   pub since : throughout n (matched e) (after n l until) later ≡ true
   -- no init, no store or erase that names it, no unmark of it since
   pub spared : never n (unmatch n e) (after n l until) later ≡ true
+
+-- WHAT A LISTING SHOWS
+-- R251: its number and its bytes (R144, R146) are those of these entries; each came by its command, and is confirmed if it
+-- is shown with mark 2
+pub record Shown (n : ℕ) (l : List Entry) (cs : List Call) (buffer : List ℕ) (told : Evidence) : Type 0 where
+  pub entries : List Entry
+  pub number : told .result .number ≡ length entries
+  pub bytes : told .buffer ≡ listing entries ++ L.drop (entryBytes * length entries) buffer
+  pub origins : All (Origin n l cs (steps cs)) entries
+  pub confirmed : All (λ e. hasMark matchedMark e ≡ true → Confirmed n l cs e) entries
 
 -- THE POOL
 -- R250: calls that begin as others do: the same calls, and then no more, or a batch cut short (R104)
