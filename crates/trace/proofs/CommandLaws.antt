@@ -1,4 +1,4 @@
--- One step: what it enters, takes, marks and unmarks.
+-- One step: what it comes to, and what it enters and takes.
 use Prim.Native.Nat.{ℕ, _+_, _^_, _≤_, _<_}
 use mathlib.Core.Path.{_≡_, refl, sym, ap, subst, _∙_}
 use mathlib.Core.Bool.{Bool, true, false, not}
@@ -100,7 +100,9 @@ present-unmarked l i m b q =
   where
     go : (o : Option Entry) → present o ≡ none → present (mapO (withMark i m b) o) ≡ none
     go none r = refl
-    go (some x) r = byT (reserved x) (λ t. rw t) (λ t. absurd (let z : some x ≡ none = rw t at r in let w : _≡_ {A = ℕ} 0 1 = cc in omega arith))
+    go (some x) r =
+        byT (reserved x) (λ t. rw t)
+        (λ t. absurd (let z : some x ≡ none = rw t at r in let w : _≡_ {A = ℕ} 0 1 = cc in omega arith))
 
 -- an answer 0 by what is present
 answers-present : (t d : ℕ) (o p : Option Entry) → (p ≡ none → o ≡ none) → eqb (replyOf t d o .answer) 0 ≡ true →
@@ -144,7 +146,8 @@ store-comes n l i k w =
       whole = al;
       stored = st;
       list-is = rw (t, a, s, d);
-      is-done = eq-eqb (execute n l (Store i k w) .reply .answer) 0 (rw (t, a, s, d) (covered-0 129 0 _ (covering-stored l i k w .1)));
+      is-done = eq-eqb (execute n l (Store i k w) .reply .answer) 0
+          (rw (t, a, s, d) (covered-0 129 0 _ (covering-stored l i k w .1)));
     })))))
 
 -- a reservation that is done
@@ -321,7 +324,8 @@ module _ (e : Entry) where
       let (x, m, s) = any-in (same e) l t in
       byT (startsIn i k x) (λ c. (x, m, s, c))
       (λ c. absurd (clash (any-insert (same e) (newEntry l i k w) (clear l i k)
-      ∙ either-r (same e (newEntry l i k w)) (any (same e) (clear l i k)) (in-any (same e) {l = clear l i k} (in-without (startsIn i k) m c) s)) f))
+      ∙ either-r (same e (newEntry l i k w)) (any (same e) (clear l i k))
+      (in-any (same e) {l = clear l i k} (in-without (startsIn i k) m c) s)) f))
 
   pub gone : (n : ℕ) (l : List Entry) (s : Step) → stands e l ≡ true → stands e (next n l s) ≡ false →
       take n e l s ≡ true

@@ -1,4 +1,5 @@
--- The other way: what a store with answer 0 leaves, and what a step that takes a record leaves of it.
+-- The other way (R248): what a store and a mark of 2 with answer 0 leave, what a step that takes a record leaves of it, and
+-- how mark 2 goes.
 use Prim.Native.Nat.{ℕ, _<_}
 use mathlib.Core.Path.{_≡_, refl, sym, subst, _∙_}
 use mathlib.Core.Bool.{Bool, true, false, not}

@@ -161,7 +161,8 @@ in-batch (c ∷ cs) xs d ys q = go (lies (stepsOf c) (steps cs) xs (ran d) ys q)
           later = r .later;
           reads = r .reads;
           room = r .room;
-          moment = e ∙ ap (λ (x : List Step). stepsOf c ++ x) (r .moment) ∙ sym (append-assoc (stepsOf c) (steps (r .calls)) (map ran (r .earlier)));
+          moment = e ∙ ap (λ (x : List Step). stepsOf c ++ x) (r .moment)
+              ∙ sym (append-assoc (stepsOf c) (steps (r .calls)) (map ran (r .earlier)));
         }
 
 -- EVERY MOMENT IS THE END OF A LIST OF CALLS

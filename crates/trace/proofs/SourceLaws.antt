@@ -97,7 +97,8 @@ module _ (n : ℕ) (l : List Entry) (cs : List Call) (e : Entry) where
               answer = eqb-true _ _ (both-l (did n (after n l (x .before)) c) (enters e c) t);
             };
             entering = both-r (did n (after n l (x .before)) c) (enters e c) t;
-            since = subst (λ (s : Step). throughout n (stands e) (next n (after n l (x .before)) s) (x .later) ≡ true) q (x .holds);
+            since = subst (λ (s : Step). throughout n (stands e) (next n (after n l (x .before)) s) (x .later) ≡ true) q
+                (x .holds);
           }
 
 -- R245 at any moment

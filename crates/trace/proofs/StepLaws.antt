@@ -1,4 +1,4 @@
--- Lists of steps: the last step that made a test hold, the first that ended it, and what none of them did.
+-- Lists of steps: the last step that made a test hold, the first that ended it, what none of them did, and what that keeps.
 use Prim.Native.Nat.{ℕ}
 use mathlib.Core.Path.{_≡_, refl, ap}
 use mathlib.Core.Bool.{Bool, true, false, not}
