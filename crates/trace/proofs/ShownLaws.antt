@@ -1,29 +1,29 @@
 -- What a listing shows (R251): records that came by their commands.
 use Prim.Native.Nat.{ℕ}
-use mathlib.Core.Path.{_≡_, refl, sym, ap, _∙_}
+use mathlib.Core.Path.{_≡_, sym, ap, _∙_}
 use mathlib.Core.Bool.{true}
-use mathlib.Core.List.{List, [], _∷_, _++_}
+use mathlib.Core.List.{List}
 use native.Mathlib.Omega.{arith}
 use lib.Dec.{ltb}
 use Rattle.blocks.specs.Choice.{both}
-use Rattle.blocks.specs.Lists.{All, end, also, In}
+use Rattle.blocks.specs.Lists.{All, In}
 use Rattle.blocks.proofs.BoolLaws.{byT, both-i}
 use Rattle.blocks.proofs.ListLaws.{All-map, All-keep, in-any, each}
 use Rattle.model.specs.declared.Entry.{Entry}
 use Rattle.model.specs.Model.{matchedMark, meets, hasMark}
+use Rattle.decode.proofs.DecodeLaws.{decode-list}
+use Rattle.verify.proofs.AnswerLaws.{prescribed-0}
 use Rattle.listing.specs.Listing.{listed, fits}
 use Rattle.xapool.specs.Calls.{Evidence, listOver}
 use Rattle.xapool.specs.Calls as C
-use Rattle.xapool.specs.Demand.{Call, Call.list, wordsAfterAll, listAfterAll, Bytewise, Starts}
+use Rattle.xapool.specs.Demand.{Call, wordsAfterAll, listAfterAll, Bytewise, Stands, Starts}
+use Rattle.xapool.proofs.DemandLaws.{Started, started, sized}
+use Rattle.xapool.proofs.ListCallLaws.{list-checked}
 use Rattle.xapool.proofs.ClaimLaws.{demand-3-whole}
 use Rattle.trace.specs.Trace.{same, stands, matched, Shown}
 use Rattle.trace.proofs.ConverseLaws.{self}
 use Rattle.trace.proofs.SourceLaws.{traced}
 use Rattle.trace.proofs.ConfirmedLaws.{matched-by}
-
-and-one : {cs : List Call} (c : Call) → All Bytewise cs → Bytewise c → All Bytewise (cs ++ (c ∷ []))
-and-one c end b = also b end
-and-one c (also h a) b = also h (and-one c a b)
 
 in-list : {e : Entry} {l : List Entry} → In e l → stands e l ≡ true
 in-list {e} m = in-any (same e) m (self e)
@@ -35,7 +35,12 @@ module _ {n : ℕ} {l : List Entry} {ws : List ℕ} (st : Starts n l ws) {cs : L
     (first last : ℕ) (buffer : List ℕ) where
   -- R149: the listing is that of the model
   of-model : C.list (wordsAfterAll ws cs) first last buffer ≡ listOver (listAfterAll n l cs) first last buffer
-  of-model = demand-3-whole st (and-one (Call.list first last buffer) b tt) .calls cs (Call.list first last buffer) [] refl
+  of-model =
+      let w : Started n l ws = started st in
+      let p : Stands n (listAfterAll n l cs) (wordsAfterAll ws cs) = demand-3-whole st b .words in
+      list-checked (wordsAfterAll ws cs) first last buffer
+      (prescribed-0 (sized (w .least) (w .most) (p .prescribed)) (p .prescribed))
+      ∙ ap (λ (x : List Entry). listOver x first last buffer) (decode-list (p .prescribed))
 
   pub shown : C.list (wordsAfterAll ws cs) first last buffer .result .answer ≡ 0 →
       Shown n l cs buffer (C.list (wordsAfterAll ws cs) first last buffer)
