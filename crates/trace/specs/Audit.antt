@@ -1,5 +1,5 @@
--- One command, held to what an inspector signs (R245 to R249), and a small copy of the model in which a mistake can be
--- tried: one in the model itself is refused by the model's own laws first.
+-- One command, held to what an inspector signs (R245 to R248), and a small copy of the model in which a mistake can be
+-- tried: in the model itself it would meet other laws first.
 use Prim.Native.Nat.{ℕ}
 use mathlib.Core.Bool.{Bool, true, false, not}
 use mathlib.Core.List.{List, map}
