@@ -1,0 +1,13 @@
+pub mod RecordLaws
+pub mod CommandLaws
+pub mod MatchLaws
+pub mod StepLaws
+pub mod TraceLaws
+pub mod MomentLaws
+pub mod SourceLaws
+pub mod LostLaws
+pub mod ConfirmedLaws
+pub mod ConverseLaws
+pub mod ShownLaws
+pub mod AuditLaws
+pub mod Example
