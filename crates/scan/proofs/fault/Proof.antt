@@ -32,8 +32,10 @@ bit-of-requires-7 : tie.Need-bit-of-requires-7
 bit-of-requires-7 c κs = search needs
 
 returns : tie.Need-returns
-returns c = λ z. chained-of _ _ _ _ _ _ _ _ _ _ _ _ (c .before .before .before .before .before .before .before .bit-of .ensures) (c .before .before .before .before .before .before .bit-of2 .ensures) (c .before .before .before .before .before .bit-of3 .ensures)
-    (c .before .before .before .before .bit-of4 .ensures) (c .before .before .before .bit-of5 .ensures) (c .before .before .unfit .ensures) (c .before .bit-of6 .ensures) (c .bit-of7 .ensures) z
+returns c = λ z. chained-of _ _ _ _ _ _ _ _ _ _ _ _ (c .before .before .before .before .before .before .before .bit-of .ensures)
+    (c .before .before .before .before .before .before .bit-of2 .ensures) (c .before .before .before .before .before .bit-of3 .ensures)
+    (c .before .before .before .before .bit-of4 .ensures) (c .before .before .before .bit-of5 .ensures) (c .before .before .unfit .ensures)
+    (c .before .bit-of6 .ensures) (c .bit-of7 .ensures) z
 
 pub fault-spec : {M : Type 1} → statement M
 fault-spec =

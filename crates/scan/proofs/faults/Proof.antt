@@ -45,7 +45,11 @@ loop-less : tie.Need-loop-less Inv-loop μ-loop
 loop-less c = omega arith
 
 loop-again : tie.Need-loop-again Inv-loop μ-loop
-loop-again c = (omega arith, chained-on (c .before .before .before .before .before .before .before .args .a .now) _ _ _ (c .before .before .before .before .before .loop .inv .1) (c .fault .ensures))
+loop-again c = (
+  omega arith,
+  chained-on (c .before .before .before .before .before .before .before .args .a .now) _ _ _
+      (c .before .before .before .before .before .loop .inv .1) (c .fault .ensures),
+)
 
 returns : tie.Need-returns Inv-loop μ-loop
 returns c = chained-all (c .before .before .before .args .a .now) _ _ (c .before .loop .inv .1) (omega arith)

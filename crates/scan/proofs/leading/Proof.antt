@@ -36,7 +36,11 @@ loop-less : tie.Need-loop-less Inv-loop μ-loop
 loop-less c = omega arith
 
 loop-again : tie.Need-loop-again Inv-loop μ-loop
-loop-again c = (omega arith, none-lead-on (c .before .before .before .before .before .args .a .now) _ _ _ (c .before .before .before .loop .inv .1) (c .bit-of .ensures))
+loop-again c = (
+  omega arith,
+  none-lead-on (c .before .before .before .before .before .args .a .now) _ _ _ (c .before .before .before .loop .inv .1)
+      (c .bit-of .ensures),
+)
 
 returns : tie.Need-returns Inv-loop μ-loop
 returns c = λ z i lt. c .before .loop .inv .1 z i (omega arith)

@@ -33,7 +33,9 @@ all-marks-requires : tie.Need-all-marks-requires
 all-marks-requires c κs = search needs
 
 returns-4 : tie.Need-returns-4
-returns-4 c = λ e. leaf-unmarked _ _ _ _ _ (c .before .before .before .before .before .before .before .before .bytes-of .ensures) (omega (arith, c .before .before .before .before .before .before .if1 .left)) (c .before .before .before .faults .ensures (c .before .before .if3 .left))
+returns-4 c = λ e. leaf-unmarked _ _ _ _ _ (c .before .before .before .before .before .before .before .before .bytes-of .ensures)
+    (omega (arith, c .before .before .before .before .before .before .if1 .left))
+    (c .before .before .before .faults .ensures (c .before .before .if3 .left))
     (c .before .all-marks .ensures) (c .if4 .taken) _ (sym (c .before .before .before .before .before .if2 .left))
 
 slice-aggregate-loose : tie.Need-slice-aggregate-loose
@@ -43,7 +45,8 @@ loose-requires : tie.Need-loose-requires
 loose-requires c κs = search needs
 
 returns-5 : tie.Need-returns-5
-returns-5 c = λ e. leaf-filled _ _ _ _ _ (c .before .before .before .before .before .before .before .before .before .before .bytes-of .ensures) (omega (arith, c .before .before .before .before .before .before .before .before .if1 .left)) (c .loose .ensures (eqb-true _ 0 e))
+returns-5 c = λ e. leaf-filled _ _ _ _ _ (c .before .before .before .before .before .before .before .before .before .before .bytes-of .ensures)
+    (omega (arith, c .before .before .before .before .before .before .before .before .if1 .left)) (c .loose .ensures (eqb-true _ 0 e))
     (c .before .before .before .before .before .faults .ensures (c .before .before .before .before .if3 .left))
     (c .before .before .before .all-marks .ensures) _ (sym (c .before .before .before .before .before .before .before .if2 .left))
 

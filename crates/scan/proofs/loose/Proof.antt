@@ -31,7 +31,13 @@ one-if-requires : tie.Need-one-if-requires Inv-loop μ-loop
 one-if-requires c κs = tt
 
 add-f : tie.Need-add-f Inv-loop μ-loop
-add-f c = omega (arith, off-small _ _ _ (c .before .before .before .loop .inv) (omega arith), pick-le (not (eqb (getD (c .before .before .before .before .before .args .a .now) (slots - c .before .before .before .loop .t) 0 % 4) 1)) _ (c .one-if .ensures))
+add-f c = omega (
+  arith,
+  off-small _ _ _ (c .before .before .before .loop .inv) (omega arith),
+  pick-le
+      (not (eqb (getD (c .before .before .before .before .before .args .a .now) (slots - c .before .before .before .loop .t) 0 % 4) 1)) _
+      (c .one-if .ensures),
+)
 
 add-t : tie.Need-add-t Inv-loop μ-loop
 add-t c = omega arith

@@ -43,7 +43,11 @@ loop-less : tie.Need-loop-less Inv-loop μ-loop
 loop-less c = omega arith
 
 loop-again : tie.Need-loop-again Inv-loop μ-loop
-loop-again c = (omega arith, bytes-on upperByteOf notUpper _ _ _ _ _ _ _ _ (c .before .before .before .before .loop .inv .1) (omega arith) (c .before .before .slot-word .ensures) (c .before .upper-byte .ensures) (c .upper-weight .ensures))
+loop-again c = (
+  omega arith,
+  bytes-on upperByteOf notUpper _ _ _ _ _ _ _ _ (c .before .before .before .before .loop .inv .1) (omega arith)
+      (c .before .before .slot-word .ensures) (c .before .upper-byte .ensures) (c .upper-weight .ensures),
+)
 
 same-length : tie.Need-same-length Inv-loop μ-loop
 same-length c = c .before .loop .inv .1 .framed .size ∙ sym (c .before .before .before .before .pre .1 .size)

@@ -64,7 +64,8 @@ leading-requires c κs = search needs
 
 returns-5 : tie.Need-returns-5
 returns-5 c = λ e. upper-filled _ _ _ _ _ _ (read-from (c .before) .upper-bytes .ensures) (omega (arith, counted-from (c .before) .before .if1 .left))
-    (read-from (c .before) .before .before .before .pre .1) (else4-from (c .before) .before .loose .ensures (else4-from (c .before) .if4 .left)) (lead-none _ _ _ _ _ (read-from (c .before) .upper-bytes .ensures) (c .before .leading .ensures (c .if5 .taken)))
+    (read-from (c .before) .before .before .before .pre .1) (else4-from (c .before) .before .loose .ensures (else4-from (c .before) .if4 .left))
+    (lead-none _ _ _ _ _ (read-from (c .before) .upper-bytes .ensures) (c .before .leading .ensures (c .if5 .taken)))
     (chained-from (c .before) .faults .ensures (marks-from (c .before) .before .before .if3 .left)) (marks-from (c .before) .all-marks .ensures) _
     (sym (counted-from (c .before) .if2 .left))
 
@@ -72,9 +73,12 @@ children-ok-requires : tie.Need-children-ok-requires
 children-ok-requires c κs = search needs
 
 returns-6 : tie.Need-returns-6
-returns-6 c = λ e. upper-filled _ _ _ _ _ _ (read-from (c .before .before) .upper-bytes .ensures) (omega (arith, counted-from (c .before .before) .before .if1 .left))
-    (read-from (c .before .before) .before .before .before .pre .1) (else4-from (c .before .before) .before .loose .ensures (else4-from (c .before .before) .if4 .left)) (c .children-ok .ensures e)
-    (chained-from (c .before .before) .faults .ensures (marks-from (c .before .before) .before .before .if3 .left)) (marks-from (c .before .before) .all-marks .ensures) _
+returns-6 c = λ e. upper-filled _ _ _ _ _ _ (read-from (c .before .before) .upper-bytes .ensures)
+    (omega (arith, counted-from (c .before .before) .before .if1 .left))
+    (read-from (c .before .before) .before .before .before .pre .1)
+    (else4-from (c .before .before) .before .loose .ensures (else4-from (c .before .before) .if4 .left)) (c .children-ok .ensures e)
+    (chained-from (c .before .before) .faults .ensures (marks-from (c .before .before) .before .before .if3 .left))
+    (marks-from (c .before .before) .all-marks .ensures) _
     (sym (counted-from (c .before .before) .if2 .left))
 
 pub upper-ok-spec : {M : Type 1} → statement M
