@@ -3,3 +3,4 @@ pub mod Lists
 pub mod Blocks
 pub mod Placing
 pub mod Tiers
+pub mod Deciding

@@ -13,7 +13,7 @@ use Rattle.tree.specs.Tree.{tierOrder, Node, nodes, needed}
 use Rattle.layout.specs.Words.{poolWords, headWord, marksWord, markPlace, slotPlace}
 use Rattle.layout.specs.Decode.{listOf, placesOf}
 use Rattle.verify.specs.Answers.{initWords}
-use Rattle.batch.specs.Bytes.{bytesThen}
+use Rattle.words.specs.Bytes.{bytesThen}
 use Rattle.batch.specs.declared.Command.{Command}
 use Rattle.batch.specs.declared.Command.the-variants.{Store, Load, Erase, Mark, Unmark, Find, Reserve}
 use Rattle.batch.specs.Reply.{replyBytes, encode, answered}
