@@ -2,3 +2,5 @@ pub mod Choice
 pub mod Lists
 pub mod Blocks
 pub mod Placing
+pub mod Tiers
+pub mod Deciding

@@ -3,13 +3,13 @@
 // pool: the borrowed words, well-formed; map: the map of its free nodes; tag: the reply's.
 use batch::Command;
 use batch::Reply;
-use layout::pow2;
 use lookup::Loaded;
 use lookup::Outcome;
 use model::Covered;
 use model::Entry;
 use model::shown_word;
 use store::Stored;
+use words::pow2;
 ghost use mathlib.Core.Path.{_≡_};
 ghost use mathlib.Core.Bool.{true, false};
 ghost use mathlib.Core.List.{List};

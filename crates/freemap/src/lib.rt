@@ -5,8 +5,8 @@
 use layout::SLOTS;
 use layout::clear_node;
 use layout::next_marked;
-use layout::pow2;
 use layout::shift_of;
+use words::pow2;
 ghost use Prim.Native.Nat.{ℕ, _+_, _*_, _/_, _<_};
 ghost use mathlib.Core.Path.{_≡_};
 ghost use mathlib.Core.Bool.{Bool, true, false, not};

@@ -12,9 +12,8 @@ use Rattle.blocks.specs.Choice.{pick}
 use Rattle.blocks.proofs.BoolLaws.{byT}
 use Rattle.model.specs.declared.Entry.{Entry}
 use Rattle.model.specs.Model.{meets, shown}
-use Rattle.batch.specs.Bytes.{writeFrom, overwrite}
-use Rattle.batch.proofs.WriteLaws.{written, overwrite-append, overwrite-all}
-use Rattle.batch.specs.Bytes.{bytesThen}
+use Rattle.words.specs.Bytes.{writeFrom, overwrite, bytesThen}
+use Rattle.words.proofs.WriteLaws.{written, overwrite-append, overwrite-all}
 use Rattle.listing.specs.Listing.{
   Listed,
   Short,

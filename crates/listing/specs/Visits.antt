@@ -8,7 +8,7 @@ use lib.ListN.{length}
 use Rattle.blocks.specs.Choice.{pick, both}
 use Rattle.blocks.specs.Lists.{keep}
 use Rattle.model.specs.declared.Entry.{Entry}
-use Rattle.batch.specs.Bytes.{overwrite}
+use Rattle.words.specs.Bytes.{overwrite}
 use Rattle.tree.specs.Slots.{Numbering}
 use Rattle.lookup.specs.Views.{AtNode}
 use Rattle.listing.specs.Listing.{entryBytes, encodeEntry}

@@ -9,12 +9,11 @@ use lib.Bits.{bitAnd}
 use borrow.Author.Tests.{eqb-true, eq-eqb, ltb-true, ltb-false}
 use Rattle.blocks.specs.Choice.{pick}
 use Rattle.blocks.specs.Blocks.{bit}
-use Rattle.blocks.proofs.BoolLaws.{byT}
+use Rattle.blocks.proofs.BoolLaws.{byT, decide-eqb}
 use Rattle.tree.specs.Tree.{slots}
 use Rattle.layout.specs.Pool.{Pool}
 use Rattle.layout.specs.Reading.{Decides}
 use Rattle.scan.specs.Passes.{fillBit, FilledFrom, Filled, NoLoose}
-use Rattle.layout.proofs.PassLaws.{decide-eqb}
 use Rattle.decode.proofs.CoverLaws.{bit-suc}
 use Rattle.scan.proofs.WordLaws.{join-low, join-high, among-clear, clear-among}
 

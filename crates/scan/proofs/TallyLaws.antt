@@ -11,14 +11,13 @@ use lib.Bits.{bitAnd, bitOr, or-lt, or-add-and, and-le-l, and-le-r, and-shr}
 use borrow.Author.Tests.{eqb-true, eqb-false, eq-eqb, ne-eqb, ltb-true, ltb-false}
 use Rattle.blocks.specs.Choice.{pick}
 use Rattle.blocks.specs.Blocks.{bit, countTo, NextBit}
-use Rattle.blocks.proofs.BoolLaws.{byT, clash}
+use Rattle.blocks.proofs.BoolLaws.{byT, clash, decide-eqb}
 use Rattle.blocks.proofs.CountLaws.{count-le, count-none, count-all, count-split, count-zero}
 use Rattle.blocks.proofs.TwoWordLaws.{or-bit, and-odd}
 use Rattle.tree.specs.Tree.{slots}
 use Rattle.layout.specs.Words.{slotPlace, filledOf}
 use Rattle.layout.specs.Pool.{Pool, poolOf}
 use Rattle.layout.specs.Reading.{Decides, Internal, Plain}
-use Rattle.layout.proofs.PassLaws.{decide-eqb}
 use Rattle.scan.specs.Local.{SlotsOk, UsedFrom}
 use Rattle.scan.specs.Passes.{AllMarks, fillBit, Filled, filledTo, Lowest, OddTo, PlainFilled, NoLoose, Stepped, SlotsFilled}
 use Rattle.scan.proofs.PassLaws.{used-of, unused-of}

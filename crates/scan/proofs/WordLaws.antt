@@ -10,12 +10,11 @@ use lib.Arith.{digits-div, mod-mul}
 use lib.Bits.{bitAnd, and-shr, and-lt, and-mask, block-half, block-odd}
 use borrow.Author.Tests.{eqb-true, eqb-false}
 use Rattle.blocks.specs.Blocks.{bit}
-use Rattle.blocks.proofs.BoolLaws.{byT}
+use Rattle.blocks.proofs.BoolLaws.{byT, decide-eqb}
 use Rattle.tree.specs.Tree.{slots}
 use Rattle.decode.proofs.ChainLaws.{bit-lt}
 use Rattle.decode.proofs.CoverLaws.{bit-suc}
 use Rattle.layout.specs.Reading.{Decides}
-use Rattle.layout.proofs.PassLaws.{decide-eqb}
 use Rattle.blocks.proofs.TwoWordLaws.{and-odd}
 
 -- ONE WORD

@@ -20,7 +20,8 @@ use Rattle.freemap.specs.FreeMap.{MapOf, FreeMap}
 use Rattle.freemap.proofs.MapLaws.{map-as}
 use Rattle.plan.specs.Plan.{freePlace}
 use Rattle.plan.proofs.FreeNumbers.{size-is}
-use Rattle.plan.proofs.MapNumbers.{place-is, is-place, places-map}
+use Rattle.blocks.proofs.FreeNumberLaws.{place-is, is-place}
+use Rattle.plan.proofs.MapNumbers.{places-map}
 
 module _ {ws : List ℕ} (s : WellFormed ws) (l′ : List Entry) (enough : needed (s .list) l′ ≤ freeCount (s .places)) where
   abbrev os : Places

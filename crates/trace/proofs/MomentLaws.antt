@@ -12,7 +12,7 @@ use Rattle.blocks.specs.Lists.{All, end, also}
 use Rattle.blocks.proofs.BoolLaws.{byT}
 use Rattle.blocks.proofs.ListLaws.{getD-out}
 use Rattle.model.specs.declared.Entry.{Entry}
-use Rattle.batch.specs.Fits.{Bytes}
+use Rattle.words.specs.Bytes.{Bytes}
 use Rattle.batch.specs.declared.Command.{Command}
 use Rattle.batch.specs.Batch.{Parsed, Parsed.commands, Parsed.refused, parse}
 use Rattle.batch.specs.Reply.{replyBytes}

@@ -16,7 +16,7 @@ use Rattle.batch.specs.declared.Counted.the-variants.{Commands, Refused}
 use Rattle.batch.specs.Batch.{maxBatch, Parsed, Parsed.commands, Parsed.refused, counted, restAt, parse}
 use Rattle.batch.specs.Reply.{replyBytes}
 use Rattle.batch.proofs.ParseLaws.{parse-long, parse-rest, not-refused}
-use Rattle.batch.proofs.WriteLaws.{overwrite-all}
+use Rattle.words.proofs.WriteLaws.{overwrite-all}
 use Rattle.xapool.specs.Calls.{
   Called,
   result,

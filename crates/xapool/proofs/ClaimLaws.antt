@@ -23,7 +23,8 @@ use Rattle.layout.specs.WellFormed.{Prescribed}
 use Rattle.decode.proofs.DecodeLaws.{decode-list}
 use Rattle.decode.proofs.DecideLaws.{sized-is}
 use Rattle.verify.proofs.AnswerLaws.{prescribed-0}
-use Rattle.batch.specs.Fits.{Bytes, Fits}
+use Rattle.batch.specs.Fits.{Fits}
+use Rattle.words.specs.Bytes.{Bytes}
 use Rattle.batch.specs.declared.Command.{Command}
 use Rattle.batch.specs.declared.Command.the-variants.{Store, Reserve}
 use Rattle.batch.specs.Batch.{Parsed, Parsed.commands, Parsed.refused, parse}

@@ -26,7 +26,8 @@ use Rattle.decode.proofs.DecideLaws.{count-of, sized-is, is-sized}
 use Rattle.verify.specs.Answers.{checkAnswer, initAnswer, initWords}
 use Rattle.verify.proofs.AnswerLaws.{prescribed-0, accepted}
 use Rattle.verify.proofs.EmptyLaws.{empty-prescribed}
-use Rattle.batch.specs.Fits.{Bytes, Fits}
+use Rattle.batch.specs.Fits.{Fits}
+use Rattle.words.specs.Bytes.{Bytes}
 use Rattle.batch.specs.declared.Command.{Command}
 use Rattle.batch.specs.Batch.{Parsed, Parsed.commands, Parsed.refused, parse}
 use Rattle.batch.specs.Reply.{replyBytes}

@@ -11,7 +11,7 @@ use Rattle.layout.specs.WellFormed.{WellFormed, Prescribed}
 use Rattle.freemap.specs.FreeMap.{FreeMap}
 use Rattle.decode.proofs.PrescribedWords.{count-is}
 use Rattle.decode.proofs.DecodeLaws.{unique}
-use Rattle.batch.specs.Bytes.{writeFrom, overwrite}
+use Rattle.words.specs.Bytes.{writeFrom, overwrite}
 use Rattle.batch.specs.Fits.{Fits}
 use Rattle.batch.specs.declared.Command.{Command}
 use Rattle.batch.specs.declared.Cursor.{Cursor}
@@ -21,7 +21,7 @@ use Rattle.batch.specs.Batch.{Parsed, Parsed.commands, Parsed.refused, consTo, 
 use Rattle.batch.specs.Reply.{replyBytes, encode}
 use Rattle.batch.proofs.BatchLaws.{read-end, read-no}
 use Rattle.batch.proofs.ParseLaws.{rest-end, rest-bad, rest-next, not-refused}
-use Rattle.batch.proofs.WriteLaws.{overwrite-append}
+use Rattle.words.proofs.WriteLaws.{overwrite-append}
 use Rattle.execute.specs.Execute.{execute}
 use Rattle.execute.specs.State.{State, Kept, next, states}
 use Rattle.execute.specs.Contracts.{stateOf, wordsTo, Executes}

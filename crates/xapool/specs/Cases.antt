@@ -6,15 +6,14 @@ use mathlib.Core.List.{List, [], _∷_, _++_, map}
 use lib.Dec.{eqb}
 use lib.ListN.{length, getD, drop, replicate}
 use Rattle.blocks.specs.Choice.{both}
-use Rattle.blocks.specs.Lists.{upTo}
+use Rattle.blocks.specs.Lists.{upTo, equal}
 use Rattle.model.specs.declared.Entry.{Entry}
 use Rattle.model.specs.Model.{reservedWord, store}
 use Rattle.tree.specs.Tree.{tierOrder, Node, nodes, needed}
 use Rattle.layout.specs.Words.{poolWords, headWord, marksWord, markPlace, slotPlace}
 use Rattle.layout.specs.Decode.{listOf, placesOf}
-use Rattle.layout.specs.Decide.{equal}
 use Rattle.verify.specs.Answers.{initWords}
-use Rattle.batch.specs.Bytes.{bytesThen}
+use Rattle.words.specs.Bytes.{bytesThen}
 use Rattle.batch.specs.declared.Command.{Command}
 use Rattle.batch.specs.declared.Command.the-variants.{Store, Load, Erase, Mark, Unmark, Find, Reserve}
 use Rattle.batch.specs.Reply.{replyBytes, encode, answered}

@@ -16,7 +16,7 @@ use Rattle.layout.specs.Places.{Places, newPlaces}
 use Rattle.layout.specs.WellFormed.{Prescribed}
 use Rattle.layout.specs.Decode.{listOf}
 use Rattle.layout.specs.Decide.{nodeCount}
-use Rattle.batch.specs.Fits.{Bytes}
+use Rattle.words.specs.Bytes.{Bytes}
 use Rattle.batch.specs.declared.Command.{Command}
 use Rattle.batch.specs.declared.Command.the-variants.{Store, Reserve}
 use Rattle.batch.specs.Batch.{Parsed, Parsed.commands, Parsed.refused, parse}

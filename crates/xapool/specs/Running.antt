@@ -6,7 +6,7 @@ use lib.ListN.{length}
 use Rattle.layout.specs.Places.{render}
 use Rattle.layout.specs.WellFormed.{WellFormed}
 use Rattle.freemap.specs.FreeMap.{FreeMap}
-use Rattle.batch.specs.Bytes.{overwrite}
+use Rattle.words.specs.Bytes.{overwrite}
 use Rattle.batch.specs.declared.Command.{Command}
 use Rattle.batch.specs.Batch.{Parsed, Parsed.commands, restAt}
 use Rattle.batch.specs.Reply.{replyBytes, encode}

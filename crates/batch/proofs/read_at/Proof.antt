@@ -4,7 +4,8 @@ use mathlib.Core.Path.{_≡_, sym, ap, _∙_}
 use native.Mathlib.Omega.{arith}
 use lib.ListN.{getD}
 use Rattle.batch.specs.Batch.{fieldBytes, headBytes, commandAt}
-use Rattle.batch.proofs.BatchLaws.{one-byte, read-end, read-bad, read-next, skipped-whole}
+use Rattle.batch.proofs.BatchLaws.{read-end, read-bad, read-next, skipped-whole}
+use Rattle.words.proofs.NumberLaws.{one-byte}
 use Rattle.batch.proofs.ParseLaws.{whole}
 use borrow.Author.Needs.{needs}
 use Rattle.batch.proofs.read_at.Statement.{statement}

@@ -1,5 +1,5 @@
 -- `write_reply`: the 24 bytes of a reply, from a place on.
-use Rattle.batch.proofs.WriteLaws.{reply-written}
+use Rattle.batch.proofs.ReplyLaws.{reply-written}
 use borrow.Author.Needs.{needs}
 use Rattle.batch.proofs.write_reply.Statement.{statement}
 use Rattle.batch.proofs.write_reply.Tie as tie

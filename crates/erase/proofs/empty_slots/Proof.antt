@@ -4,7 +4,7 @@ use mathlib.Core.Path.{_≡_, ap, sym, _∙_}
 use mathlib.Core.List.{List}
 use native.Mathlib.Omega.{arith}
 use lib.ListN.{set}
-use Rattle.layout.specs.Fill.{filled}
+use Rattle.words.specs.Fill.{filled}
 use borrow.Author.Needs.{needs}
 use Rattle.erase.proofs.empty_slots.Statement.{statement}
 use Rattle.erase.proofs.empty_slots.Tie as tie

@@ -6,7 +6,7 @@ use lib.Dec.{eqb}
 use lib.ListN.{getD}
 use Rattle.layout.specs.Words.{place}
 use Rattle.layout.specs.Reading.{Decides, Blank}
-use Rattle.layout.proofs.PassLaws.{Ored, ored-start, ored-next, ored-decides}
+use Rattle.words.proofs.OrLaws.{Ored, ored-start, ored-next, ored-decides}
 use Rattle.layout.proofs.blank.Statement.{statement}
 use Rattle.layout.proofs.blank.Tie as tie
 

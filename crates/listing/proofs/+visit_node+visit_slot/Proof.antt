@@ -45,7 +45,7 @@ use Rattle.listing.proofs.visit_slot.Reads as visit-slot
 use Rattle.listing.proofs.visit_slot.Kinds as visit-slot-kinds
 use Rattle.listing.proofs.+visit_node+visit_slot.Lts-visit_slot as visit-slot-lts
 use Rattle.layout.proofs.block_of.Reads as block-of-reads
-use Rattle.layout.proofs.pow2.Reads as pow2-reads
+use Rattle.words.proofs.pow2.Reads as pow2-reads
 use Rattle.listing.proofs.offer.Reads as offer-reads
 use Rattle.lookup.proofs.entry_at.Reads as entry-at-reads
 use Rattle.lookup.proofs.look.Reads as look-reads

@@ -5,7 +5,7 @@ use Prim.Native.Nat.{ℕ}
 use mathlib.Core.List.{List}
 use lib.ListN.{length, set}
 use borrow.Author.Needs.{needs}
-use Rattle.layout.proofs.FillLaws.{length-filled}
+use Rattle.words.proofs.FillLaws.{length-filled}
 use Rattle.verify.proofs.EmptyLaws.{init-done, init-refused}
 use Rattle.verify.proofs.init.Statement.{statement}
 use Rattle.verify.proofs.init.Tie as tie

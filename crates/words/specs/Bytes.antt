@@ -1,7 +1,11 @@
 -- Numbers as bytes, the highest first (R42).
-use Prim.Native.Nat.{ℕ, zero, suc, _+_, _*_, _/_, _%_, _^_}
+use Prim.Native.Nat.{ℕ, zero, suc, _+_, _*_, _/_, _%_, _^_, _<_}
 use mathlib.Core.List.{List, [], _∷_}
 use lib.ListN.{getD, set}
+
+-- every element is a byte
+pub record Bytes (s : List ℕ) : Type 0 where
+  pub small : (i : ℕ) → getD s i 0 < 256
 
 -- the number in the n bytes from a place on
 abbrev pub numberAt : List ℕ → ℕ → ℕ → ℕ

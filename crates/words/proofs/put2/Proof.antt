@@ -2,10 +2,10 @@
 use mathlib.Core.Path.{refl}
 use native.Mathlib.Omega.{arith}
 use lib.ListN.{length-set}
-use Rattle.batch.specs.Bytes.{writeFrom}
+use Rattle.words.specs.Bytes.{writeFrom}
 use borrow.Author.Needs.{needs}
-use Rattle.batch.proofs.put2.Statement.{statement}
-use Rattle.batch.proofs.put2.Tie as tie
+use Rattle.words.proofs.put2.Statement.{statement}
+use Rattle.words.proofs.put2.Tie as tie
 
 cast-out : tie.Need-cast-out
 cast-out c = search needs

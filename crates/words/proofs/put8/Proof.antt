@@ -2,10 +2,10 @@
 use mathlib.Core.Path.{refl}
 use native.Mathlib.Omega.{arith}
 use lib.ListN.{length-set}
-use Rattle.batch.specs.Bytes.{writeFrom}
+use Rattle.words.specs.Bytes.{writeFrom}
 use borrow.Author.Needs.{needs}
-use Rattle.batch.proofs.put8.Statement.{statement}
-use Rattle.batch.proofs.put8.Tie as tie
+use Rattle.words.proofs.put8.Statement.{statement}
+use Rattle.words.proofs.put8.Tie as tie
 
 returns : tie.Need-returns
 returns c = absurd (omega arith)

@@ -4,36 +4,36 @@ use mathlib.Core.Path.{_≡_, refl}
 use native.Mathlib.Omega.{arith}
 use native.Mathlib.Numerals.{add-one}
 use lib.ListN.{length, set, length-set}
-use Rattle.layout.specs.Fill.{filled}
+use Rattle.words.specs.Fill.{filled}
 use mathlib.Core.List.{List}
-use Rattle.layout.proofs.fill.Statement.{statement}
-use Rattle.layout.proofs.fill.Tie as tie
+use Rattle.words.proofs.fill.Statement.{statement}
+use Rattle.words.proofs.fill.Tie as tie
 
-step : (ws pool : List ℕ) (a x t : ℕ) → pool ≡ filled ws a x t → set pool (a + t) x ≡ filled ws a x (suc t)
+step : (ws s : List ℕ) (a x t : ℕ) → s ≡ filled ws a x t → set s (a + t) x ≡ filled ws a x (suc t)
 unfolding filled
-step ws pool a x t e = rw e
+step ws s a x t e = rw e
 
 start : (ws : List ℕ) (a x : ℕ) → ws ≡ filled ws a x 0
 unfolding filled
 start ws a x = refl
 
 abbrev Inv-loop : tie.InvT-loop
-Inv-loop pool₀ a x n t₀ pool t = (t ≤ n) × (length pool ≡ length pool₀) × (pool ≡ filled pool₀ a x t)
+Inv-loop s₀ a x n t₀ s t = (t ≤ n) × (length s ≡ length s₀) × (s ≡ filled s₀ a x t)
 
 abbrev μ-loop : tie.MeasureT-loop
-μ-loop pool₀ a x n t₀ pool t = n - t
+μ-loop s₀ a x n t₀ s t = n - t
 
 loop-holds : tie.Need-loop-holds Inv-loop μ-loop
-loop-holds c = (omega arith, refl, start (c .args .pool .now) (c .args .a) (c .args .x))
+loop-holds c = (omega arith, refl, start (c .args .s .now) (c .args .a) (c .args .x))
 
-add-pool : tie.Need-add-pool Inv-loop μ-loop
-add-pool c = omega arith
+add-s : tie.Need-add-s Inv-loop μ-loop
+add-s c = omega arith
 
-mul-pool : tie.Need-mul-pool Inv-loop μ-loop
-mul-pool c = omega arith
+mul-s : tie.Need-mul-s Inv-loop μ-loop
+mul-s c = omega arith
 
-slice-write-pool : tie.Need-slice-write-pool Inv-loop μ-loop
-slice-write-pool c = omega arith
+slice-write-s : tie.Need-slice-write-s Inv-loop μ-loop
+slice-write-s c = omega arith
 
 add-t : tie.Need-add-t Inv-loop μ-loop
 add-t c = omega arith
@@ -57,9 +57,9 @@ fill-spec =
     Inv-loop
     μ-loop
     loop-holds
-    add-pool
-    mul-pool
-    slice-write-pool
+    add-s
+    mul-s
+    slice-write-s
     add-t
     loop-less
     loop-again

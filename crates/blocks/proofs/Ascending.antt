@@ -7,10 +7,10 @@ use native.Mathlib.Omega.{arith}
 use native.Mathlib.Nat.{le-refl, le-trans}
 use lib.Dec.{ltb, eqb}
 use borrow.Author.Tests.{eqb-true, eqb-false, ltb-true, ltb-false, eq-eqb, ne-eqb}
 use Rattle.blocks.specs.Choice.{both, either}
 use Rattle.blocks.specs.Lists.{any, without}
 use Rattle.blocks.proofs.BoolLaws.{clash, byT, both-no, either-swap, either-same}
-use Rattle.tree.specs.Tiers.{add, addIf}
+use Rattle.blocks.specs.Tiers.{add, addIf}
 
 -- STRICTLY ASCENDING LISTS, equal if they have the same members
 pub data Asc : ℕ → List ℕ → Type 0 where

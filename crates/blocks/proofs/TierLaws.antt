@@ -8,14 +8,14 @@ use native.Mathlib.Omega.{arith}
 use native.Mathlib.Nat.{mul-suc, div-div-eq-div-mul, le-refl}
 use lib.Dec.{eqb}
 use borrow.Author.Tests.{eqb-true, eqb-false, eq-eqb}
 use Rattle.blocks.specs.Choice.{both, either}
 use Rattle.blocks.specs.Lists.{any, All, In, here, there, Distinct, d-end, d-more}
 use Rattle.blocks.specs.Blocks.{block}
 use Rattle.blocks.proofs.BoolLaws.{clash, byT, both-l, both-r, either-e, either-yes}
 use Rattle.blocks.proofs.ListLaws.{any-more, look, each, in-left, in-right, in-append}
 use Rattle.blocks.proofs.BlockLaws.{pow-add, block-up}
-use Rattle.tree.specs.Tiers.{blocksOf, Node, at, nodesFrom}
-use Rattle.tree.proofs.Ascending.{Asc, asc-end, asc-more, asc-addIf, mem, mem-addIf, mem-low}
+use Rattle.blocks.specs.Tiers.{blocksOf, Node, at, nodesFrom}
+use Rattle.blocks.proofs.Ascending.{Asc, asc-end, asc-more, asc-addIf, mem, mem-addIf, mem-low}
 
 -- the block above
 pub tier-up : (bits u x : ℕ) → block (bits * suc u) x ≡ block (bits * u) x / 2 ^ bits

@@ -1,10 +1,10 @@
 -- `put1`: one byte at its place.
 use mathlib.Core.Path.{refl}
 use lib.ListN.{length-set}
-use Rattle.batch.specs.Bytes.{writeFrom}
+use Rattle.words.specs.Bytes.{writeFrom}
 use borrow.Author.Needs.{needs}
-use Rattle.batch.proofs.put1.Statement.{statement}
-use Rattle.batch.proofs.put1.Tie as tie
+use Rattle.words.proofs.put1.Statement.{statement}
+use Rattle.words.proofs.put1.Tie as tie
 
 cast-out : tie.Need-cast-out
 cast-out c = search needs

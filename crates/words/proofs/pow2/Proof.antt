@@ -2,8 +2,8 @@
 use borrow.Author.Needs.{needs}
 use lib.Pow.{pow-lt}
 use native.Mathlib.Nat.{mod-eq-of-lt, one-mul}
-use Rattle.layout.proofs.pow2.Statement.{statement}
-use Rattle.layout.proofs.pow2.Tie as tie
+use Rattle.words.proofs.pow2.Statement.{statement}
+use Rattle.words.proofs.pow2.Tie as tie
 
 shl-result : tie.Need-shl-result
 shl-result c = search needs
