@@ -12,3 +12,4 @@ pub mod TwoWordLaws
 pub mod Ascending
 pub mod TierLaws
 pub mod FreeNumberLaws
+pub mod RecordLaws

@@ -4,3 +4,4 @@ pub mod Blocks
 pub mod Placing
 pub mod Tiers
 pub mod Deciding
+pub mod Records

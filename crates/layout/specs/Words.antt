@@ -22,7 +22,7 @@ nodeWords = 70
 abbrev pub maxNodes : ℕ
 maxNodes = 16384
 
--- the words of a pool of n nodes, which is also where node n begins
+-- the words of a pool of n nodes, which is also where node n begins; words in records: blocks/specs/Records
 abbrev pub poolWords : ℕ → ℕ
 poolWords n = anchorWords + nodeWords * n
 
