@@ -21,7 +21,7 @@ use Rattle.tree.proofs.NodeListLaws.{has-in, has-within}
 use Rattle.layout.proofs.OwnerLaws.{head-node}
 use Rattle.lookup.specs.Load.{depthTo, depth}
 use Rattle.lookup.specs.Views.{AtNode}
-use Rattle.plan.proofs.AfterStore.{lows, path-zero}
+use Rattle.plan.proofs.AfterStoreLaws.{lows, path-zero}
 use Rattle.store.specs.Stored.{Reached}
 
 -- no node over the index at a tier that counts none

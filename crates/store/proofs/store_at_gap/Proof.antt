@@ -1,4 +1,4 @@
--- The slots alone by the laws of AtGap, or one of the other ways.
+-- The slots alone by GapLaws, or one of the other ways.
 use Prim.Native.Nat.{ℕ, _+_, _/_, _<_}
 use mathlib.Core.Path.{_≡_, ap, subst, _∙_}
 use native.Mathlib.Omega.{arith}
@@ -9,9 +9,9 @@ use Rattle.layout.specs.Words.{lastPlace, slotPlace}
 use Rattle.lookup.proofs.WordLaws.{node-at, node-fits}
 use Rattle.write.specs.declared.Seat.{Seat}
 use Rattle.write.specs.Writes.{settled}
-use Rattle.store.proofs.FilledWords.{filled-bound}
+use Rattle.store.proofs.FilledWordLaws.{filled-bound}
 use Rattle.store.proofs.ReachLaws.{reached-gap}
-use Rattle.store.proofs.AtGap.{slots-done, slots-map}
+use Rattle.store.proofs.GapLaws.{slots-done, slots-map}
 use borrow.Author.Needs.{needs}
 use Rattle.store.proofs.store_at_gap.Statement.{statement}
 use Rattle.store.proofs.store_at_gap.Tie as tie

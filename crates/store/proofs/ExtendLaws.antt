@@ -29,12 +29,12 @@ use Rattle.layout.specs.WellFormed.{WellFormed}
 use Rattle.layout.proofs.RenderWordLaws.{pool-length}
 use Rattle.lookup.proofs.StepLaws.{in-nonempty}
 use Rattle.freemap.specs.FreeMap.{FreeMap}
-use Rattle.plan.proofs.AfterStore.{lows, path-zero, has-path, zero-apart, has-zero}
-use Rattle.plan.proofs.Reading.{head-zero}
+use Rattle.plan.proofs.AfterStoreLaws.{lows, path-zero, has-path, zero-apart, has-zero}
+use Rattle.plan.proofs.WalkLaws.{head-zero}
 use Rattle.write.specs.Writes.{span, offset, linked, entered, ones, pathCounts, grownCounts, extended}
 use Rattle.store.specs.Stored.{Ready, Stores, Done, entryOf}
-use Rattle.store.proofs.SlotCounts.{filledAt, empty-count, zero-count}
-use Rattle.store.proofs.FinalWords.{
+use Rattle.store.proofs.SlotCountLaws.{filledAt, empty-count, zero-count}
+use Rattle.store.proofs.FinalWordLaws.{
   Long,
   Right,
   Counts,
@@ -46,11 +46,11 @@ use Rattle.store.proofs.FinalWords.{
   path-counts,
   path-makes,
 }
-use Rattle.store.proofs.Target.{X, num-lt}
-use Rattle.store.proofs.PathWords.{v-lt}
-use Rattle.store.proofs.FilledWords.{enterable-some, path-more, path-one, entry-one, entry-more, chain-one, all-filled}
-use Rattle.store.proofs.GivingWay.{path-lt, chain-lt, some-node′, head-is, marks-is, some-is}
-use Rattle.store.proofs.EmptyRange.{was-free, freed, map-left, stores-unmarked, path-chain-entry}
+use Rattle.store.proofs.NewWordLaws.{X, num-lt}
+use Rattle.store.proofs.PathWordLaws.{v-lt}
+use Rattle.store.proofs.FilledWordLaws.{enterable-some, path-more, path-one, entry-one, entry-more, chain-one, all-filled}
+use Rattle.store.proofs.RebuildLaws.{path-lt, chain-lt, some-node′, head-is, marks-is, some-is}
+use Rattle.store.proofs.EmptyRangeLaws.{was-free, freed, map-left, stores-unmarked, path-chain-entry}
 
 -- the chain is made if there is an old tree
 chained-if : (b e z : Bool) (x y v : List ℕ) → both b (either e (not z)) ≡ true →

@@ -52,12 +52,12 @@ use Rattle.lookup.specs.Views.{AtNode}
 use Rattle.lookup.proofs.WordLaws.{slot-at}
 use Rattle.freemap.specs.FreeMap.{MapOf, FreeMap}
 use Rattle.plan.specs.Plan.{Plan, Drawn, Walked, before, freeAt, leftFree}
-use Rattle.plan.proofs.AfterStore.{lows, tops, has-path}
+use Rattle.plan.proofs.AfterStoreLaws.{lows, tops, has-path}
 use Rattle.plan.proofs.MapNumbers.{map-places, left-new, drawn-none}
 use Rattle.plan.proofs.FreshNumbers.{Tiers, tiers-same, needed-is, path-number}
 use Rattle.write.specs.Writes.{span, offset, joins, headAt, linked, entered, pathCounts, settled, Laid, built}
 use Rattle.store.specs.Stored.{AtGap, Stores, Done, Short, entryOf}
-use Rattle.store.proofs.FinalWords.{
+use Rattle.store.proofs.FinalWordLaws.{
   Long,
   Right,
   EdgeAt,
@@ -71,11 +71,11 @@ use Rattle.store.proofs.FinalWords.{
   joins-keeps,
   joins-stay,
 }
-use Rattle.store.proofs.Target.{field₁, field₁-shift, field₁-owner, field₁-slot, X, X-anchor, X-node, num-lt, edge-of}
-use Rattle.store.proofs.PathWords.{shift-ok, owner-ok, head-ok}
+use Rattle.store.proofs.NewWordLaws.{field₁, field₁-shift, field₁-owner, field₁-slot, X, X-anchor, X-node, num-lt, edge-of}
+use Rattle.store.proofs.PathWordLaws.{shift-ok, owner-ok, head-ok}
 use Rattle.write.proofs.RunLaws.{run-fits, run-slot}
-use Rattle.store.proofs.SlotCounts.{filledAt}
-use Rattle.store.proofs.FilledWords.{
+use Rattle.store.proofs.SlotCountLaws.{filledAt}
+use Rattle.store.proofs.FilledWordLaws.{
   enterable-some,
   path-more,
   path-one,
@@ -85,7 +85,7 @@ use Rattle.store.proofs.FilledWords.{
   path-stays,
   all-filled,
 }
-use Rattle.store.proofs.EmptyRange.{has-keeps, was-free, freed, map-left, stores-unmarked, path-chain-entry}
+use Rattle.store.proofs.EmptyRangeLaws.{has-keeps, was-free, freed, map-left, stores-unmarked, path-chain-entry}
 use Rattle.tree.proofs.NodeListLaws.{has-le, has-within, has-in}
 
 -- how many of the e widest tiers have a new node, where those from v + 1 to u do

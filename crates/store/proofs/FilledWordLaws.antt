@@ -27,9 +27,9 @@ use Rattle.layout.specs.WellFormed.{WellFormed, num}
 use Rattle.layout.proofs.FieldLaws.{field-filled}
 use Rattle.layout.proofs.RenderWordLaws.{pool-node}
 use Rattle.plan.specs.Plan.{Plan}
-use Rattle.plan.proofs.AfterStore.{has-path, new-lies, fresh-node, zero-apart, has-zero}
+use Rattle.plan.proofs.AfterStoreLaws.{has-path, new-lies, fresh-node, zero-apart, has-zero}
 use Rattle.write.specs.Writes.{span, offset}
-use Rattle.store.proofs.SlotCounts.{
+use Rattle.store.proofs.SlotCountLaws.{
   filledAt,
   filled-at,
   filled-any,
@@ -44,10 +44,10 @@ use Rattle.store.proofs.SlotCounts.{
   run-none,
   zero-count,
 }
-use Rattle.store.proofs.FinalWords.{Right, Counts}
-use Rattle.store.proofs.Freeing.{Freed}
-use Rattle.store.proofs.Target.{field₁-filled, X, X-node}
-use Rattle.store.proofs.PathWords.{start-old}
+use Rattle.store.proofs.FinalWordLaws.{Right, Counts}
+use Rattle.store.proofs.FreeingLaws.{Freed}
+use Rattle.store.proofs.NewWordLaws.{field₁-filled, X, X-node}
+use Rattle.store.proofs.PathWordLaws.{start-old}
 
 -- an entry's word is not 0
 pub enterable-some : (k w : ℕ) → T (enterable k w) → w ≡ 0 → ⊥

@@ -32,14 +32,14 @@ use Rattle.layout.proofs.RenderLaws.{render-is}
 use Rattle.freemap.specs.FreeMap.{MapOf, FreeMap}
 use Rattle.freemap.proofs.MapLaws.{map-as}
 use Rattle.plan.specs.Plan.{Plan, freePlace}
-use Rattle.plan.proofs.AfterStore.{Lies, lies, on-path, in-run, off, rooms, tops, has-path, stays}
+use Rattle.plan.proofs.AfterStoreLaws.{Lies, lies, on-path, in-run, off, rooms, tops, has-path, stays}
 use Rattle.write.specs.Writes.{span, offset, linked, entered}
 use Rattle.store.specs.Stored.{Stores, Done, entryOf}
-use Rattle.store.proofs.MapAfter.{map-after}
-use Rattle.store.proofs.FinalWords.{Right, Counts}
-use Rattle.store.proofs.Freeing.{Freed, freed-none}
-use Rattle.store.proofs.Target.{field₁, field₁-as, fieldAt₁, X, X-anchor, X-at}
-use Rattle.store.proofs.PathWords.{grownWords, enter-long, grow-long, link-long, lg₁, anchor-right, node-right}
+use Rattle.store.proofs.MapAfterLaws.{map-after}
+use Rattle.store.proofs.FinalWordLaws.{Right, Counts}
+use Rattle.store.proofs.FreeingLaws.{Freed, freed-none}
+use Rattle.store.proofs.NewWordLaws.{field₁, field₁-as, fieldAt₁, X, X-anchor, X-at}
+use Rattle.store.proofs.PathWordLaws.{grownWords, enter-long, grow-long, link-long, lg₁, anchor-right, node-right}
 use Rattle.tree.proofs.NodeListLaws.{has-le, has-within}
 
 -- THE TREE

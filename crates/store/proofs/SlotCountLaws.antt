@@ -30,8 +30,8 @@ use Rattle.layout.specs.Words.{filledOf}
 use Rattle.layout.proofs.FieldLaws.{filled-same}
 use Rattle.layout.proofs.FreshLaws.{apart-slot, none-over}
 use Rattle.layout.proofs.RenderWordLaws.{slot-node}
-use Rattle.plan.proofs.AfterStore.{Lies, lies, on-path, in-run, off, rooms, lows, whole-top, apart-zero}
-use Rattle.plan.proofs.Reading.{head-zero}
+use Rattle.plan.proofs.AfterStoreLaws.{Lies, lies, on-path, in-run, off, rooms, lows, whole-top, apart-zero}
+use Rattle.plan.proofs.WalkLaws.{head-zero}
 use Rattle.write.specs.Writes.{span, offset}
 use Rattle.write.proofs.RunLaws.{run-fits, slot-in-run, run-slot, entry-word, sibling-word}
 
