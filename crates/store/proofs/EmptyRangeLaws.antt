@@ -1,6 +1,6 @@
 -- A store where nothing starts in the target range: no node goes, no mark changes, and the path, the chain and the entry
 -- are all that is written.
-use Prim.Native.Nat.{ℕ, suc, _+_, _*_, _-_, _/_, _^_, _≤_, _<_}
+use Prim.Native.Nat.{ℕ, _+_, _*_, _-_, _/_, _^_, _<_}
 use mathlib.Core.Path.{_≡_, refl, sym, ap, subst, _∙_}
 use mathlib.Core.Bool.{true, false, not}
 use mathlib.Core.List.{List}
@@ -16,35 +16,34 @@ use Rattle.blocks.proofs.BoolLaws.{clash, both-l, both-no, either-no}
 use Rattle.blocks.proofs.ListLaws.{All-map, any-none, any-in, any-keep-both, look}
 use Rattle.blocks.proofs.BitLaws.{bits-same}
 use Rattle.model.specs.declared.Entry.{Entry}
-use Rattle.model.specs.Model.{Valid, enterable, over, starts, within, hasMark, marksOf}
+use Rattle.model.specs.Model.{enterable, starts, within, hasMark, marksOf}
 use Rattle.model.specs.ByBlock.{inside, newEntry, storeNew}
 use Rattle.model.proofs.RangeLaws.{Inside}
-use Rattle.model.proofs.ValidLaws.{store-at-valid}
-use Rattle.tree.specs.Tree.{slots, tierOrder, height, has, Node, newNodes, needed, slotMark, slotBits}
+use Rattle.tree.specs.Tree.{slots, tierOrder, height, has, Node, newNodes, slotMark, slotBits}
 use Rattle.tree.specs.Slots.{Numbering, slot}
 use Rattle.tree.proofs.StoreLaws.{within-only, store-covering, mark-apart, mark-path, mark-inside}
-use Rattle.layout.specs.Words.{field, fieldAt, filledPlace, IsField}
-use Rattle.layout.specs.Places.{Places, numberIn, freeCount, keepIf, allocate, newPlaces, render}
+use Rattle.layout.specs.Words.{field, fieldAt, IsField}
+use Rattle.layout.specs.Places.{Places, numberIn, keepIf, allocate, newPlaces, render}
 use Rattle.layout.specs.WellFormed.{WellFormed}
 use Rattle.layout.proofs.NewNumberLaws.{number-none}
 use Rattle.layout.proofs.NumberLaws.{in-standing}
 use Rattle.layout.proofs.RenderLaws.{render-is}
 use Rattle.freemap.specs.FreeMap.{MapOf, FreeMap}
 use Rattle.freemap.proofs.MapLaws.{map-as}
-use Rattle.plan.specs.Plan.{Plan, freePlace}
-use Rattle.plan.proofs.AfterStoreLaws.{Lies, lies, on-path, in-run, off, rooms, tops, has-path, stays}
+use Rattle.plan.specs.Plan.{freePlace, NewStore}
+use Rattle.plan.proofs.AfterStoreLaws.{Lies, lies, on-path, in-run, off, rooms, tops, has-path, stays, new-valid}
 use Rattle.write.specs.Writes.{span, offset, linked, entered}
 use Rattle.store.specs.Stored.{Stores, Done, entryOf}
 use Rattle.store.proofs.MapAfterLaws.{map-after}
-use Rattle.store.proofs.FinalWordLaws.{Right, Counts}
 use Rattle.store.proofs.FreeingLaws.{Freed, freed-none}
-use Rattle.store.proofs.NewWordLaws.{field₁, field₁-as, fieldAt₁, X, X-anchor, X-at}
-use Rattle.store.proofs.PathWordLaws.{grownWords, enter-long, grow-long, link-long, lg₁, anchor-right, node-right}
+use Rattle.store.proofs.NewWordLaws.{field₁, field₁-as, fieldAt₁, X-anchor, X-at, Enough, FilledCounts}
+use Rattle.store.proofs.PathWordLaws.{grownWords, enter-long, grow-long, link-long, lg₁, anchor-right, node-right, Numbered}
 use Rattle.tree.proofs.NodeListLaws.{has-le, has-within}
+use Rattle.store.proofs.FreedLaws.{Clear}
 
 -- THE TREE
-module _ (l : List Entry) (valid : Valid l) (i k w : ℕ) (i< : i < 2 ^ 64) (k≤ : k ≤ 63)
-    (new : any (over i k) l ≡ false) (none-start : All (λ x. block k (x .base) ≡ block k i → ⊥) l) where
+module _ {l : List Entry} {i k w : ℕ} (new : NewStore l i k w)
+    (none-start : All (λ x. block k (x .base) ≡ block k i → ⊥) l) where
   abbrev l′ : List Entry
   l′ = storeNew l i k w
 
@@ -76,17 +75,16 @@ module _ (l : List Entry) (valid : Valid l) (i k w : ℕ) (i< : i < 2 ^ 64) (k�
   has-keeps t b h = go (lies i k t b)
     where
       go : Lies i k t b → has l′ t b ≡ true
-      go (on-path g e) = rw e (has-path l valid i k w i< k≤ new t g
-          (omega (arith, has-le l t b h, tops l valid i k w i< k≤ new)))
+      go (on-path g e) = rw e (has-path new t g
+          (omega (arith, has-le l t b h, tops new)))
       go (in-run g n) = let (x, m, e) = any-in (within (tierOrder t) b) l (has-within l t b h) in
           absurd (look none-start m (n (x .base) (within-only (tierOrder t) b x e)))
-      go (off n) = stays l valid i k w i< k≤ new t b h n
+      go (off n) = stays new t b h n
 
 -- THE WORDS
-module _ {ws : List ℕ} (s : WellFormed ws) (i k w : ℕ) (i< : i < 2 ^ 64) (k≤ : k ≤ 63)
-    (new : any (over i k) (s .list) ≡ false)
+module _ {ws : List ℕ} (s : WellFormed ws) {i k w : ℕ} (new : NewStore (s .list) i k w)
     (none-start : All (λ x. block k (x .base) ≡ block k i → ⊥) (s .list))
-    (enough : needed (s .list) (storeNew (s .list) i k w) ≤ freeCount (s .places)) where
+    (enough : Enough (s .n) (s .list) (s .places) (storeNew (s .list) i k w)) where
   abbrev l : List Entry
   l = s .list
 
@@ -103,22 +101,22 @@ module _ {ws : List ℕ} (s : WellFormed ws) (i k w : ℕ) (i< : i < 2 ^ 64) (k�
   os₁ = newPlaces l l₁ os
 
   -- a place that is free after was free before
-  pub was-free : (m : ℕ) → getD os₁ m none ≡ none → getD os m none ≡ none
-  was-free m e = go (getD os m none) refl (number-none (s .n) l os (s .placed) l₁ enough m e)
+  was-free : (m : ℕ) → getD os₁ m none ≡ none → getD os m none ≡ none
+  was-free m e = go (getD os m none) refl (number-none (s .n) l os (s .placed) l₁ (enough .free) m e)
     where
       go : (o : Option Node) → getD os m none ≡ o → keepIf l₁ o ≡ none → o ≡ none
       go none d q = refl
       go (some p) d q =
           let t : has l₁ (p .tier) (p .number) ≡ true =
-          has-keeps l (s .valid) i k w i< k≤ new none-start (p .tier) (p .number)
+          has-keeps new none-start (p .tier) (p .number)
           (s .placed .sound p (in-standing p os m d)) in
           let z : _≡_ {A = ℕ} 0 1 = cc (sym (rw t at q)) in absurd (omega arith)
 
   -- no node is freed: the map has what was left of it
   pub map-left : T (enterable k w) → w < 2 ^ 64 → {ws′ ms : List ℕ} → ws′ ≡ render l₁ os₁ (s .n) →
       MapOf (freePlace os₀) ms → FreeMap ws′ ms
-  map-left st w< e M = map-after s l₁ enough (λ m. false) (λ m t. absurd (clash t refl)) (λ m _ d _. was-free m d)
-      (store-at-valid i k w l (s .valid) new i< k≤ st w<) e (map-as M (λ m. either (freePlace os₀ m) false)
+  map-left st w< e M = map-after s l₁ (enough .free) (λ m. false) (λ m t. absurd (clash t refl)) (λ m _ d _. was-free m d)
+      (new-valid new st w<) e (map-as M (λ m. either (freePlace os₀ m) false)
       (λ m _. sym (either-no (freePlace os₀ m))))
 
   pub stores-unmarked : {ws′ : List ℕ} {e : Entry} → e ≡ entryOf i k w 0 → ws′ ≡ render l₁ os₁ (s .n) →
@@ -126,47 +124,59 @@ module _ {ws : List ℕ} (s : WellFormed ws) (i k w : ℕ) (i< : i < 2 ^ 64) (k�
   stores-unmarked q e = record {
     done = λ _. record {
       entry = newEntry l i k w;
-      covering-is = store-covering i k w l (rooms l (s .valid) i k w i< k≤ new) i refl;
-      outcome-is = ap Done (q ∙ ap (entryOf i k w) (sym (marks-zero l (s .valid) i k w i< k≤ new none-start)));
+      covering-is = store-covering i k w l (rooms new) i refl;
+      outcome-is = ap Done (q ∙ ap (entryOf i k w) (sym (marks-zero new none-start)));
       words-are = e;
     };
-    short = λ z. absurd (omega arith);
+    short = λ z. absurd (omega (arith, enough .free));
   }
 
-  module _ (some-node : 1 ≤ height l₁) (ps cs : List ℕ) (plan : Plan l i k w (numberIn os₁) ps cs) where
-    abbrev ν₁ : Numbering
-    ν₁ = numberIn os₁
-
-    pub freed : Freed (s .n) (λ m. false) (render l os (s .n)) ws
+  -- nothing is freed
+  pub none-cleared : Clear (s .n) l os l₁ ws
+  none-cleared = record {
+    q = λ m. false;
     freed = subst (λ (y : List ℕ). Freed (s .n) (λ m. false) (render l os (s .n)) y) (sym (s .words-are))
-        (freed-none (s .n) (render l os (s .n)))
+        (freed-none (s .n) (render l os (s .n)));
+    stay = λ u b t. refl;
+    gone = λ m a e q. was-free m e;
+  }
 
-    -- the marks of the old list are those of the new
-    field-same : (t b f : ℕ) → IsField f → field₁ l l₁ ν₁ t b f ≡ field l₁ ν₁ t b f
-    field-same t b = field₁-as l l₁ ν₁ t b (λ x h. bits-same (λ j. slotMark l x (t - 1) (slots * b + j))
-        (λ j. slotMark l₁ x (t - 1) (slots * b + j)) slots
-        (λ j g. mark-same l (s .valid) i k w i< k≤ new none-start x (t - 1) (slots * b + j) h))
+-- ws₁ has the filled counts too
+module _ {ws ws₁ : List ℕ} (s : WellFormed ws) {i k w : ℕ} {ps cs : List ℕ}
+    (plan : Numbered (s .n) (s .list) (s .places) i k w ps cs)
+    (none-start : All (λ x. block k (x .base) ≡ block k i → ⊥) (s .list))
+    (counted : FilledCounts (plan .enough) ws ws₁) where
+  abbrev L : List Entry
+  L = s .list
 
-    -- ws₁ has the filled counts too
-    module _ (ws₁ : List ℕ) (counts : Counts (s .n) (X (s .n) l os (s .placed) l₁ enough) ws ws₁)
-        (filled-right : (u b : ℕ) → has l₁ (suc u) b ≡ true →
-        Right (s .n) (X (s .n) l os (s .placed) l₁ enough) (filledPlace (ν₁ (suc u) b)) ws₁) where
-      pub path-chain-entry : entered (grownWords (linked ws₁ ps i (k / slotBits) (height l₁)) ps cs (marksOf l) (height l)
-          (height l₁) (slot l (numberIn os) (height l) 0) (both (nonempty l) (not (eqb (block k i) 0))))
-          (getD ps (k / slotBits + 1) 0) (offset i k) (span k) w ≡ render l₁ os₁ (s .n)
-      unfolding fieldAt₁
-      path-chain-entry = render-is l₁ os₁ (s .n) _
-          (enter-long (s .n) l os (s .placed) (s .valid) i k w i< k≤ new enough some-node ps cs plan
-          (grow-long (s .n) l os (s .placed) (s .valid) i k w i< k≤ new enough some-node ps cs plan
-          (link-long (s .n) l os (s .placed) (s .valid) i k w i< k≤ new enough some-node ps cs plan
-          (lg₁ (s .n) l os (s .placed) (s .valid) i k w i< k≤ new enough some-node ps cs plan ws (λ m. false) freed
-          (λ u b t. refl) (λ m a e q. was-free m e) ws₁ counts filled-right))) .len)
-          (λ p h. anchor-right (s .n) l os (s .placed) (s .valid) i k w i< k≤ new enough some-node ps cs plan ws (λ m. false)
-          freed (λ u b t. refl) (λ m a e q. was-free m e) ws₁ counts filled-right p h .is ∙ X-anchor (s .n) l os (s .placed) l₁ enough p h)
-          (λ m f a h. node-right (s .n) l os (s .placed) (s .valid) i k w i< k≤ new enough some-node ps cs plan ws
-          (λ m. false) freed (λ u b t. refl) (λ m a e q. was-free m e) ws₁ counts filled-right m f a h .is ∙
-          (X-at (s .n) l os (s .placed) l₁ enough m f h ∙ go f h (getD os₁ m none)))
-        where
-          go : (f : ℕ) → IsField f → (o : Option Node) → fieldAt₁ l l₁ ν₁ o f ≡ fieldAt l₁ ν₁ o f
-          go f h none = refl
-          go f h (some p) = field-same (p .tier) (p .number) f h
+  abbrev L₁ : List Entry
+  L₁ = storeNew L i k w
+
+  abbrev N₁ : Places
+  N₁ = newPlaces L L₁ (s .places)
+
+  abbrev ν₁ : Numbering
+  ν₁ = numberIn N₁
+
+  clear : Clear (s .n) L (s .places) L₁ ws
+  clear = none-cleared s (plan .new) none-start (plan .enough)
+
+  -- the marks of the old list are those of the new
+  field-same : (t b f : ℕ) → IsField f → field₁ L L₁ ν₁ t b f ≡ field L₁ ν₁ t b f
+  field-same t b = field₁-as L L₁ ν₁ t b (λ x h. bits-same (λ j. slotMark L x (t - 1) (slots * b + j))
+      (λ j. slotMark L₁ x (t - 1) (slots * b + j)) slots
+      (λ j g. mark-same (plan .new) none-start x (t - 1) (slots * b + j) h))
+
+  pub path-chain-entry : entered (grownWords (linked ws₁ ps i (k / slotBits) (height L₁)) ps cs (marksOf L) (height L)
+      (height L₁) (slot L (numberIn (s .places)) (height L) 0) (both (nonempty L) (not (eqb (block k i) 0))))
+      (getD ps (k / slotBits + 1) 0) (offset i k) (span k) w ≡ render L₁ N₁ (s .n)
+  unfolding fieldAt₁
+  path-chain-entry = render-is L₁ N₁ (s .n) _
+      (enter-long plan (grow-long plan (link-long plan (lg₁ plan clear counted))) .len)
+      (λ p h. anchor-right plan clear counted p h .is ∙ X-anchor (plan .enough) p h)
+      (λ m f a h. node-right plan clear counted m f a h .is ∙
+      (X-at (plan .enough) m f h ∙ go f h (getD N₁ m none)))
+    where
+      go : (f : ℕ) → IsField f → (o : Option Node) → fieldAt₁ L L₁ ν₁ o f ≡ fieldAt L₁ ν₁ o f
+      go f h none = refl
+      go f h (some p) = field-same (p .tier) (p .number) f h
