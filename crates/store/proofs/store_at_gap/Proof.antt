@@ -1,4 +1,4 @@
--- The slots alone by the laws of AtGap, or one of the other ways.
+-- The slots alone by GapLaws, or one of the other ways.
 use Prim.Native.Nat.{ℕ, _+_, _/_, _<_}
 use mathlib.Core.Path.{_≡_, ap, subst, _∙_}
 use native.Mathlib.Omega.{arith}
@@ -9,9 +9,9 @@ use Rattle.layout.specs.Words.{lastPlace, slotPlace}
 use Rattle.lookup.proofs.WordLaws.{node-at, node-fits}
 use Rattle.write.specs.declared.Seat.{Seat}
 use Rattle.write.specs.Writes.{settled}
-use Rattle.store.proofs.FilledWords.{filled-bound}
+use Rattle.store.proofs.FilledWordLaws.{filled-bound}
 use Rattle.store.proofs.ReachLaws.{reached-gap}
-use Rattle.store.proofs.AtGap.{slots-done, slots-map}
+use Rattle.store.proofs.GapLaws.{slots-done, slots-map}
 use borrow.Author.Needs.{needs}
 use Rattle.store.proofs.store_at_gap.Statement.{statement}
 use Rattle.store.proofs.store_at_gap.Tie as tie
@@ -78,8 +78,8 @@ store-new-requires c κs = let p = start-new c .pre in (
   (
     p .1 .0,
     λ s. (
-      p .1 .1 .1 s .new,
-      reached-gap _ _ _ _ _ (p .1 .1 .1 s .at-node) (omega (arith, c .before .before .if2 .taken)),
+      p .1 .1 .1 s .new .is-new,
+      reached-gap (p .1 .1 .1 s .at-node) (omega (arith, c .before .before .if2 .taken)),
     ),
   ),
 )
@@ -108,8 +108,8 @@ store-new-requires-2 c κs = let x = seat (c .before .before .before) in let p =
   (
     p .1 .0,
     λ s. (
-      p .1 .1 .1 s .new,
-      reached-gap _ _ _ _ _ (p .1 .1 .1 s .at-node) (omega (arith, x .before .before .if1 .left)),
+      p .1 .1 .1 s .new .is-new,
+      reached-gap (p .1 .1 .1 s .at-node) (omega (arith, x .before .before .if1 .left)),
     ),
   ),
 )
@@ -143,9 +143,9 @@ returns-4 c = let n = settled-at (c .before) in let y = asked n in let x = seat 
     (λ j lt. y .vacant .ensures .0 (not-false _ (n .before .before .if3 .left)) (r .slot + j) (omega arith) (omega arith)) in
     let words = n .settle .ensures ∙ ap (λ (e : Seat). settled (a .pool .now) (e .node) (e .slot) (e .count)
     (t .word)) q in (
-      λ s. slots-done s (t .index) (t .order) (t .word) (a .u) (a .a) (g .index-fits) (g .order-le) (p .1 .1 .1 s) tier-is
+      λ s. slots-done s (p .1 .1 .1 s) tier-is
           none (g .is-entry) (c .entry-of .ensures) words,
-      slots-map (p .0) (t .index) (t .order) (t .word) (a .u) (a .a) (g .index-fits) (g .order-le) (p .1 .1 .1 (p .0))
+      slots-map (p .0) (p .1 .1 .1 (p .0))
           tier-is none (g .is-entry) (g .word-fits) (p .1 .0 .1) words,
     )
 

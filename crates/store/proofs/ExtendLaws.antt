@@ -18,7 +18,7 @@ use Rattle.blocks.proofs.ListLaws.{each, look, any-none}
 use Rattle.model.specs.declared.Entry.{Entry}
 use Rattle.model.specs.Model.{enterable, within}
 use Rattle.model.specs.ByBlock.{storeNew}
-use Rattle.tree.specs.Tree.{height, has, tierOrder, slotBits}
+use Rattle.tree.specs.Tree.{height, tierOrder, slotBits}
 use Rattle.tree.specs.Slots.{slot, Numbering}
 use Rattle.tree.proofs.HeightLaws.{height-fits, fits-base}
 use Rattle.tree.proofs.NodeListLaws.{has-le}
@@ -29,12 +29,12 @@ use Rattle.layout.specs.WellFormed.{WellFormed}
 use Rattle.layout.proofs.RenderWordLaws.{pool-length}
 use Rattle.lookup.proofs.StepLaws.{in-nonempty}
 use Rattle.freemap.specs.FreeMap.{FreeMap}
-use Rattle.plan.proofs.AfterStore.{lows, path-zero, has-path, zero-apart, has-zero}
-use Rattle.plan.proofs.Reading.{head-zero}
+use Rattle.plan.proofs.AfterStoreLaws.{lows, path-zero, has-path, zero-apart, has-zero}
+use Rattle.plan.proofs.WalkLaws.{head-zero}
 use Rattle.write.specs.Writes.{span, offset, linked, entered, ones, pathCounts, grownCounts, extended}
 use Rattle.store.specs.Stored.{Ready, Stores, Done, entryOf}
-use Rattle.store.proofs.SlotCounts.{filledAt, empty-count, zero-count}
-use Rattle.store.proofs.FinalWords.{
+use Rattle.store.proofs.SlotCountLaws.{filledAt, empty-count, zero-count}
+use Rattle.store.proofs.FinalWordLaws.{
   Long,
   Right,
   Counts,
@@ -46,11 +46,11 @@ use Rattle.store.proofs.FinalWords.{
   path-counts,
   path-makes,
 }
-use Rattle.store.proofs.Target.{X, num-lt}
-use Rattle.store.proofs.PathWords.{v-lt}
-use Rattle.store.proofs.FilledWords.{enterable-some, path-more, path-one, entry-one, entry-more, chain-one, all-filled}
-use Rattle.store.proofs.GivingWay.{path-lt, chain-lt, some-node′, head-is, marks-is, some-is}
-use Rattle.store.proofs.EmptyRange.{was-free, freed, map-left, stores-unmarked, path-chain-entry}
+use Rattle.store.proofs.NewWordLaws.{X, num-lt, FilledCounts}
+use Rattle.store.proofs.PathWordLaws.{v-lt, Numbered}
+use Rattle.store.proofs.FilledWordLaws.{enterable-some, path-more, path-one, entry-one, entry-more, chain-one, all-filled}
+use Rattle.store.proofs.RebuildLaws.{path-lt, chain-lt, head-is, marks-is, some-is, numbered}
+use Rattle.store.proofs.EmptyRangeLaws.{map-left, stores-unmarked, path-chain-entry, none-cleared}
 
 -- the chain is made if there is an old tree
 chained-if : (b e z : Bool) (x y v : List ℕ) → both b (either e (not z)) ≡ true →
@@ -61,8 +61,8 @@ chained-if true false true x y v q = absurd (clash q refl)
 chained-if false e z x y v q = absurd (clash q refl)
 
 -- as the code has it
-module _ {ws : List ℕ} (s : WellFormed ws) {ps cs ms : List ℕ} {i k w h top head m : ℕ} (i< : i < 2 ^ 64)
-    (k≤ : k ≤ 63) (r : Ready (s .list) (s .places) ps cs ms i k w h top) (head-read : head ≡ getD ws 1 0)
+module _ {ws : List ℕ} (s : WellFormed ws) {ps cs ms : List ℕ} {i k w h top head m : ℕ}
+    (r : Ready (s .list) (s .places) ps cs ms i k w h top) (head-read : head ≡ getD ws 1 0)
     (marks-read : m ≡ getD ws 2 0) (beside : both (ltb h top) (either (eqb head 0) (not (eqb (block k i) 0))) ≡ true)
   where
     abbrev l : List Entry
@@ -77,7 +77,7 @@ module _ {ws : List ℕ} (s : WellFormed ws) {ps cs ms : List ℕ} {i k w h top 
     -- an old tree lies outside the target range
     apart : nonempty l ≡ true → block k i ≡ 0 → ⊥
     apart t z =
-        let e : not (eqb head 0) ≡ true = some-is s i< k≤ r head-read marks-read ∙ t in
+        let e : not (eqb head 0) ≡ true = some-is s r head-read marks-read ∙ t in
         let y : either (eqb head 0) (not (eqb (block k i) 0)) ≡ true = both-r (ltb h top) _ beside in
         byT (eqb head 0)
         (λ u. clash {b = not (eqb head 0)} e (rw u refl))
@@ -85,9 +85,9 @@ module _ {ws : List ℕ} (s : WellFormed ws) {ps cs ms : List ℕ} {i k w h top 
 
     -- nothing starts in the target range: each entry lies under the old head, which is apart from it
     none-start : All (λ x. block k (x .base) ≡ block k i → ⊥) l
-    none-start = each l (λ x e q. zero-apart l (s .valid) i k w i< k≤ (r .new) grows (height l) grows
+    none-start = each l (λ x e q. zero-apart (r .new) grows (height l) grows
         (λ z. apart (in-nonempty e) z) (x .base)
-        (fits-base (height l) x (look (height-fits (lows l (s .valid) i k w i< k≤ (r .new)) (le-refl _)) e)) q)
+        (fits-base (height l) x (look (height-fits (lows (r .new)) (le-refl _)) e)) q)
 
     -- THE COUNTS
     abbrev l₁ : List Entry
@@ -102,14 +102,14 @@ module _ {ws : List ℕ} (s : WellFormed ws) {ps cs ms : List ℕ} {i k w h top 
     abbrev v : ℕ
     v = k / slotBits
 
-    abbrev Y : ℕ → ℕ
-    Y = X (s .n) l (s .places) (s .placed) l₁ (r .enough)
+    plan : Numbered (s .n) l (s .places) i k w ps cs
+    plan = numbered s r
 
-    some₁ : 1 ≤ height l₁
-    some₁ = some-node′ s i< k≤ r
+    abbrev Y : ℕ → ℕ
+    Y = X (plan .enough)
 
     v-top : v < height l₁
-    v-top = v-lt (s .n) l (s .places) (s .placed) (s .valid) i k w i< k≤ (r .new) (r .enough) some₁ ps cs (r .plan)
+    v-top = v-lt plan
 
     lg : Long (s .n) Y ws
     lg = record { len = pool-length s }
@@ -119,19 +119,19 @@ module _ {ws : List ℕ} (s : WellFormed ws) {ps cs ms : List ℕ} {i k w h top 
     nothing-at t lt = any-none (within (tierOrder t) (block (tierOrder t) i)) (each l (λ x m e.
         let g : ℕ = max t (height l) in
         let f : block (tierOrder (max t (height l))) (x .base) ≡ 0 = fits-base (max t (height l)) x
-        (look (height-fits (lows l (s .valid) i k w i< k≤ (r .new)) (omega arith)) m) in
+        (look (height-fits (lows (r .new)) (omega arith)) m) in
         let q : block (tierOrder (max t (height l))) i ≡ 0 = sym (block-up {j = tierOrder t} {k = tierOrder (max t (height l))} (x .base) i
         (omega arith) (within-only (tierOrder t) (block (tierOrder t) i) x e)) ∙ f in
-        zero-apart l (s .valid) i k w i< k≤ (r .new) grows (max t (height l)) (omega (arith, grows)) (apart (in-nonempty m)) i q refl))
+        zero-apart (r .new) grows (max t (height l)) (omega (arith, grows)) (apart (in-nonempty m)) i q refl))
 
     module _ (some-word : w ≡ 0 → ⊥) where
       -- what the new head has of the old tree
       top-filled : (u e : ℕ) → suc u ≡ height l₁ → (nonempty l ≡ true → e ≡ 1) → (nonempty l ≡ false → e ≡ 0) →
           filledAt l ν₁ u (block (tierOrder (suc u)) i) ≡ e
       top-filled u e q some-l none-l = byT (nonempty l)
-          (λ t. ap (λ (b : ℕ). filledAt l ν₁ u b) (ap (λ (y : ℕ). block (tierOrder y) i) q ∙ path-zero l (s .valid) i k w i< k≤ (r .new)) ∙
-          (zero-count l (s .valid) i k w i< k≤ (r .new) ν₁ u (omega (arith, grows)) t ∙ sym (some-l t)))
-          (λ t. empty-count l (s .valid) i k w i< k≤ (r .new) ν₁ u (omega (arith, v-top))
+          (λ t. ap (λ (b : ℕ). filledAt l ν₁ u b) (ap (λ (y : ℕ). block (tierOrder y) i) q ∙ path-zero (r .new)) ∙
+          (zero-count (r .new) ν₁ u (omega (arith, grows)) t ∙ sym (some-l t)))
+          (λ t. empty-count (r .new) ν₁ u (omega (arith, v-top))
           (any-empty (within (tierOrder (suc u)) (block (tierOrder (suc u)) i)) l t) ∙ sym (none-l t))
         where
           any-empty : (p : Entry → Bool) (l : List Entry) → nonempty l ≡ false → any p l ≡ false
@@ -141,28 +141,28 @@ module _ {ws : List ℕ} (s : WellFormed ws) {ps cs ms : List ℕ} {i k w h top 
       final : (e : ℕ) → (nonempty l ≡ true → e ≡ 1) → (nonempty l ≡ false → e ≡ 0) → PathFinal (s .n) Y ps k (height l₁) e
       final e some-l none-l = record {
         low = v-top;
-        nodes = λ t a b. rw (r .plan .path-is t a b) (num-lt (s .n) l (s .places) (s .placed) l₁ (r .enough) t (block (tierOrder t) i)
-            (has-path l (s .valid) i k w i< k≤ (r .new) t (omega arith) b));
+        nodes = λ t a b. rw (r .plan .path-is t a b) (num-lt (plan .enough) t (block (tierOrder t) i)
+            (has-path (r .new) t (omega arith) b));
         alone = λ q. let d : suc v ≡ height l₁ = omega arith in
             rw (r .plan .path-is (height l₁) v-top (le-refl _))
             (subst (λ (y : ℕ). e + span k ≡ Y (filledPlace (ν₁ y (block (tierOrder y) i)))) q
             (subst (λ (y : ℕ). y + span k ≡ Y (filledPlace (ν₁ (v + 1) (block (tierOrder (v + 1)) i))))
             (ap (λ (y : ℕ). filledAt l ν₁ v (block (tierOrder y) i)) (add-one v) ∙ top-filled v e d some-l none-l)
-            (entry-more (s .n) l (s .places) (s .placed) (s .valid) i k w i< k≤ (r .new) (r .enough) some-word v-top none-start)));
-        highest = λ ne. let d : suc (height l₁ - 1) ≡ height l₁ = omega (arith, some₁) in
+            (entry-more (r .new) (plan .enough) some-word v-top none-start)));
+        highest = λ ne. let d : suc (height l₁ - 1) ≡ height l₁ = omega (arith, plan .some-node) in
             rw (r .plan .path-is (height l₁) v-top (le-refl _))
             (subst (λ (y : ℕ). e + 1 ≡ Y (filledPlace (ν₁ y (block (tierOrder y) i)))) d
             (subst (λ (y : ℕ). y + 1 ≡ Y (filledPlace (ν₁ (suc (height l₁ - 1)) (block (tierOrder (suc (height l₁ - 1))) i))))
             (top-filled (height l₁ - 1) e d some-l none-l)
-            (path-more (s .n) l (s .places) (s .placed) (s .valid) i k w i< k≤ (r .new) (r .enough) some-word (height l₁ - 1)
-            (omega (arith, v-top)) (omega arith) (nothing-at (height l₁ - 1) (omega (arith, some₁))))));
+            (path-more (r .new) (plan .enough) some-word (height l₁ - 1)
+            (omega (arith, v-top)) (omega arith) (nothing-at (height l₁ - 1) (omega (arith, plan .some-node))))));
         lowest = λ ne. rw (r .plan .path-is (v + 1) (omega arith) (omega (arith, v-top)))
-            (entry-one (s .n) l (s .places) (s .placed) (s .valid) i k w i< k≤ (r .new) (r .enough) some-word v-top
+            (entry-one (r .new) (plan .enough) some-word v-top
             (nothing-at (v + 1) (omega (arith, v-top))));
         between = λ t a b. let d : suc (t - 1) ≡ t = omega arith in
             rw (r .plan .path-is t (omega arith) (omega arith))
             (subst (λ (y : ℕ). 1 ≡ Y (filledPlace (ν₁ y (block (tierOrder y) i)))) d
-            (path-one (s .n) l (s .places) (s .placed) (s .valid) i k w i< k≤ (r .new) (r .enough) some-word (t - 1) (omega arith)
+            (path-one (r .new) (plan .enough) some-word (t - 1) (omega arith)
             (omega arith) (subst (λ (y : ℕ). any (within (tierOrder y) (block (tierOrder y) i)) l ≡ false) (sym d)
             (nothing-at t b))));
       }
@@ -170,15 +170,13 @@ module _ {ws : List ℕ} (s : WellFormed ws) {ps cs ms : List ℕ} {i k w h top 
       all-right : {ws₁ : List ℕ} → Counts (s .n) Y ws ws₁ →
           ((t : ℕ) → v < t → t ≤ height l₁ → Right (s .n) Y (filledPlace (getD ps t 0)) ws₁) →
           ((t : ℕ) → height l < t → t < height l₁ → nonempty l ≡ true → Right (s .n) Y (filledPlace (ν₁ t 0)) ws₁) →
-          (u b : ℕ) → has l₁ (suc u) b ≡ true → Right (s .n) Y (filledPlace (ν₁ (suc u) b)) ws₁
-      all-right {ws₁} counts on chain = all-filled (s .n) l (s .places) (s .placed) (s .valid) i k w i< k≤ (r .new) (r .enough) some₁
-          ps cs (r .plan) ws (λ m. false) (freed s i k w i< k≤ (r .new) none-start (r .enough) some₁ ps cs (r .plan)) (λ t b h. refl)
-          (λ m a e q. was-free s i k w i< k≤ (r .new) none-start (r .enough) m e) some-word counts
+          FilledCounts (plan .enough) ws ws₁
+      all-right {ws₁} counts on chain = all-filled plan (none-cleared s (r .new) none-start (plan .enough)) some-word counts
           (λ u a t. let le : suc u ≤ height l₁ = has-le l₁ (suc u) (block (tierOrder (suc u)) i) t in
           rw (← r .plan .path-is (suc u) (omega arith) le) (on (suc u) (omega arith) le))
           (λ u t g e a. let le : suc u ≤ height l₁ = has-le l₁ (suc u) 0 t in
           byT (eqb (suc u) (height l₁))
-          (λ z. absurd (a i (ap (λ (y : ℕ). block (tierOrder y) i) (eqb-true _ _ z) ∙ path-zero l (s .valid) i k w i< k≤ (r .new)) refl))
+          (λ z. absurd (a i (ap (λ (y : ℕ). block (tierOrder y) i) (eqb-true _ _ z) ∙ path-zero (r .new)) refl))
           (λ z. let ne : suc u ≡ height l₁ → ⊥ = eqb-false _ _ z in chain (suc u) g (omega arith) e))
 
       abbrev word : ℕ
@@ -190,13 +188,13 @@ module _ {ws : List ℕ} (s : WellFormed ws) {ps cs ms : List ℕ} {i k w h top 
       some-word-is : not (eqb word 0) ≡ nonempty l
       some-word-is = head-zero l (numberIn (s .places)) (s .valid)
 
-      counted : Counts (s .n) Y ws w₁ × ((u b : ℕ) → has l₁ (suc u) b ≡ true → Right (s .n) Y (filledPlace (ν₁ (suc u) b)) w₁)
+      counted : FilledCounts (plan .enough) ws w₁
       unfolding grownCounts
       counted = byT (eqb word 0)
           (λ z. let none-l : nonempty l ≡ false = sym some-word-is ∙ rw z in
           let g : PathFinal (s .n) Y ps k (height l₁) 0 = final 0 (λ t. absurd (clash t none-l)) (λ t. refl) in
           let c : Counts (s .n) Y ws (pathCounts ws ps k (height l₁) 0) = path-counts (s .n) Y g lg in
-          rw z (c, all-right c (λ t a b. path-makes (s .n) Y g lg t a b) (λ t a b e. absurd (clash e none-l))))
+          rw z (all-right c (λ t a b. path-makes (s .n) Y g lg t a b) (λ t a b e. absurd (clash e none-l))))
           (λ z. let some-l : nonempty l ≡ true = sym some-word-is ∙ rw z in
           let g : PathFinal (s .n) Y ps k (height l₁) 1 = final 1 (λ t. refl) (λ t. absurd (clash some-l t)) in
           let c : Counts (s .n) Y ws (pathCounts ws ps k (height l₁) 1) = path-counts (s .n) Y g lg in
@@ -204,22 +202,19 @@ module _ {ws : List ℕ} (s : WellFormed ws) {ps cs ms : List ℕ} {i k w h top 
           let d : suc (t - 1) ≡ t = omega arith in
           let p : getD cs t 0 ≡ ν₁ t 0 = r .plan .chain-is grows some-l (apart some-l) t (omega arith) (omega arith) (omega arith) in
           record {
-            c-lt = rw p (num-lt (s .n) l (s .places) (s .placed) l₁ (r .enough) t 0
-                (has-zero l (s .valid) i k w i< k≤ (r .new) grows t (omega arith) (omega arith) (omega arith) some-l (apart some-l)));
+            c-lt = rw p (num-lt (plan .enough) t 0
+                (has-zero (r .new) grows t (omega arith) (omega arith) (omega arith) some-l (apart some-l)));
             is-one = rw p (subst (λ (y : ℕ). 1 ≡ Y (filledPlace (ν₁ y 0))) d
-                (chain-one (s .n) l (s .places) (s .placed) (s .valid) i k w i< k≤ (r .new) (r .enough) some-word grows some-l (apart some-l) (t - 1)
+                (chain-one (r .new) (plan .enough) some-word grows some-l (apart some-l) (t - 1)
                 (omega arith) (omega arith)));
           } in
           let c′ : Counts (s .n) Y ws (ones cs (pathCounts ws ps k (height l₁) 1) (height l + 1) (height l₁ - (height l + 1))) =
           ones-counts (s .n) Y cs (height l + 1) (height l₁ - (height l + 1)) c one in
           let c″ : Counts (s .n) Y (pathCounts ws ps k (height l₁) 1) (ones cs (pathCounts ws ps k (height l₁) 1) (height l + 1) (height l₁ - (height l + 1))) =
           ones-counts (s .n) Y cs (height l + 1) (height l₁ - (height l + 1)) (counts-none (s .n) Y (c .long)) one in
-          rw z (
-            c′,
-            all-right c′ (λ t a b. c″ .keep _ (path-makes (s .n) Y g lg t a b))
-                (λ t a b e. rw (← r .plan .chain-is grows some-l (apart some-l) t (omega arith) (omega arith) (omega arith))
-                (ones-makes (s .n) Y cs (height l + 1) (height l₁ - (height l + 1)) (c .long) one t (omega arith) (omega arith))),
-          ))
+          rw z (all-right c′ (λ t a b. c″ .keep _ (path-makes (s .n) Y g lg t a b))
+          (λ t a b e. rw (← r .plan .chain-is grows some-l (apart some-l) t (omega arith) (omega arith) (omega arith))
+          (ones-makes (s .n) Y cs (height l + 1) (height l₁ - (height l + 1)) (c .long) one t (omega arith) (omega arith)))))
 
     words : {ws′ : List ℕ} → T (enterable k w) → ws′ ≡ extended ws ps cs i k w h top head m →
         ws′ ≡ render (storeNew l i k w) (newPlaces l (storeNew l i k w) (s .places)) (s .n)
@@ -228,14 +223,13 @@ module _ {ws : List ℕ} (s : WellFormed ws) {ps cs ms : List ℕ} {i k w h top 
         e ∙ (ap (λ (y : List ℕ). entered y (getD ps (k / slotBits + 1) 0) (offset i k) (span k) w)
         (chained-if (ltb h top) (eqb head 0) (eqb (block k i) 0) _ _
         (linked (grownCounts ws ps cs k h top head) ps i (k / slotBits) top) beside) ∙ rw (
-          some-is s i< k≤ r head-read marks-read,
-          head-is s i< k≤ r head-read marks-read,
-          marks-is s i< k≤ r head-read marks-read,
+          some-is s r head-read marks-read,
+          head-is s r head-read marks-read,
+          marks-is s r head-read marks-read,
           r .h-is,
           r .top-is,
         )
-        (path-chain-entry s i k w i< k≤ (r .new) none-start (r .enough) (some-node′ s i< k≤ r) ps cs (r .plan)
-        (w₁ (enterable-some k w st)) (counted (enterable-some k w st) .0) (counted (enterable-some k w st) .1)))
+        (path-chain-entry s plan none-start (counted (enterable-some k w st))))
 
     -- what the writes need
     pub beside-fits : (h < top) × ((u : ℕ) → k / slotBits + 1 ≤ u → u ≤ top → lastPlace (getD ps u 0) < length ws) ×
@@ -243,8 +237,8 @@ module _ {ws : List ℕ} (s : WellFormed ws) {ps cs ms : List ℕ} {i k w h top 
     beside-fits =
         let len = pool-length s in (
           above,
-          λ u a b. omega (arith, len, path-lt s i< k≤ r u a b),
-          λ ne u a b c. omega (arith, len, chain-lt s i< k≤ r head-read marks-read above (chained ne) u a b c),
+          λ u a b. omega (arith, len, path-lt s r u a b),
+          λ ne u a b c. omega (arith, len, chain-lt s r head-read marks-read above (chained ne) u a b c),
         )
       where
         chained : (head ≡ 0 → ⊥) → both (not (eqb head 0)) (not (eqb (block k i) 0)) ≡ true
@@ -252,7 +246,7 @@ module _ {ws : List ℕ} (s : WellFormed ws) {ps cs ms : List ℕ} {i k w h top 
 
     pub beside-done : {ws′ : List ℕ} {e : Entry} → T (enterable k w) → e ≡ entryOf i k w 0 → ws′ ≡ extended ws ps cs i k w h top head m →
         Stores (s .n) l (s .places) (storeNew l i k w) i ws ws′ (Done e)
-    beside-done st q e = stores-unmarked s i k w i< k≤ (r .new) none-start (r .enough) q (words st e)
+    beside-done st q e = stores-unmarked s (r .new) none-start (plan .enough) q (words st e)
 
     pub beside-map : {ws′ : List ℕ} → T (enterable k w) → w < 2 ^ 64 → ws′ ≡ extended ws ps cs i k w h top head m → FreeMap ws′ ms
-    beside-map st w< e = map-left s i k w i< k≤ (r .new) none-start (r .enough) st w< (words st e) (r .left)
+    beside-map st w< e = map-left s (r .new) none-start (plan .enough) st w< (words st e) (r .left)

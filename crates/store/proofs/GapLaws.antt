@@ -51,13 +51,13 @@ use Rattle.layout.proofs.FieldLaws.{field-shift, field-owner, field-slot}
 use Rattle.lookup.specs.Views.{AtNode}
 use Rattle.lookup.proofs.WordLaws.{slot-at}
 use Rattle.freemap.specs.FreeMap.{MapOf, FreeMap}
-use Rattle.plan.specs.Plan.{Plan, Drawn, Walked, before, freeAt, leftFree}
-use Rattle.plan.proofs.AfterStore.{lows, tops, has-path}
+use Rattle.plan.specs.Plan.{Drawn, Walked, before, freeAt, leftFree, NewStore}
+use Rattle.plan.proofs.AfterStoreLaws.{lows, tops, has-path}
 use Rattle.plan.proofs.MapNumbers.{map-places, left-new, drawn-none}
 use Rattle.plan.proofs.FreshNumbers.{Tiers, tiers-same, needed-is, path-number}
 use Rattle.write.specs.Writes.{span, offset, joins, headAt, linked, entered, pathCounts, settled, Laid, built}
 use Rattle.store.specs.Stored.{AtGap, Stores, Done, Short, entryOf}
-use Rattle.store.proofs.FinalWords.{
+use Rattle.store.proofs.FinalWordLaws.{
   Long,
   Right,
   EdgeAt,
@@ -71,11 +71,11 @@ use Rattle.store.proofs.FinalWords.{
   joins-keeps,
   joins-stay,
 }
-use Rattle.store.proofs.Target.{field₁, field₁-shift, field₁-owner, field₁-slot, X, X-anchor, X-node, num-lt, edge-of}
-use Rattle.store.proofs.PathWords.{shift-ok, owner-ok, head-ok}
+use Rattle.store.proofs.NewWordLaws.{field₁, field₁-shift, field₁-owner, field₁-slot, X, X-anchor, X-node, num-lt, edge-of, Enough, FilledCounts}
+use Rattle.store.proofs.PathWordLaws.{shift-ok, owner-ok, head-ok, Numbered}
 use Rattle.write.proofs.RunLaws.{run-fits, run-slot}
-use Rattle.store.proofs.SlotCounts.{filledAt}
-use Rattle.store.proofs.FilledWords.{
+use Rattle.store.proofs.SlotCountLaws.{filledAt}
+use Rattle.store.proofs.FilledWordLaws.{
   enterable-some,
   path-more,
   path-one,
@@ -85,8 +85,9 @@ use Rattle.store.proofs.FilledWords.{
   path-stays,
   all-filled,
 }
-use Rattle.store.proofs.EmptyRange.{has-keeps, was-free, freed, map-left, stores-unmarked, path-chain-entry}
+use Rattle.store.proofs.EmptyRangeLaws.{has-keeps, map-left, stores-unmarked, path-chain-entry, none-cleared}
 use Rattle.tree.proofs.NodeListLaws.{has-le, has-within, has-in}
+use Rattle.store.proofs.FreedLaws.{Clear}
 
 -- how many of the e widest tiers have a new node, where those from v + 1 to u do
 before-is : (h v u top : ℕ) → u ≤ top → (e : ℕ) → e ≤ top → before false h v (suc u) top e ≡ u - max (top - e) v
@@ -104,11 +105,14 @@ before-is h v u top le (suc e) g =
         (λ b. let b′ : suc u ≤ m = ltb-false _ _ b in rw (a, b) (omega arith)))
         (λ a. let a′ : m ≤ v = ltb-false _ _ a in rw a (omega arith))
 
-module _ {ws : List ℕ} (s : WellFormed ws) (i k w u first : ℕ) (i< : i < 2 ^ 64) (k≤ : k ≤ 63)
-    (new : any (over i k) (s .list) ≡ false)
-    (none-start : All (λ x. block k (x .base) ≡ block k i → ⊥) (s .list)) (high : k / slotBits ≤ u)
-    (at : AtNode (s .list) (num s) u (block (tierOrder (suc u)) i) first)
-    (not-there : (t : ℕ) → k / slotBits < t → t ≤ u → has (s .list) t (block (tierOrder t) i) ≡ false) where
+-- a new entry below an empty slot of tier u of the node first, or in it
+pub record Gap {ws : List ℕ} (s : WellFormed ws) (i k w u first : ℕ) : Type 0 where
+  pub new : NewStore (s .list) i k w
+  pub none-start : All (λ x. block k (x .base) ≡ block k i → ⊥) (s .list)
+  pub at : AtNode (s .list) (num s) u (block (tierOrder (suc u)) i) first
+  pub not-there : (t : ℕ) → k / slotBits < t → t ≤ u → has (s .list) t (block (tierOrder t) i) ≡ false
+
+module _ {ws : List ℕ} {s : WellFormed ws} {i k w u first : ℕ} (gap : Gap s i k w u first) (high : k / slotBits ≤ u) where
   abbrev l : List Entry
   l = s .list
 
@@ -138,7 +142,7 @@ module _ {ws : List ℕ} (s : WellFormed ws) (i k w u first : ℕ) (i< : i < 2 ^
   mate : (x : Entry) × In x l × (x .order < tierOrder (suc u)) ×
       (block (tierOrder (suc u)) (x .base) ≡ block (tierOrder (suc u)) i)
   mate = let (x, m, t) = any-in (within (tierOrder (suc u)) (block (tierOrder (suc u)) i)) l
-      (has-within l (suc u) (block (tierOrder (suc u)) i) (at .there)) in (
+      (has-within l (suc u) (block (tierOrder (suc u)) i) (gap .at .there)) in (
         x,
         m,
         ltb-true _ _ (both-l (ltb (x .order) (tierOrder (suc u))) _ t),
@@ -146,7 +150,7 @@ module _ {ws : List ℕ} (s : WellFormed ws) (i k w u first : ℕ) (i< : i < 2 ^
       )
 
   tier-le : suc u ≤ H
-  tier-le = has-le l (suc u) (block (tierOrder (suc u)) i) (at .there)
+  tier-le = has-le l (suc u) (block (tierOrder (suc u)) i) (gap .at .there)
 
   has-over : (t : ℕ) → suc u ≤ t → t ≤ H → has l t (block (tierOrder t) i) ≡ true
   has-over t h g =
@@ -160,7 +164,7 @@ module _ {ws : List ℕ} (s : WellFormed ws) (i k w u first : ℕ) (i< : i < 2 ^
   top-zero : block (tierOrder H) i ≡ 0
   top-zero =
       let (x, m, o, e) = mate in
-      let f : fits H x ≡ true = look (height-fits {h = H} (lows l (s .valid) i k w i< k≤ new) (le-refl _)) m in
+      let f : fits H x ≡ true = look (height-fits {h = H} (lows (gap .new)) (le-refl _)) m in
       sym (block-up {j = tierOrder (suc u)} {k = tierOrder H} (x .base) i (omega (arith, tier-le)) e) ∙ fits-base H x f
 
   height-same : H′ ≡ H
@@ -168,10 +172,10 @@ module _ {ws : List ℕ} (s : WellFormed ws) (i k w u first : ℕ) (i< : i < 2 ^
       let fit : fits H (newEntry l i k w) ≡ true = fits-i H (newEntry l i k w) (omega (arith, tier-le))
       (block-up {j = k} {k = tierOrder H} (block k i * 2 ^ k) i (omega (arith, tier-le)) (block-at k (block k i)) ∙
       top-zero) in
-      omega (arith, tops l (s .valid) i k w i< k≤ new, fits-tall H (newEntry l i k w) fit)
+      omega (arith, tops (gap .new), fits-tall H (newEntry l i k w) fit)
 
   path-has : (t : ℕ) → v < t → t ≤ H → has l′ t (block (tierOrder t) i) ≡ true
-  path-has t a b = has-path l (s .valid) i k w i< k≤ new t (omega arith) (omega (arith, height-same))
+  path-has t a b = has-path (gap .new) t (omega arith) (omega (arith, height-same))
 
   -- THE NUMBERS
   abbrev ps₀ : List ℕ
@@ -184,28 +188,28 @@ module _ {ws : List ℕ} (s : WellFormed ws) (i k w u first : ℕ) (i< : i < 2 ^
     there = λ t a b. has-over t a b;
     numbers = λ t a b. getD-upTo (λ t. ν t (block (tierOrder t) i)) 0 (suc H) t (omega arith) ∙
         ap (λ (y : ℕ). ν y (block (tierOrder y) i)) (zero-add t);
-    not-there = λ t a b. not-there t a (omega arith);
+    not-there = λ t a b. gap .not-there t a (omega arith);
   }
 
   tiers : Tiers l i k w false (suc u)
-  tiers = tiers-same (s .n) l os (s .placed) (s .valid) i k w i< k≤ new ν ps₀ false (suc u) (sym height-same) walked
+  tiers = tiers-same (s .placed) (gap .new) false (sym height-same) walked
 
   over-top : H < H′ → H′ < suc u
   over-top g = absurd (omega (arith, height-same))
 
   pub need-is : needed l l′ ≡ u - v
-  need-is = needed-is (s .n) l os (s .placed) (s .valid) i k w i< k≤ new false (suc u) tiers over-top ∙
+  need-is = needed-is (s .placed) (gap .new) tiers over-top ∙
       (before-is H v u H′ (omega (arith, tier-le, height-same)) H′ (le-refl _) ∙
       (let z : H′ - H′ ≡ 0 = omega arith in rw z (omega arith)))
 
-  module _ (enough : needed l l′ ≤ freeCount os) where
+  module _ (enough : Enough (s .n) l os l′) where
     pub number-is : (t : ℕ) → v < t → t ≤ u → (ν′ t (block (tierOrder t) i) ≡ freeAt os (u - t)) ×
         (u - t < needed l l′)
     number-is t a b =
         let le : t ≤ H′ = omega (arith, tier-le, height-same) in
-        let (x, y) = path-number (s .n) l os (s .placed) (s .valid) i k w i< k≤ new false (suc u) tiers over-top enough t
+        let (x, y) = path-number (s .placed) (gap .new) tiers over-top (enough .free) t
         (omega arith) le (rw (lt-ltb v t a, lt-ltb t (suc u) (omega arith)) refl)
-        (path-has t a (omega (arith, tier-le))) (not-there t a b) in
+        (path-has t a (omega (arith, tier-le))) (gap .not-there t a b) in
         let back : H′ - (H′ - t) ≡ t = omega arith in
         let q : before false H v (suc u) H′ (H′ - t) ≡ u - max t v = before-is H v u H′
         (omega (arith, tier-le, height-same)) (H′ - t) (omega arith) ∙ ap (λ (m : ℕ). u - max m v) back in
@@ -213,14 +217,14 @@ module _ {ws : List ℕ} (s : WellFormed ws) (i k w u first : ℕ) (i< : i < 2 ^
         (x ∙ ap (freeAt os) z, subst (λ (y : ℕ). y < needed l l′) z y)
 
     keeps : (t b : ℕ) → has l t b ≡ true → has l′ t b ≡ true
-    keeps = has-keeps l (s .valid) i k w i< k≤ new none-start
+    keeps = has-keeps (gap .new) (gap .none-start)
 
     pub first-is : ν′ (suc u) (block (tierOrder (suc u)) i) ≡ first
-    first-is = kept (s .n) l os (s .placed) l′ enough (suc u) (block (tierOrder (suc u)) i) (at .there)
-        (keeps (suc u) (block (tierOrder (suc u)) i) (at .there)) ∙ sym (at .number)
+    first-is = kept (s .n) l os (s .placed) l′ (enough .free) (suc u) (block (tierOrder (suc u)) i) (gap .at .there)
+        (keeps (suc u) (block (tierOrder (suc u)) i) (gap .at .there)) ∙ sym (gap .at .number)
 
     pub path-lt : (t : ℕ) → v < t → t ≤ u + 1 → ν′ t (block (tierOrder t) i) < s .n
-    path-lt t a b = num-lt (s .n) l os (s .placed) l′ enough t (block (tierOrder t) i)
+    path-lt t a b = num-lt enough t (block (tierOrder t) i)
         (path-has t a (omega (arith, tier-le)))
 
     abbrev ps′ : List ℕ
@@ -230,18 +234,23 @@ module _ {ws : List ℕ} (s : WellFormed ws) (i k w u first : ℕ) (i< : i < 2 ^
     ps′-is t h = getD-upTo (λ t. ν′ t (block (tierOrder t) i)) 0 (suc H) t (omega arith) ∙
         ap (λ (y : ℕ). ν′ y (block (tierOrder y) i)) (zero-add t)
 
-    plan : Plan l i k w ν′ ps′ []
+    abbrev plan : Numbered (s .n) l os i k w ps′ []
     plan = record {
-      path-is = λ t a b. ps′-is t (omega (arith, height-same));
-      chain-is = λ g. absurd (omega (arith, height-same));
+      new = gap .new;
+      enough = enough;
+      some-node = omega (arith, tier-le, height-same);
+      numbers = record {
+        path-is = λ t a b. ps′-is t (omega (arith, height-same));
+        chain-is = λ g. absurd (omega (arith, height-same));
+      };
     }
 
-    some-node : 1 ≤ H′
-    some-node = omega (arith, tier-le, height-same)
+    clear : Clear (s .n) l os l′ ws
+    clear = none-cleared s (gap .new) (gap .none-start) enough
 
     -- THE EDGES OVER THE SLOT stand already
     abbrev Y : ℕ → ℕ
-    Y = X (s .n) l os (s .placed) l′ enough
+    Y = X enough
 
     abbrev R : ℕ → List ℕ → Type 0
     R = Right (s .n) Y
@@ -253,9 +262,9 @@ module _ {ws : List ℕ} (s : WellFormed ws) (i k w u first : ℕ) (i< : i < 2 ^
     same : (t b f : ℕ) → has l t b ≡ true → IsField f → field l ν t b f ≡ field₁ l l′ ν′ t b f →
         R (place (ν′ t b) f) ws
     same t b f o h e = record {
-      is = pool-node s (ν′ t b) f (num-lt (s .n) l os (s .placed) l′ enough t b (keeps t b o)) h ∙
-          (ap (λ (q : Option Node). fieldAt l ν q f) (was (s .n) l os (s .placed) l′ enough t b (keeps t b o) o) ∙
-          (e ∙ sym (X-node (s .n) l os (s .placed) l′ enough t b f (keeps t b o) h)));
+      is = pool-node s (ν′ t b) f (num-lt enough t b (keeps t b o)) h ∙
+          (ap (λ (q : Option Node). fieldAt l ν q f) (was (s .n) l os (s .placed) l′ (enough .free) t b (keeps t b o) o) ∙
+          (e ∙ sym (X-node enough t b f (keeps t b o) h)));
     }
 
     shift-there : (t b : ℕ) → has l t b ≡ true → R (shiftPlace (ν′ t b)) ws
@@ -264,7 +273,7 @@ module _ {ws : List ℕ} (s : WellFormed ws) (i k w u first : ℕ) (i< : i < 2 ^
     owner-there : (t b : ℕ) → t < H → has l t b ≡ true → R (ownerPlace (ν′ t b)) ws
     owner-there t b h o =
         let h′ : t < H′ = omega (arith, height-same) in
-        same t b ownerField o (omega arith) (field-owner l ν t b ∙ (sym (owner-same l l′ ν ν′ t b h h′ (kept (s .n) l os (s .placed) l′ enough (suc t)
+        same t b ownerField o (omega arith) (field-owner l ν t b ∙ (sym (owner-same l l′ ν ν′ t b h h′ (kept (s .n) l os (s .placed) l′ (enough .free) (suc t)
         (b / slots) (parent l t b o h) (parent l′ t b (keeps t b o) h′))) ∙ sym (field₁-owner l l′ ν′ t b)))
 
     slot-there : (t : ℕ) → suc u ≤ t → t < H →
@@ -279,7 +288,7 @@ module _ {ws : List ℕ} (s : WellFormed ws) (i k w u first : ℕ) (i< : i < 2 ^
         (omega arith)
         (field-slot l ν (suc t) (block (tierOrder (suc t)) i) (block (tierOrder t) i % slots) ∙
         (ap₂ (slot l ν) e₁ e₂ ∙ (slot-node l ν t (block (tierOrder t) i) (has-within l t (block (tierOrder t) i) x) ∙
-        (ap nodeWord (sym (kept (s .n) l os (s .placed) l′ enough t (block (tierOrder t) i) x x′)) ∙
+        (ap nodeWord (sym (kept (s .n) l os (s .placed) l′ (enough .free) t (block (tierOrder t) i) x x′)) ∙
         (sym (slot-node l′ ν′ t (block (tierOrder t) i) (has-within l′ t (block (tierOrder t) i) x′)) ∙
         sym (field₁-slot l l′ ν′ (suc t) (block (tierOrder (suc t)) i) (block (tierOrder t) i % slots) ∙
         ap₂ (slot l′ ν′) e₁ e₂))))))
@@ -290,9 +299,9 @@ module _ {ws : List ℕ} (s : WellFormed ws) (i k w u first : ℕ) (i< : i < 2 ^
     head-there : R 1 ws
     head-there = record {
       is = pool-anchor s 1 (omega arith) ∙ (slot-node l ν H 0 (has-within l H 0 head-has) ∙
-          (ap nodeWord (sym (kept (s .n) l os (s .placed) l′ enough H 0 head-has (keeps H 0 head-has))) ∙
+          (ap nodeWord (sym (kept (s .n) l os (s .placed) l′ (enough .free) H 0 head-has (keeps H 0 head-has))) ∙
           (sym (slot-node l′ ν′ H 0 (has-within l′ H 0 (keeps H 0 head-has))) ∙
-          (ap (λ (y : ℕ). slot l′ ν′ y 0) (sym height-same) ∙ sym (X-anchor (s .n) l os (s .placed) l′ enough 1
+          (ap (λ (y : ℕ). slot l′ ν′ y 0) (sym height-same) ∙ sym (X-anchor enough 1
           (omega arith))))));
     }
 
@@ -305,7 +314,7 @@ module _ {ws : List ℕ} (s : WellFormed ws) (i k w u first : ℕ) (i< : i < 2 ^
 
     edge : (t : ℕ) → v + 1 ≤ t → t < H → EdgeAt (s .n) Y ps′ i t
     edge t a b = rw (ps′-is (t + 1) (omega arith), ps′-is t (omega arith))
-        (edge-of (s .n) l os (s .placed) l′ enough i t (omega (arith, height-same)) (path-has t (omega arith) (omega arith)))
+        (edge-of enough i t (omega (arith, height-same)) (path-has t (omega arith) (omega arith)))
 
     abbrev d₀ : ℕ
     d₀ = u + 1 - (v + 1)
@@ -339,13 +348,13 @@ module _ {ws : List ℕ} (s : WellFormed ws) (i k w u first : ℕ) (i< : i < 2 ^
       linked-is : linked ws₁ ps′ i v H′ ≡ J
       linked-is =
           let shift-stays : set J (shiftPlace (getD ps′ H′ 0)) (shiftWord H′) ≡ J = set-stays (s .n) Y _ _
-          (shift-ok (s .n) l os (s .placed) (s .valid) i k w i< k≤ new enough some-node ps′ [] plan (counts .long))
+          (shift-ok plan (counts .long))
           (rw head-num (keeps-J (shift-there H 0 head-has))) in
           let owner-stays : set J (ownerPlace (getD ps′ H′ 0)) 0 ≡ J = set-stays (s .n) Y _ _
-          (owner-ok (s .n) l os (s .placed) (s .valid) i k w i< k≤ new enough some-node ps′ [] plan (counts .long))
+          (owner-ok plan (counts .long))
           (rw head-num (keeps-J head-owner)) in
           let head-stays : set J 1 (nodeWord (getD ps′ H′ 0)) ≡ J = set-stays (s .n) Y _ _
-          (head-ok (s .n) l os (s .placed) (s .valid) i k w i< k≤ new enough some-node ps′ [] plan (counts .long))
+          (head-ok plan (counts .long))
           (keeps-J head-there) in
           ap (λ (y : List ℕ). headAt y (getD ps′ H′ 0) H′) joins-is ∙
           (ap (λ (y : List ℕ). set (set y (ownerPlace (getD ps′ H′ 0)) 0) 1 (nodeWord (getD ps′ H′ 0))) shift-stays ∙
@@ -354,7 +363,7 @@ module _ {ws : List ℕ} (s : WellFormed ws) (i k w u first : ℕ) (i< : i < 2 ^
     -- THE COUNTS
     -- nothing lies in a block of the path below the slot
     nothing-at : (t : ℕ) → v < t → t ≤ u → any (within (tierOrder t) (block (tierOrder t) i)) l ≡ false
-    nothing-at t a b = is-false (λ y. clash (has-in l t (block (tierOrder t) i) (omega (arith, tier-le)) y) (not-there t a b))
+    nothing-at t a b = is-false (λ y. clash (has-in l t (block (tierOrder t) i) (omega (arith, tier-le)) y) (gap .not-there t a b))
 
     module _ (some-word : w ≡ 0 → ⊥) (ps : List ℕ)
         (is : (t : ℕ) → v < t → t ≤ u + 1 → getD ps t 0 ≡ ν′ t (block (tierOrder t) i)) where
@@ -366,10 +375,8 @@ module _ {ws : List ℕ} (s : WellFormed ws) (i k w u first : ℕ) (i< : i < 2 ^
 
       first-filled : f ≡ filledAt l ν′ u (block (tierOrder (suc u)) i)
       first-filled = rw (is (u + 1) (omega arith) (omega arith), add-one u)
-          (was-filled (s .n) l os (s .placed) (s .valid) i k w i< k≤ new enough some-node ps′ [] plan ws (λ m. false)
-          (freed s i k w i< k≤ new none-start enough some-node ps′ [] plan) (λ t b h. refl)
-          (λ m a e q. was-free s i k w i< k≤ new none-start enough m e) some-word u (block (tierOrder (suc u)) i)
-          (over-has (suc u) (omega arith) tier-le) (at .there))
+          (was-filled plan clear some-word u (block (tierOrder (suc u)) i)
+          (over-has (suc u) (omega arith) tier-le) (gap .at .there))
 
       final : PathFinal (s .n) Y ps k (u + 1) f
       final = record {
@@ -380,17 +387,17 @@ module _ {ws : List ℕ} (s : WellFormed ws) (i k w u first : ℕ) (i< : i < 2 ^
             filledAt l ν′ y (block (tierOrder (suc y)) i) + span k ≡ Y (filledPlace (ν′ (y + 1) (block (tierOrder (y + 1)) i))))
             (sym d) (subst (λ (y : ℕ). filledAt l ν′ v (block (tierOrder y) i) + span k ≡
             Y (filledPlace (ν′ (v + 1) (block (tierOrder (v + 1)) i)))) (add-one v)
-            (entry-more (s .n) l os (s .placed) (s .valid) i k w i< k≤ new enough some-word
-            (omega (arith, tier-le, height-same)) none-start)));
+            (entry-more (gap .new) enough some-word
+            (omega (arith, tier-le, height-same)) (gap .none-start))));
         highest = λ ne. rw (first-filled, is (u + 1) (omega arith) (omega arith), add-one u)
-            (path-more (s .n) l os (s .placed) (s .valid) i k w i< k≤ new enough some-word u (omega arith)
+            (path-more (gap .new) enough some-word u (omega arith)
             (omega (arith, tier-le, height-same)) (nothing-at u (omega arith) (omega arith)));
         lowest = λ ne. rw (is (v + 1) (omega arith) (omega arith))
-            (entry-one (s .n) l os (s .placed) (s .valid) i k w i< k≤ new enough some-word
+            (entry-one (gap .new) enough some-word
             (omega (arith, tier-le, height-same)) (nothing-at (v + 1) (omega arith) (omega arith)));
         between = λ t a b. let d : suc (t - 1) ≡ t = omega arith in
             rw (is t (omega arith) (omega arith)) (subst (λ (y : ℕ). 1 ≡ Y (filledPlace (ν′ y (block (tierOrder y) i)))) d
-            (path-one (s .n) l os (s .placed) (s .valid) i k w i< k≤ new enough some-word (t - 1) (omega arith)
+            (path-one (gap .new) enough some-word (t - 1) (omega arith)
             (omega (arith, tier-le, height-same))
             (subst (λ (y : ℕ). any (within (tierOrder y) (block (tierOrder y) i)) l ≡ false) (sym d)
             (nothing-at t (omega arith) (omega arith)))));
@@ -402,10 +409,8 @@ module _ {ws : List ℕ} (s : WellFormed ws) (i k w u first : ℕ) (i< : i < 2 ^
       counted : Counts (s .n) Y ws w₁
       counted = path-counts (s .n) Y final lg
 
-      filled-right : (t b : ℕ) → has l′ (suc t) b ≡ true → R (filledPlace (ν′ (suc t) b)) w₁
-      filled-right = all-filled (s .n) l os (s .placed) (s .valid) i k w i< k≤ new enough some-node ps′ [] plan ws
-          (λ m. false) (freed s i k w i< k≤ new none-start enough some-node ps′ [] plan) (λ t b h. refl)
-          (λ m a e q. was-free s i k w i< k≤ new none-start enough m e) some-word counted on-path
+      filled : FilledCounts enough ws w₁
+      filled = all-filled plan clear some-word counted on-path
           (λ t h g. absurd (omega (arith, has-le l′ (suc t) 0 h, height-same)))
         where
           on-path : (t : ℕ) → v ≤ t → has l′ (suc t) (block (tierOrder (suc t)) i) ≡ true →
@@ -415,9 +420,7 @@ module _ {ws : List ℕ} (s : WellFormed ws) (i k w u first : ℕ) (i< : i < 2 ^
               rw (← is (suc t) (omega arith) (omega arith)) (path-makes (s .n) Y final lg (suc t) (omega arith) (omega arith)))
               (λ x. let ge : u + 1 ≤ t = ltb-false _ _ x in
               let le : suc t ≤ H = omega (arith, has-le l′ (suc t) (block (tierOrder (suc t)) i) h, height-same) in
-              counted .keep _ (path-stays (s .n) l os (s .placed) (s .valid) i k w i< k≤ new enough some-node ps′ [] plan ws
-              (λ m. false) (freed s i k w i< k≤ new none-start enough some-node ps′ [] plan) (λ t b h. refl)
-              (λ m a e q. was-free s i k w i< k≤ new none-start enough m e) some-word t (omega arith) h
+              counted .keep _ (path-stays plan clear some-word t (omega arith) h
               (has-over (suc t) (omega arith) le) (has-over t (omega arith) (omega arith))))
 
       pub words-after : built ws ps i k w u ≡ render l′ (newPlaces l l′ os) (s .n)
@@ -429,11 +432,11 @@ module _ {ws : List ℕ} (s : WellFormed ws) (i k w u first : ℕ) (i< : i < 2 ^
           (joins-same ps ps′ i w₁ (v + 1) d₀ (λ t a b. agree t (omega arith) (omega arith)) ∙ sym (linked-is counted)) ∙
           (ap (λ (a : ℕ). entered (linked w₁ ps′ i v H′) a (offset i k) (span k) w) (agree (v + 1) (omega arith) (omega arith)) ∙
           (sym (rw (le-ltb H H′ (omega (arith, height-same))) refl) ∙
-          path-chain-entry s i k w i< k≤ new none-start enough some-node ps′ [] plan w₁ counted filled-right))
+          path-chain-entry s plan (gap .none-start) filled))
 
 -- AS THE CODE HAS IT: new nodes below the slot
-module _ {ws : List ℕ} (s : WellFormed ws) (i k w u first : ℕ) (i< : i < 2 ^ 64) (k≤ : k ≤ 63) (deep : k / slotBits < u)
-    (g : AtGap (s .list) (num s) i k u first) where
+module _ {ws : List ℕ} (s : WellFormed ws) {i k w u first : ℕ} (deep : k / slotBits < u)
+    (g : AtGap (s .list) (num s) i k w u first) where
   none-below : All (λ x. block k (x .base) ≡ block k i → ⊥) (s .list)
   none-below = each (s .list) (λ x m q. byT (ltb (x .order) (tierOrder u))
       (λ t. clash (in-any (within (tierOrder u) (block (tierOrder u) i)) m
@@ -443,17 +446,20 @@ module _ {ws : List ℕ} (s : WellFormed ws) (i k w u first : ℕ) (i< : i < 2 ^
       (rw (
         eq-eqb _ _ (sym (block-up {j = k} {k = x .order} (x .base) i (omega arith) q)),
         le-leb k (x .order) (omega arith),
-      ))) (g .new)))
+      ))) (g .new .is-new)))
 
   no-node : (t : ℕ) → k / slotBits < t → t ≤ u → has (s .list) t (block (tierOrder t) i) ≡ false
   no-node t a h = is-false (λ y. clash (path-up i {j = tierOrder t} {k = tierOrder u} (s .list) (omega arith)
       (has-within (s .list) t (block (tierOrder t) i) y)) (g .nothing))
 
+  gap-below : Gap s i k w u first
+  gap-below = record { new = g .new; none-start = none-below; at = g .at-node; not-there = no-node }
+
   abbrev high : k / slotBits ≤ u
   high = omega arith
 
   needed-as : needed (s .list) (storeNew (s .list) i k w) ≡ u - k / slotBits
-  needed-as = need-is s i k w u first i< k≤ (g .new) none-below high (g .at-node) no-node
+  needed-as = need-is gap-below high
 
   pub below-short : freeCount (s .places) < u - k / slotBits →
       Stores (s .n) (s .list) (s .places) (storeNew (s .list) i k w) i ws ws Short
@@ -463,42 +469,42 @@ module _ {ws : List ℕ} (s : WellFormed ws) (i k w u first : ℕ) (i< : i < 2 ^
   }
 
   module _ (some : u - k / slotBits ≤ freeCount (s .places)) {ns ms : List ℕ}
-      (drawn : Drawn (s .places) (u - k / slotBits) ns ms) (ps : List ℕ) (laid : Laid ns ps first (k / slotBits) u) where
-    enough : needed (s .list) (storeNew (s .list) i k w) ≤ freeCount (s .places)
-    enough = omega (arith, needed-as)
+      (drawn : Drawn (s .places) (u - k / slotBits) ns ms) {ps : List ℕ} (laid : Laid ns ps first (k / slotBits) u) where
+    enough : Enough (s .n) (s .list) (s .places) (storeNew (s .list) i k w)
+    enough = record { placed = s .placed; free = omega (arith, needed-as) }
 
     ps-is : (t : ℕ) → k / slotBits < t → t ≤ u + 1 → getD ps t 0 ≡ numberIn
         (newPlaces (s .list) (storeNew (s .list) i k w) (s .places)) t (block (tierOrder t) i)
     ps-is t a b = byT (eqb t (u + 1))
         (λ z. let e : t ≡ suc u = eqb-true _ _ z ∙ add-one u in
         ap (λ (y : ℕ). getD ps y 0) (eqb-true _ _ z) ∙ (laid .top-is ∙
-        rw e (sym (first-is s i k w u first i< k≤ (g .new) none-below high (g .at-node) no-node enough))))
+        rw e (sym (first-is gap-below high enough))))
         (λ z. let ne : t ≡ u + 1 → ⊥ = eqb-false _ _ z in
-        let (x, y) = number-is s i k w u first i< k≤ (g .new) none-below high (g .at-node) no-node enough t a (omega arith)
+        let (x, y) = number-is gap-below high enough t a (omega arith)
         in
         laid .rest-are t a (omega arith) ∙ (drawn .numbers (u - t) (omega arith) ∙ sym x))
 
     pub laid-lt : (t : ℕ) → k / slotBits < t → t ≤ u + 1 → getD ps t 0 < s .n
     laid-lt t a b = rw (ps-is t a b)
-        (path-lt s i k w u first i< k≤ (g .new) none-below high (g .at-node) no-node enough t a b)
+        (path-lt gap-below high enough t a b)
 
     words : {ws′ : List ℕ} → T (enterable k w) → ws′ ≡ built ws ps i k w u → ws′ ≡ render (storeNew (s .list) i k w)
         (newPlaces (s .list) (storeNew (s .list) i k w) (s .places)) (s .n)
-    words st e = e ∙ words-after s i k w u first i< k≤ (g .new) none-below high (g .at-node) no-node enough
+    words st e = e ∙ words-after gap-below high enough
         (enterable-some k w st) ps ps-is
 
     pub below-done : {ws′ : List ℕ} {e : Entry} → T (enterable k w) → e ≡ entryOf i k w 0 → ws′ ≡ built ws ps i k w u →
         Stores (s .n) (s .list) (s .places) (storeNew (s .list) i k w) i ws ws′ (Done e)
-    below-done st q e = stores-unmarked s i k w i< k≤ (g .new) none-below enough q (words st e)
+    below-done st q e = stores-unmarked s (g .new) none-below enough q (words st e)
 
     pub below-map : {ws′ : List ℕ} → T (enterable k w) → w < 2 ^ 64 → ws′ ≡ built ws ps i k w u → FreeMap ws′ ms
-    below-map st w< e = map-left s i k w i< k≤ (g .new) none-below enough st w< (words st e)
+    below-map st w< e = map-left s (g .new) none-below enough st w< (words st e)
         (left-new (s .places) (newNodes (s .list) (storeNew (s .list) i k w)) ms
         (subst (λ (y : ℕ). MapOf (leftFree (s .places) y) ms) (sym needed-as) (drawn .left)))
 
 -- AS THE CODE HAS IT: empty slots of the entry's node
-module _ {ws : List ℕ} (s : WellFormed ws) (i k w u a : ℕ) (i< : i < 2 ^ 64) (k≤ : k ≤ 63)
-    (g : AtGap (s .list) (num s) i k u a) (tier-is : k / slotBits ≡ u)
+module _ {ws : List ℕ} (s : WellFormed ws) {i k w u a : ℕ}
+    (g : AtGap (s .list) (num s) i k w u a) (tier-is : k / slotBits ≡ u)
     (empty : (t : ℕ) → t < span k → getD ws (slotPlace a (offset i k + t)) 0 ≡ 0) where
   abbrev b₀ : ℕ
   b₀ = block (tierOrder (k / slotBits + 1)) i
@@ -521,17 +527,17 @@ module _ {ws : List ℕ} (s : WellFormed ws) (i k w u a : ℕ) (i< : i < 2 ^ 64)
       look (zero-starts (s .list) (num s) (k / slotBits) (slots * b₀ + (offset i k + t)) (sorted-ok (s .valid)) (slot-zero t p)) m
       e)
 
-  abbrev no-tier : (t : ℕ) → k / slotBits < t → t ≤ u → has (s .list) t (block (tierOrder t) i) ≡ false
-  no-tier t a b = absurd (omega arith)
+  gap-in : Gap s i k w u a
+  gap-in = record { new = g .new; none-start = none-in; at = g .at-node; not-there = λ t a b. absurd (omega arith) }
 
   abbrev high₀ : k / slotBits ≤ u
   high₀ = omega arith
 
   none-needed : needed (s .list) (storeNew (s .list) i k w) ≡ 0
-  none-needed = need-is s i k w u a i< k≤ (g .new) none-in high₀ (g .at-node) no-tier ∙ omega arith
+  none-needed = need-is gap-in high₀ ∙ omega arith
 
-  enough₀ : needed (s .list) (storeNew (s .list) i k w) ≤ freeCount (s .places)
-  enough₀ = omega (arith, none-needed)
+  enough₀ : Enough (s .n) (s .list) (s .places) (storeNew (s .list) i k w)
+  enough₀ = record { placed = s .placed; free = omega (arith, none-needed) }
 
   words₀ : {ws′ : List ℕ} → T (enterable k w) → ws′ ≡ settled ws a (offset i k) (span k) w → ws′ ≡ render (storeNew (s .list) i k w)
       (newPlaces (s .list) (storeNew (s .list) i k w) (s .places)) (s .n)
@@ -544,20 +550,20 @@ module _ {ws : List ℕ} (s : WellFormed ws) (i k w u a : ℕ) (i< : i < 2 ^ 64)
       let y : u + 1 ≡ k / slotBits + 1 = omega arith in
       let same : settled ws a (offset i k) (span k) w ≡ built ws (upTo (λ t. a) 0 (k / slotBits + 2)) i k w u =
       rw (z, y, eq-eqb (k / slotBits + 1) (k / slotBits + 1) refl, num-is) refl in
-      e ∙ (same ∙ words-after s i k w u a i< k≤ (g .new) none-in high₀ (g .at-node) no-tier enough₀ (enterable-some k w st) ps
-      (λ t p q. let f : t ≡ k / slotBits + 1 = omega arith in
+      e ∙ (same ∙ words-after gap-in high₀ enough₀ (enterable-some k w st)
+      ps (λ t p q. let f : t ≡ k / slotBits + 1 = omega arith in
       let f′ : t ≡ suc u = omega arith in
       ap (λ (y : ℕ). getD (upTo (λ t. a) 0 (k / slotBits + 2)) y 0) f ∙ (num-is ∙
-      rw f′ (sym (first-is s i k w u a i< k≤ (g .new) none-in high₀ (g .at-node) no-tier enough₀)))))
+      rw f′ (sym (first-is gap-in high₀ enough₀)))))
 
   pub slots-done : {ws′ : List ℕ} {e : Entry} → T (enterable k w) → e ≡ entryOf i k w 0 →
       ws′ ≡ settled ws a (offset i k) (span k) w →
       Stores (s .n) (s .list) (s .places) (storeNew (s .list) i k w) i ws ws′ (Done e)
-  slots-done st q e = stores-unmarked s i k w i< k≤ (g .new) none-in enough₀ q (words₀ st e)
+  slots-done st q e = stores-unmarked s (g .new) none-in enough₀ q (words₀ st e)
 
   pub slots-map : {ws′ ms : List ℕ} → T (enterable k w) → w < 2 ^ 64 → FreeMap ws ms →
       ws′ ≡ settled ws a (offset i k) (span k) w → FreeMap ws′ ms
-  slots-map {ms = ms} st w< F e = map-left s i k w i< k≤ (g .new) none-in enough₀ st w< (words₀ st e)
+  slots-map {ms = ms} st w< F e = map-left s (g .new) none-in enough₀ st w< (words₀ st e)
       (left-new (s .places) (newNodes (s .list) (storeNew (s .list) i k w)) ms
       (subst (λ (y : ℕ). MapOf (leftFree (s .places) y) ms) (sym none-needed)
       (drawn-none (s .places) [] ms (map-places s F) .left)))

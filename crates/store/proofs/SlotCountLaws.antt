@@ -16,7 +16,7 @@ use Rattle.blocks.proofs.ListLaws.{each, look, any-none, in-any, first-none}
 use Rattle.blocks.proofs.BlockLaws.{block-at, block-block, block-up}
 use Rattle.blocks.proofs.CountLaws.{count-same, count-none, count-all, count-change, count-run}
 use Rattle.model.specs.declared.Entry.{Entry}
-use Rattle.model.specs.Model.{over, covers, within, Valid}
+use Rattle.model.specs.Model.{covers, within}
 use Rattle.model.specs.ByBlock.{storeNew}
 use Rattle.model.proofs.RangeLaws.{Apart, Inside, covers-order, covers-run}
 use Rattle.tree.specs.Tree.{height, tierOrder, slots, slotBits}
@@ -30,10 +30,11 @@ use Rattle.layout.specs.Words.{filledOf}
 use Rattle.layout.proofs.FieldLaws.{filled-same}
 use Rattle.layout.proofs.FreshLaws.{apart-slot, none-over}
 use Rattle.layout.proofs.RenderWordLaws.{slot-node}
-use Rattle.plan.proofs.AfterStore.{Lies, lies, on-path, in-run, off, rooms, lows, whole-top, apart-zero}
-use Rattle.plan.proofs.Reading.{head-zero}
+use Rattle.plan.proofs.AfterStoreLaws.{Lies, lies, on-path, in-run, off, rooms, lows, whole-top, apart-zero}
+use Rattle.plan.proofs.WalkLaws.{head-zero}
 use Rattle.write.specs.Writes.{span, offset}
 use Rattle.write.proofs.RunLaws.{run-fits, slot-in-run, run-slot, entry-word, sibling-word}
+use Rattle.plan.specs.Plan.{NewStore}
 
 -- exactly those of a run, or exactly one
 only-run : (g : ℕ → Bool) (a c n : ℕ) → a + c ≤ n → ((j : ℕ) → j < n → (a ≤ j → j < a + c → ⊥) → g j ≡ false) →
@@ -85,8 +86,7 @@ filled-none : (l : List Entry) (ν : Numbering) (u b : ℕ) → ((o : ℕ) → o
 unfolding filledAt
 filled-none l ν u b z = count-none (λ o. not (eqb (slot l ν u (slots * b + o)) 0)) slots (λ o h. rw (z o h))
 
-module _ (l : List Entry) (valid : Valid l) (i k w : ℕ) (i< : i < 2 ^ 64) (k≤ : k ≤ 63)
-    (new : any (over i k) l ≡ false) (ν : Numbering) where
+module _ {l : List Entry} {i k w : ℕ} (new : NewStore l i k w) (ν : Numbering) where
   abbrev l′ : List Entry
   l′ = storeNew l i k w
 
@@ -95,7 +95,7 @@ module _ (l : List Entry) (valid : Valid l) (i k w : ℕ) (i< : i < 2 ^ 64) (k�
 
   -- APART FROM THE RANGE
   off-slot : (u c : ℕ) → Apart i k (tierOrder u) c → slot l′ ν u c ≡ slot l ν u c
-  off-slot u c a = slot-apart i k w l ν ν u c (rooms l valid i k w i< k≤ new) a (λ _. refl)
+  off-slot u c a = slot-apart i k w l ν ν u c (rooms new) a (λ _. refl)
 
   pub apart-count : (u b : ℕ) → Apart i k (tierOrder (suc u)) b → filledAt l′ ν u b ≡ filledAt l ν u b
   unfolding filledAt
@@ -152,7 +152,7 @@ module _ (l : List Entry) (valid : Valid l) (i k w : ℕ) (i< : i < 2 ^ 64) (k�
                 (omega arith) (eqb-true _ _ t)) ∙ at),
           ))) e)
           (λ s. let o : tierOrder u ≤ x .order = ltb-false _ _ s in
-          let q : x .order ≤ k = look (rooms l valid i k w i< k≤ new) m (eq-eqb _ _
+          let q : x .order ≤ k = look (rooms new) m (eq-eqb _ _
           (block-up {j = tierOrder u} {k = x .order} i (block (tierOrder u) i * 2 ^ tierOrder u) o (sym at) ∙ eqb-true _ _ t)) in
           omega arith)
 
@@ -161,7 +161,7 @@ module _ (l : List Entry) (valid : Valid l) (i k w : ℕ) (i< : i < 2 ^ 64) (k�
       any (within (tierOrder (suc u)) (block (tierOrder (suc u)) i)) l ≡ false → (o : ℕ) → o < slots →
       slot l ν u (slots * block (tierOrder (suc u)) i + o) ≡ 0
   empty-slots u h e o lt = empty-node l ν u (block (tierOrder (suc u)) i) e
-      (none-over i k w l (rooms l valid i k w i< k≤ new) u h e) (slots * block (tierOrder (suc u)) i + o) (omega arith)
+      (none-over i k w l (rooms new) u h e) (slots * block (tierOrder (suc u)) i + o) (omega arith)
 
   pub empty-count : (u : ℕ) → k < tierOrder (suc u) →
       any (within (tierOrder (suc u)) (block (tierOrder (suc u)) i)) l ≡ false →
@@ -193,12 +193,12 @@ module _ (l : List Entry) (valid : Valid l) (i k w : ℕ) (i< : i < 2 ^ 64) (k�
     run-full t h =
         byT (eqb t 0)
         (λ z. let e : t ≡ 0 = eqb-true _ _ z in
-        rw (e, entry-word i k w l ν (rooms l valid i k w i< k≤ new), ne-eqb w 0 some-word))
+        rw (e, entry-word i k w l ν (rooms new), ne-eqb w 0 some-word))
         (λ z. let ne : t ≡ 0 → ⊥ = eqb-false _ _ z in
         let e : t ≡ t - 1 + 1 = omega arith in
         rw (
           e,
-          sibling-word i k w l ν (rooms l valid i k w i< k≤ new) (t - 1) (omega arith),
+          sibling-word i k w l ν (rooms new) (t - 1) (omega arith),
           ne-eqb (siblingWord (offset i k)) 0 (omega arith),
         ))
 
@@ -229,10 +229,10 @@ module _ (l : List Entry) (valid : Valid l) (i k w : ℕ) (i< : i < 2 ^ 64) (k�
 
     -- the head grows over a run that has the whole old tree
     pub entry-whole : height l < height l′ → block k i ≡ 0 → filledAt l′ ν v b₀ ≡ span k
-    entry-whole g e = entry-alone (λ j h a. shrunk l valid (lows l valid i k w i< k≤ new) ν v
-        (omega (arith, whole-top l valid i k w i< k≤ new g e)) (slots * b₀ + j)
+    entry-whole g e = entry-alone (λ j h a. shrunk l (new .valid) (lows new) ν v
+        (omega (arith, whole-top new g e)) (slots * b₀ + j)
         (byT (eqb (slots * b₀ + j) 0)
-        (λ z. absurd (apart-zero l valid i k w i< k≤ new g v
+        (λ z. absurd (apart-zero new g v
         (subst (λ (c : ℕ). Apart i k (tierOrder v) c) (eqb-true _ _ z) a) e))
         (λ z. let ne : slots * b₀ + j ≡ 0 → ⊥ = eqb-false _ _ z in omega arith)))
 
@@ -244,7 +244,7 @@ module _ (l : List Entry) (valid : Valid l) (i k w : ℕ) (i< : i < 2 ^ 64) (k�
     any-none (within (tierOrder v) c) (each l (λ x m s. look none m (inside (x .base) (within-only (tierOrder v) c x s)))),
     first-none (covers (c * 2 ^ tierOrder v)) (each l (λ x m s.
         let run : block k (c * 2 ^ tierOrder v) ≡ block k i = inside (c * 2 ^ tierOrder v) (block-at (tierOrder v) c) in
-        let o : x .order ≤ k = covers-order i k x (c * 2 ^ tierOrder v) (look (rooms l valid i k w i< k≤ new) m) s run in
+        let o : x .order ≤ k = covers-order i k x (c * 2 ^ tierOrder v) (look (rooms new) m) s run in
         look none m (sym (covers-run i k x (c * 2 ^ tierOrder v) o s) ∙ run))),
   )
     where
@@ -262,11 +262,11 @@ module _ (l : List Entry) (valid : Valid l) (i k w : ℕ) (i< : i < 2 ^ 64) (k�
   zero-full : (u : ℕ) → height l ≤ u → nonempty l ≡ true → not (eqb (slot l ν u 0) 0) ≡ true
   zero-full u h s =
       byT (eqb u (height l))
-      (λ t. rw (eqb-true u (height l) t) (head-zero l ν valid ∙ s))
+      (λ t. rw (eqb-true u (height l) t) (head-zero l ν (new .valid) ∙ s))
       (λ t. let ne : u ≡ height l → ⊥ = eqb-false _ _ t in
-      full-node l ν u 0 (above l (height l) (height-fits (lows l valid i k w i< k≤ new) (le-refl _)) u 0 (omega arith) ∙ rw s))
+      full-node l ν u 0 (above l (height l) (height-fits (lows new) (le-refl _)) u 0 (omega arith) ∙ rw s))
 
   pub zero-count : (u : ℕ) → height l ≤ u → nonempty l ≡ true → filledAt l ν u 0 ≡ 1
   unfolding filledAt
   zero-count u h s = only-one (λ o. not (eqb (slot l ν u (slots * 0 + o)) 0)) 0 slots (omega arith)
-      (λ j lt ne. rw (shrunk l valid (lows l valid i k w i< k≤ new) ν u h (slots * 0 + j) (omega arith))) (zero-full u h s)
+      (λ j lt ne. rw (shrunk l (new .valid) (lows new) ν u h (slots * 0 + j) (omega arith))) (zero-full u h s)
