@@ -18,11 +18,13 @@ use Rattle.tree.specs.Tree.{slots}
 use Rattle.layout.specs.Words.{slotPlace, filledOf}
 use Rattle.layout.specs.Pool.{Pool, poolOf}
 use Rattle.layout.specs.Reading.{Decides, Internal, Plain}
-use Rattle.scan.specs.Local.{SlotsOk, UsedFrom}
-use Rattle.scan.specs.Passes.{AllMarks, fillBit, Filled, filledTo, Lowest, OddTo, PlainFilled, NoLoose, Stepped, SlotsFilled}
-use Rattle.scan.proofs.PassLaws.{used-of, unused-of}
+use Rattle.local.specs.Local.{SlotsOk, UsedFrom}
+use Rattle.steps.specs.Steps.{AllMarks, filledTo, Stepped, SlotsFilled}
+use Rattle.scan.specs.Scan.{fillBit, Filled, Lowest, OddTo, PlainFilled, NoLoose}
+use Rattle.scan.proofs.UsedLaws.{used-of, unused-of}
 use Rattle.scan.proofs.FilledLaws.{bit-empty}
-use Rattle.scan.proofs.StepLaws.{Gone, gone-start, gone-on, gone-past}
+use Rattle.steps.proofs.StepLaws.{Gone, gone-start, gone-on}
+use Rattle.scan.proofs.FilledLaws.{gone-past}
 
 -- all have it
 count-full : (f : ℕ → Bool) (m : ℕ) → countTo f m ≡ m → (j : ℕ) → j < m → f j ≡ true

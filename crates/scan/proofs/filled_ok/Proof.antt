@@ -1,14 +1,15 @@
 -- `filled_ok`: whether the slots of node n are as they must be and k of them filled, from one filled slot to the next.
-use mathlib.Core.Path.{_≡_, sym, ap, _∙_}
+use mathlib.Core.Path.{sym, ap, _∙_}
 use native.Mathlib.Omega.{arith}
 use borrow.Author.Tests.{not-true, not-false}
 use borrow.Author.Needs.{needs}
 use Prim.Native.Nat.{_-_}
 use Rattle.tree.specs.Tree.{slots}
 use Rattle.layout.specs.Pool.{poolOf, slotOf}
-use Rattle.scan.proofs.TestLaws.{no! }
-use Rattle.scan.proofs.WordLaws.{among-clear, clear-among}
-use Rattle.scan.proofs.StepLaws.{gap-clear, step-child, child-bad}
+use Rattle.steps.proofs.DecideLaws.{no! }
+use Rattle.steps.proofs.WordLaws.{among-clear, clear-among}
+use Rattle.scan.proofs.FilledLaws.{gap-clear}
+use Rattle.steps.proofs.StepLaws.{step-child, child-bad}
 use Rattle.scan.proofs.TallyLaws.{Tallied, tallied-start, tallied-past, tallied-leap, all-tallied}
 use Rattle.scan.proofs.filled_ok.Statement.{statement}
 use Rattle.scan.proofs.filled_ok.Tie as tie

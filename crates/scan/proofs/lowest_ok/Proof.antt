@@ -1,6 +1,6 @@
 -- `lowest_ok`: whether the slots of leaf n are as they must be and k of them filled.
 use borrow.Author.Needs.{needs}
-use Rattle.scan.proofs.TestLaws.{yes! }
+use Rattle.steps.proofs.DecideLaws.{yes! }
 use Rattle.scan.proofs.lowest_ok.Statement.{statement}
 use Rattle.scan.proofs.lowest_ok.Tie as tie
 

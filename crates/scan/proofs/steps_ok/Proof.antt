@@ -3,7 +3,7 @@ use native.Mathlib.Omega.{arith}
 use Prim.Native.Nat.{_-_}
 use Rattle.tree.specs.Tree.{slots}
 use Rattle.layout.specs.Pool.{poolOf}
-use Rattle.scan.proofs.TestLaws.{no! }
+use Rattle.steps.proofs.DecideLaws.{no! }
 use Rattle.scan.proofs.TallyLaws.{Tallied, tallied-start, tallied-on, all-tallied}
 use Rattle.scan.proofs.steps_ok.Statement.{statement}
 use Rattle.scan.proofs.steps_ok.Tie as tie

@@ -1,0 +1,38 @@
+-- `reserved_ok`: whether a slot may be reserved.
+use mathlib.Core.Path.{subst}
+use native.Mathlib.Omega.{arith}
+use Prim.Native.Nat.{ℕ}
+use Rattle.steps.specs.Steps.{Counted}
+use Rattle.layout.specs.Pool.{poolOf}
+use Rattle.steps.proofs.DecideLaws.{no! }
+use Rattle.steps.proofs.StepLaws.{reserved-decides}
+use Rattle.steps.proofs.reserved_ok.Statement.{statement}
+use Rattle.steps.proofs.reserved_ok.Tie as tie
+
+returns : tie.Need-returns
+returns c = no! (λ i. omega (arith, c .if1 .taken, i .bottom))
+
+shr-if2 : tie.Need-shr-if2
+shr-if2 c = omega arith
+
+returns-2 : tie.Need-returns-2
+returns-2 c = let s = c .before .before .before in no! (λ i. c .if2 .taken (s .pre .1 .1 .cleared (s .args .j) (i .unmarked)))
+
+sibling-word-requires : tie.Need-sibling-word-requires
+sibling-word-requires c κs = omega arith
+
+same-slots-requires : tie.Need-same-slots-requires
+same-slots-requires c κs = omega arith
+
+returns-3 : tie.Need-returns-3
+returns-3 c =
+    let s = c .before .before .before .before .before in
+    let P = poolOf (s .args .pool .now) in
+    reserved-decides P (s .args .n) (s .args .v) (s .args .j) (c .same-slots .result) (s .args .m) (omega arith)
+    (subst (λ (w : ℕ). Counted P (s .args .n) (s .args .j) w (c .same-slots .result)) (c .before .sibling-word .ensures)
+    (c .same-slots .ensures)) (omega arith) (s .pre .1 .1) (c .before .before .if2 .left)
+
+pub reserved-ok-spec : {M : Type 1} → statement M
+reserved-ok-spec =
+    tie.close
+    (tie.spec returns shr-if2 returns-2 sibling-word-requires same-slots-requires returns-3)
