@@ -38,7 +38,8 @@ use Rattle.batch.specs.declared.Command.{Command}
 use Rattle.batch.specs.declared.Command.the-variants.{Store, Load, Erase, Mark, Unmark, Find, Reserve}
 use Rattle.batch.specs.Reply.{replyTag}
 use Rattle.batch.specs.Fits.{Fits}
-use Rattle.execute.specs.Execute.{execute, short, refuse, replyOf, tooFewNodes, reserving, isTaken}
+use Rattle.execute.specs.Execute.{execute, short, refuse, replyOf, reserving}
+use Rattle.answers.specs.Answers.{tooFewNodes, isCovered}
 use Rattle.execute.specs.State.{State, Kept, next, states}
 use Rattle.tree.proofs.ReadLaws.{over-none}
 
@@ -166,7 +167,7 @@ module _ (n : ℕ) (l : List Entry) (i k w : ℕ) (k≤ : k ≤ maxOrder) (al : 
 
 -- A RESERVATION: 15 where the index is covered, else exactly as a store
 module _ (n : ℕ) (l : List Entry) (i : ℕ) where
-  pub taken-15 : {e : Entry} → covering l i ≡ some e → execute n l (Reserve i) ≡ refuse l 135 isTaken
+  pub taken-15 : {e : Entry} → covering l i ≡ some e → execute n l (Reserve i) ≡ refuse l 135 isCovered
   unfolding execute
   taken-15 q = rw q
 

@@ -19,7 +19,8 @@ use Rattle.batch.specs.Reply.{answered, answeredBy}
 use Rattle.store.specs.declared.Stored.{Stored}
 use Rattle.store.specs.declared.Stored.the-variants.{Done, Short, Taken}
 pub use Rattle.execute.specs.declared.Put.{Put}
-use Rattle.execute.specs.Execute.{absent, tooFewNodes, isTaken, execute}
+use Rattle.execute.specs.Execute.{execute}
+use Rattle.answers.specs.Answers.{absent, tooFewNodes, isCovered}
 use Rattle.execute.specs.State.{State, next}
 
 -- the reply by what covers the index
@@ -36,7 +37,7 @@ loadedReply t (Present e d) = answeredBy t e d
 abbrev pub reservedReply : Stored → Reply
 reservedReply (Done e) = answeredBy 135 e 0
 reservedReply Short = answered 135 tooFewNodes 0 0
-reservedReply Taken = answered 135 isTaken 0 0
+reservedReply Taken = answered 135 isCovered 0 0
 
 -- a store, or a reservation
 abbrev pub putting : (i k w : ℕ) → Bool → Command

@@ -29,40 +29,19 @@ use Rattle.batch.specs.declared.Command.{Command}
 use Rattle.batch.specs.declared.Command.the-variants.{Store, Load, Erase, Mark, Unmark, Find, Reserve}
 use Rattle.batch.specs.declared.Reply.{Reply}
 use Rattle.batch.specs.Reply.{replyTag, answered, answeredBy}
-
--- THE ANSWERS that stand in a reply
-abbrev pub orderAbove : ℕ
-orderAbove = 5
-
-abbrev pub notStorable : ℕ
-notStorable = 6
-
-abbrev pub markAbove : ℕ
-markAbove = 7
-
-abbrev pub firstAbove : ℕ
-firstAbove = 8
-
-abbrev pub noBudget : ℕ
-noBudget = 9
-
-abbrev pub absent : ℕ
-absent = 10
-
-abbrev pub tooFewNodes : ℕ
-tooFewNodes = 11
-
-abbrev pub findEnded : ℕ
-findEnded = 12
-
-abbrev pub findPaused : ℕ
-findPaused = 13
-
-abbrev pub notAligned : ℕ
-notAligned = 14
-
-abbrev pub isTaken : ℕ
-isTaken = 15
+use Rattle.answers.specs.Answers.{
+  badOrder,
+  badEntry,
+  badMark,
+  firstAboveLast,
+  noBudget,
+  absent,
+  tooFewNodes,
+  ended,
+  paused,
+  notAligned,
+  isCovered,
+}
 
 -- what a command comes to
 pub record Executed : Type 0 where
@@ -93,7 +72,7 @@ storing n t l i l′ =
 -- R204 to R206: by what covers i; a reservation is stored with order 0
 abbrev pub reserving : ℕ → (tag : ℕ) → List Entry → ℕ → Option Entry → Executed
 reserving n t l i none = storing n t l i (store l i 0 reservedWord)
-reserving n t l i (some e) = refuse l t isTaken
+reserving n t l i (some e) = refuse l t isCovered
 
 -- R99, and the entry that went (R51), or the reservation (R207)
 abbrev pub erasing : (tag : ℕ) → List Entry → ℕ → Executed
@@ -106,23 +85,23 @@ marking t l i m b = record { reply = replyOf t 0 (present (covering (remark l i 
 -- R52, R53, R80
 abbrev pub finding : (tag : ℕ) → Outcome → Reply
 finding t (Found e n) = answeredBy t e n
-finding t (Ended n) = answered t findEnded 0 n
-finding t (Paused p n) = answered t findPaused p n
+finding t (Ended n) = answered t ended 0 n
+finding t (Paused p n) = answered t paused p n
 
 -- R81, R181: the tests in the order of their numbers, but for 14, between 5 and 6
 module _ (n : ℕ) (l : List Entry) where
   abbrev pub executeAs : (tag : ℕ) → Command → Executed
   executeAs t (Store i k w) =
-      pick (ltb maxOrder k) (refuse l t orderAbove)
+      pick (ltb maxOrder k) (refuse l t badOrder)
       (pick (not (aligned k i)) (refuse l t notAligned)
-      (pick (not (storable w)) (refuse l t notStorable) (storing n t l i (store l i k w))))
+      (pick (not (storable w)) (refuse l t badEntry) (storing n t l i (store l i k w))))
   executeAs t (Load i) = leave l (replyOf t (depth l i) (present (covering l i)))
   executeAs t (Erase i) = erasing t l i
-  executeAs t (Mark i m) = pick (leb markCount m) (refuse l t markAbove) (marking t l i m true)
-  executeAs t (Unmark i m) = pick (leb markCount m) (refuse l t markAbove) (marking t l i m false)
+  executeAs t (Mark i m) = pick (leb markCount m) (refuse l t badMark) (marking t l i m true)
+  executeAs t (Unmark i m) = pick (leb markCount m) (refuse l t badMark) (marking t l i m false)
   executeAs t (Find a z f k) =
-      pick (ltb anyMark f) (refuse l t markAbove)
-      (pick (ltb z a) (refuse l t firstAbove)
+      pick (ltb anyMark f) (refuse l t badMark)
+      (pick (ltb z a) (refuse l t firstAboveLast)
       (pick (eqb k 0) (refuse l t noBudget) (leave l (finding t (find l a z f k)))))
   executeAs t (Reserve i) = reserving n t l i (covering l i)
 

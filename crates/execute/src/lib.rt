@@ -1,6 +1,18 @@
 // One command of a batch on a pool: its reply, and the pool's words after it.
 //
 // pool: the borrowed words, well-formed; map: the map of its free nodes; tag: the reply's.
+use answers::ABSENT;
+use answers::BAD_ENTRY;
+use answers::BAD_MARK;
+use answers::BAD_ORDER;
+use answers::COVERED;
+use answers::DONE;
+use answers::ENDED;
+use answers::FIRST_ABOVE_LAST;
+use answers::NO_BUDGET;
+use answers::NOT_ALIGNED;
+use answers::PAUSED;
+use answers::TOO_FEW_NODES;
 use batch::Command;
 use batch::Reply;
 use layout::pow2;
@@ -25,42 +37,20 @@ ghost use Rattle.execute.specs.Execute.{finding};
 ghost use Rattle.execute.specs.Contracts.{coveredReply, loadedReply, reservedReply, asStored, putting, putOf, noPut};
 ghost use Rattle.execute.specs.Contracts.{remarking, replyTo, Settles, Executes};
 
-// The answers that stand in a reply, and the reply's tags.
-const ORDER_ABOVE: u64 = 5;
+// The tags of replies.
+const STORE_REPLY: u64 = 129;
 
-const NOT_STORABLE: u64 = 6;
+const LOAD_REPLY: u64 = 130;
 
-const MARK_ABOVE: u64 = 7;
+const ERASE_REPLY: u64 = 131;
 
-const FIRST_ABOVE: u64 = 8;
+const MARK_REPLY: u64 = 132;
 
-const NO_BUDGET: u64 = 9;
+const UNMARK_REPLY: u64 = 133;
 
-const ABSENT: u64 = 10;
+const FIND_REPLY: u64 = 134;
 
-const TOO_FEW_NODES: u64 = 11;
-
-const FIND_ENDED: u64 = 12;
-
-const FIND_PAUSED: u64 = 13;
-
-const NOT_ALIGNED: u64 = 14;
-
-const TAKEN: u64 = 15;
-
-const STORED: u64 = 129;
-
-const LOADED: u64 = 130;
-
-const ERASED: u64 = 131;
-
-const MARKED: u64 = 132;
-
-const UNMARKED: u64 = 133;
-
-const FOUND: u64 = 134;
-
-const RESERVED: u64 = 135;
+const RESERVE_REPLY: u64 = 135;
 
 // The highest order of an entry, the number of marks, and the filter that takes any entry.
 const MAX_ORDER: u64 = 63;
@@ -103,7 +93,7 @@ fn answered_by(tag: u64, e: Entry, count: u64) -> Reply
     let word = shown_word(e);
     Reply {
         tag,
-        answer: 0,
+        answer: DONE,
         index: e.base,
         order: e.order,
         word,
@@ -125,8 +115,8 @@ fn loaded_reply(x: Loaded) -> Reply
     ensures { λ r. ⌜ r ≡ loadedReply 130 x ⌝ }
 {
     match x {
-        Loaded::Absent(d) => answered(LOADED, ABSENT, 0, d),
-        Loaded::Present(e, d) => answered_by(LOADED, e, d),
+        Loaded::Absent(d) => answered(LOAD_REPLY, ABSENT, 0, d),
+        Loaded::Present(e, d) => answered_by(LOAD_REPLY, e, d),
     }
 }
 
@@ -134,9 +124,9 @@ fn found_reply(x: Outcome) -> Reply
     ensures { λ r. ⌜ r ≡ finding 134 x ⌝ }
 {
     match x {
-        Outcome::Found(e, n) => answered_by(FOUND, e, n),
-        Outcome::Ended(n) => answered(FOUND, FIND_ENDED, 0, n),
-        Outcome::Paused(p, n) => answered(FOUND, FIND_PAUSED, p, n),
+        Outcome::Found(e, n) => answered_by(FIND_REPLY, e, n),
+        Outcome::Ended(n) => answered(FIND_REPLY, ENDED, 0, n),
+        Outcome::Paused(p, n) => answered(FIND_REPLY, PAUSED, p, n),
     }
 }
 
@@ -145,9 +135,9 @@ fn reserved_reply(x: Stored) -> Reply
     ensures { λ r. ⌜ r ≡ reservedReply x ⌝ }
 {
     match x {
-        Stored::Done(e) => answered_by(RESERVED, e, 0),
-        Stored::Short => answered(RESERVED, TOO_FEW_NODES, 0, 0),
-        Stored::Taken => answered(RESERVED, TAKEN, 0, 0),
+        Stored::Done(e) => answered_by(RESERVE_REPLY, e, 0),
+        Stored::Short => answered(RESERVE_REPLY, TOO_FEW_NODES, 0, 0),
+        Stored::Taken => answered(RESERVE_REPLY, COVERED, 0, 0),
     }
 }
 
@@ -191,13 +181,13 @@ fn run_find(pool: &[u64], first: u64, last: u64, filter: u64, budget: u64) -> Re
     ensures { λ r. ⌜ ((s : WellFormed (now (pool .entry))) → r ≡ replyTo s (Command.Find first last filter budget)) ⌝ }
 {
     if filter > ANY_MARK {
-        return answered(FOUND, MARK_ABOVE, 0, 0);
+        return answered(FIND_REPLY, BAD_MARK, 0, 0);
     }
     if first > last {
-        return answered(FOUND, FIRST_ABOVE, 0, 0);
+        return answered(FIND_REPLY, FIRST_ABOVE_LAST, 0, 0);
     }
     if budget == 0 {
-        return answered(FOUND, NO_BUDGET, 0, 0);
+        return answered(FIND_REPLY, NO_BUDGET, 0, 0);
     }
     found_reply(lookup::find(pool, first, last, filter, budget))
 }
@@ -206,7 +196,7 @@ fn run_find(pool: &[u64], first: u64, last: u64, filter: u64, budget: u64) -> Re
 fn remarked_tag(on: bool) -> u64
     ensures { λ r. ⌜ r ≡ pick on 132 133 ⌝ }
 {
-    if on { MARKED } else { UNMARKED }
+    if on { MARK_REPLY } else { UNMARK_REPLY }
 }
 
 // A mark where the bit is on, an unmark where it is off.
@@ -217,7 +207,7 @@ fn run_remark(pool: &mut [u64], index: u64, mark: u64, on: bool) -> Reply
 {
     let tag = remarked_tag(on);
     if mark >= MARKS {
-        return answered(tag, MARK_ABOVE, 0, 0);
+        return answered(tag, BAD_MARK, 0, 0);
     }
     let c = marks::set_mark(pool, index, mark, on);
     covered_reply(tag, c)
@@ -230,7 +220,7 @@ fn run_erase(pool: &mut [u64], map: &mut [u64], index: u64) -> Reply
     ensures { λ _. ⌜ FreeMap (now (pool .exit)) (now (map .exit)) ⌝ }
 {
     let c = erase::erase(pool, map, index);
-    covered_reply(ERASED, c)
+    covered_reply(ERASE_REPLY, c)
 }
 
 // The reply to an unmark as the reply to a store that left the entry.
@@ -238,7 +228,7 @@ fn as_stored(r: Reply) -> Reply
     ensures { λ x. ⌜ x ≡ asStored r ⌝ }
 {
     Reply {
-        tag: STORED,
+        tag: STORE_REPLY,
         answer: r.answer,
         index: r.index,
         order: r.order,
@@ -261,7 +251,7 @@ fn unmatch(pool: &mut [u64], index: u64, e: Entry) -> Reply
         let r = run_remark(pool, index, MATCHED, false);
         return as_stored(r);
     }
-    answered_by(STORED, e, 0)
+    answered_by(STORE_REPLY, e, 0)
 }
 
 // The reply to a store by what it came to; only a reservation comes to the last.
@@ -271,8 +261,8 @@ fn stored_reply(pool: &mut [u64], index: u64, x: Stored) -> Reply
 {
     match x {
         Stored::Done(e) => unmatch(pool, index, e),
-        Stored::Short => answered(STORED, TOO_FEW_NODES, 0, 0),
-        Stored::Taken => answered(STORED, TOO_FEW_NODES, 0, 0),
+        Stored::Short => answered(STORE_REPLY, TOO_FEW_NODES, 0, 0),
+        Stored::Taken => answered(STORE_REPLY, TOO_FEW_NODES, 0, 0),
     }
 }
 
@@ -306,15 +296,15 @@ fn run_store(
     ensures { λ _. ⌜ FreeMap (now (pool .exit)) (now (map .exit)) ⌝ }
 {
     if order > MAX_ORDER {
-        return answered(STORED, ORDER_ABOVE, 0, 0);
+        return answered(STORE_REPLY, BAD_ORDER, 0, 0);
     }
     let aligned = is_aligned(index, order);
     let enterable = is_enterable(word, reserve);
     if !aligned {
-        return answered(STORED, NOT_ALIGNED, 0, 0);
+        return answered(STORE_REPLY, NOT_ALIGNED, 0, 0);
     }
     if !enterable {
-        return answered(STORED, NOT_STORABLE, 0, 0);
+        return answered(STORE_REPLY, BAD_ENTRY, 0, 0);
     }
     let outcome = store::store(pool, map, index, order, word);
     put_reply(pool, index, outcome, reserve)
@@ -367,7 +357,7 @@ fn as_put(c: Command) -> Put
 
 // For the commands that run_other is not called with.
 fn nothing() -> Reply {
-    answered(STORED, ORDER_ABOVE, 0, 0)
+    answered(STORE_REPLY, BAD_ORDER, 0, 0)
 }
 
 // Any command but a store and a reservation.

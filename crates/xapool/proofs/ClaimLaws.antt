@@ -38,7 +38,8 @@ use Rattle.execute.proofs.ExecuteLaws.{next-kept, states-kept, short-11, reserv
 use Rattle.execute.proofs.Footprint.{footprint, refused-words}
 use Rattle.execute.proofs.ReplyFits.{reply-fits}
 use Rattle.execute.proofs.TableLaws.{rows, row-sole}
-use Rattle.xapool.specs.Calls.{Called, run, runParsed, replies, result, done, listOver}
+use Rattle.xapool.specs.Calls.{Called, run, runParsed, replies, listOver}
+use Rattle.answers.specs.Answers.{result, done}
 use Rattle.xapool.specs.Running.{wordsOf}
 use Rattle.xapool.specs.Demand.{
   Call,
