@@ -50,23 +50,12 @@ use Rattle.batch.specs.declared.Command.{Command}
 use Rattle.batch.specs.declared.Command.the-variants.{Store, Load, Erase, Mark, Unmark, Find, Reserve}
 use Rattle.batch.specs.declared.Reply.{Reply}
 use Rattle.batch.specs.Reply.{answered}
-use Rattle.execute.specs.Execute.{Executed, execute, leave, refuse, replyOf, finding, marking}
+use Rattle.execute.specs.Execute.{execute, finding}
+use Rattle.commands.specs.Commands.{Executed, leave, refuse, replyOf, marking}
 use Rattle.answers.specs.Answers.{badOrder, badEntry, notAligned, badMark, firstAboveLast, noBudget, tooFewNodes}
 use Rattle.execute.proofs.ExecuteLaws.{index-aligned, erase-new, short-11, enough-0, taken-15, reserve-11, reserve-0}
-use Rattle.execute.specs.Contracts.{
-  coveredReply,
-  loadedReply,
-  reservedReply,
-  putting,
-  Put,
-  putOf,
-  remarking,
-  replyTo,
-  wordsTo,
-  asStored,
-  Settles,
-  Executes,
-}
+use Rattle.execute.specs.Contracts.{loadedReply, reservedReply, putting, Put, putOf, remarking, replyTo, wordsTo, asStored, Settles, Executes}
+use Rattle.commands.specs.Replies.{coveredReply}
 
 -- REPLIES
 pub loaded-is : (t d : ℕ) (o : Option Entry) → loadedReply t (loaded d o) ≡ replyOf t d o

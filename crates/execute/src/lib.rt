@@ -6,7 +6,6 @@ use answers::BAD_ENTRY;
 use answers::BAD_MARK;
 use answers::BAD_ORDER;
 use answers::COVERED;
-use answers::DONE;
 use answers::ENDED;
 use answers::FIRST_ABOVE_LAST;
 use answers::NO_BUDGET;
@@ -15,42 +14,36 @@ use answers::PAUSED;
 use answers::TOO_FEW_NODES;
 use batch::Command;
 use batch::Reply;
-use layout::pow2;
+use commands::ERASE_REPLY;
+use commands::FIND_REPLY;
+use commands::LOAD_REPLY;
+use commands::MARK_REPLY;
+use commands::RESERVE_REPLY;
+use commands::STORE_REPLY;
+use commands::UNMARK_REPLY;
+use commands::answered;
+use commands::answered_by;
+use commands::covered_reply;
+use commands::is_aligned;
+use commands::is_enterable;
 use lookup::Loaded;
 use lookup::Outcome;
-use model::Covered;
 use model::Entry;
-use model::shown_word;
 use store::Stored;
 ghost use mathlib.Core.Path.{_≡_};
 ghost use mathlib.Core.Bool.{true, false};
 ghost use mathlib.Core.List.{List};
 ghost use mathlib.Core.Option.{some};
-ghost use Prim.Native.Nat.{ℕ, _≤_};
-ghost use Rattle.blocks.specs.Choice.{pick, either};
-ghost use Rattle.model.specs.Model.{storable, reservedWord, maxOrder, aligned, matchedMark, covering, covered, remark};
+ghost use Prim.Native.Nat.{ℕ};
+ghost use Rattle.blocks.specs.Choice.{pick};
+ghost use Rattle.model.specs.Model.{reservedWord, matchedMark, covering, covered, remark};
 ghost use Rattle.layout.specs.Places.{render};
 ghost use Rattle.layout.specs.WellFormed.{WellFormed};
 ghost use Rattle.freemap.specs.FreeMap.{FreeMap};
-ghost use Rattle.batch.specs.Reply.{answered, answeredBy};
 ghost use Rattle.execute.specs.Execute.{finding};
-ghost use Rattle.execute.specs.Contracts.{coveredReply, loadedReply, reservedReply, asStored, putting, putOf, noPut};
+ghost use Rattle.commands.specs.Replies.{coveredReply};
+ghost use Rattle.execute.specs.Contracts.{loadedReply, reservedReply, asStored, putting, putOf, noPut};
 ghost use Rattle.execute.specs.Contracts.{remarking, replyTo, Settles, Executes};
-
-// The tags of replies.
-const STORE_REPLY: u64 = 129;
-
-const LOAD_REPLY: u64 = 130;
-
-const ERASE_REPLY: u64 = 131;
-
-const MARK_REPLY: u64 = 132;
-
-const UNMARK_REPLY: u64 = 133;
-
-const FIND_REPLY: u64 = 134;
-
-const RESERVE_REPLY: u64 = 135;
 
 // The highest order of an entry, the number of marks, and the filter that takes any entry.
 const MAX_ORDER: u64 = 63;
@@ -69,46 +62,6 @@ struct Put {
     order: u64,
     word: u64,
     reserve: bool,
-}
-
-// An answer with an index and a count, all else 0.
-fn answered(tag: u64, answer: u64, index: u64, count: u64) -> Reply
-    ensures { λ r. ⌜ r ≡ answered tag answer index count ⌝ }
-{
-    Reply {
-        tag,
-        answer,
-        index,
-        order: 0,
-        word: 0,
-        marks: 0,
-        count,
-    }
-}
-
-// Done, with an entry or a reservation and a count.
-fn answered_by(tag: u64, e: Entry, count: u64) -> Reply
-    ensures { λ r. ⌜ r ≡ answeredBy tag e count ⌝ }
-{
-    let word = shown_word(e);
-    Reply {
-        tag,
-        answer: DONE,
-        index: e.base,
-        order: e.order,
-        word,
-        marks: e.marks,
-        count,
-    }
-}
-
-fn covered_reply(tag: u64, c: Covered) -> Reply
-    ensures { λ r. ⌜ r ≡ coveredReply tag c ⌝ }
-{
-    match c {
-        Covered::Nothing => answered(tag, ABSENT, 0, 0),
-        Covered::By(e) => answered_by(tag, e, 0),
-    }
 }
 
 fn loaded_reply(x: Loaded) -> Reply
@@ -139,34 +92,6 @@ fn reserved_reply(x: Stored) -> Reply
         Stored::Short => answered(RESERVE_REPLY, TOO_FEW_NODES, 0, 0),
         Stored::Taken => answered(RESERVE_REPLY, COVERED, 0, 0),
     }
-}
-
-// An entry's word (R6).
-fn is_storable(word: u64) -> bool
-    ensures { λ r. ⌜ r ≡ storable word ⌝ }
-{
-    if word == 0 {
-        return false;
-    }
-    word / 4 * 4 + 2 != word
-}
-
-// A store's word, or that of a reservation.
-fn is_enterable(word: u64, reserve: bool) -> bool
-    ensures { λ r. ⌜ r ≡ either reserve (storable word) ⌝ }
-{
-    if reserve {
-        return true;
-    }
-    is_storable(word)
-}
-
-// A store's index is a multiple of 2^order (R180).
-fn is_aligned(index: u64, order: u64) -> bool
-    requires { ⌜ order ≤ maxOrder ⌝ }
-    ensures { λ r. ⌜ r ≡ aligned order index ⌝ }
-{
-    index % pow2(order) == 0
 }
 
 fn run_load(pool: &[u64], index: u64) -> Reply

@@ -23,7 +23,8 @@ use Rattle.batch.specs.Batch.{Parsed, Parsed.commands, Parsed.refused, parse}
 use Rattle.batch.specs.Reply.{replyBytes}
 use Rattle.listing.specs.Listing.{listed}
 use Rattle.listing.specs.Claims.{FitsListed}
-use Rattle.execute.specs.Execute.{Executed, execute}
+use Rattle.execute.specs.Execute.{execute}
+use Rattle.commands.specs.Commands.{Executed}
 use Rattle.answers.specs.Answers.{tooFewNodes, result, done, badBatch, replySpace}
 use Rattle.execute.specs.Part.{mayWrite}
 use Rattle.execute.specs.Table.{CommandRow}

@@ -4,7 +4,8 @@ use mathlib.Core.Path.{ap, ap₂, _∙_}
 use Rattle.batch.specs.Reply.{answered}
 use Rattle.erase.proofs.FreedLaws.{map-remark}
 use Rattle.answers.specs.Answers.{badMark}
-use Rattle.execute.specs.Contracts.{coveredReply, remarking}
+use Rattle.execute.specs.Contracts.{remarking}
+use Rattle.commands.specs.Replies.{coveredReply}
 use Rattle.execute.proofs.ReplyLaws.{leaves, remarks, remark-above, remark-runs}
 use borrow.Author.Needs.{needs}
 use Rattle.execute.proofs.run_remark.Statement.{statement}
