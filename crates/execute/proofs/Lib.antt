@@ -1,3 +1,4 @@
+pub mod EngineLaws
 pub mod ExecuteLaws
 pub mod ReplyLaws
 pub mod LocalLaws

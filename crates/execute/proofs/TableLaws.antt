@@ -43,7 +43,8 @@ use Rattle.lookup.specs.Load.{depth}
 use Rattle.lookup.specs.Find.{anyMark, find}
 use Rattle.batch.specs.declared.Command.{Command}
 use Rattle.batch.specs.declared.Command.the-variants.{Store, Load, Erase, Mark, Unmark, Find, Reserve}
-use Rattle.execute.specs.Execute.{Executed, execute, leave, replyOf, finding, marking, short}
+use Rattle.execute.specs.Execute.{execute, finding, short}
+use Rattle.commands.specs.Commands.{Executed, leave, replyOf, marking}
 use Rattle.batch.specs.declared.Reply.{Reply}
 use Rattle.batch.specs.Reply.{answered}
 use Rattle.execute.specs.Table.{CommandRow}

@@ -30,7 +30,7 @@ use Rattle.lookup.specs.Steps.{steps}
 use Rattle.batch.specs.declared.Command.{Command}
 use Rattle.batch.specs.declared.Command.the-variants.{Store, Load, Erase, Mark, Unmark, Find, Reserve}
 use Rattle.batch.specs.Reply.{answered, answeredBy}
-use Rattle.execute.specs.Execute.{Executed, leave, refuse}
+use Rattle.commands.specs.Commands.{Executed, leave, refuse}
 
 -- R66: the budget that no find uses up, and the steps that a find takes with it: to its match, or to its end
 abbrev pub enough : List Entry → ℕ

@@ -33,7 +33,8 @@ use Rattle.batch.specs.Batch.{
 }
 use Rattle.batch.specs.Reply.{replyBytes}
 use Rattle.batch.proofs.ParseLaws.{WasRead, was-read, Whole, whole, Onward, next-after, not-refused, parse-long, parse-rest}
-use Rattle.xapool.specs.Calls.{Called, badRecord, refuseCall, replies, run, runParsed}
+use Rattle.xapool.specs.Calls.{Called, refuseCall, replies, run, runParsed}
+use Rattle.answers.specs.Answers.{badBatch}
 use Rattle.xapool.specs.Demand.{Call.init, wordsAfter, Starts.fresh}
 use Rattle.decode.proofs.DecodeLaws.{decode-list}
 use Rattle.xapool.proofs.DemandLaws.{run-as, Started, started}
@@ -126,7 +127,7 @@ module _ (ws bs rs : List ℕ) (pool : length ws ≡ poolWords programNodes) (ou
   by-parse : (q : Parsed) → parse bs ≡ q → length bs ≤ maxInput →
       take (size (runParsed programNodes (initWords ws) rs q)) (space (runParsed programNodes (initWords ws) rs q)) ≡ writtenFor q
   unfolding refusalOver
-  by-parse (Parsed.refused at) e h = take-first (refusalBytes badRecord at) (drop refusalSize rs) 6 refl
+  by-parse (Parsed.refused at) e h = take-first (refusalBytes badBatch at) (drop refusalSize rs) 6 refl
   by-parse (Parsed.commands cs) e h =
       let f : 11 * length cs ≤ length bs = few bs cs e in
       let r : replyBytes * length cs ≤ length rs = omega arith in
@@ -138,7 +139,7 @@ module _ (ws bs rs : List ℕ) (pool : length ws ≡ poolWords programNodes) (ou
   unfolding ran
   ran-is h = rw (le-ltb maxInput (length bs) h)
 
-  ran-long : maxInput < length bs → ran ws bs rs ≡ refuseCall ws rs badRecord maxInput
+  ran-long : maxInput < length bs → ran ws bs rs ≡ refuseCall ws rs badBatch maxInput
   unfolding ran
   ran-long h = rw (lt-ltb maxInput (length bs) h)
 
@@ -148,7 +149,7 @@ module _ (ws bs rs : List ℕ) (pool : length ws ≡ poolWords programNodes) (ou
   program-writes =
       byT (ltb maxInput (length bs))
       (λ t. let e = ran-long (ltb-true _ _ t) in
-      rw (t, e) (take-first (refusalBytes badRecord maxInput) (drop refusalSize rs) 6 refl))
+      rw (t, e) (take-first (refusalBytes badBatch maxInput) (drop refusalSize rs) 6 refl))
       (λ t. let h : length bs ≤ maxInput = ltb-false _ _ t in
       let e = ran-is h in
       rw (t, e, runs) (by-parse (parse bs) refl h))

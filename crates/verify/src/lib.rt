@@ -1,6 +1,9 @@
 // The check of a pool, and its init.
 //
 // pool: the borrowed words, 4 + 70 n of them for n nodes; map: words for the map of the free ones.
+use answers::DONE;
+use answers::NOT_WELL_FORMED;
+use answers::POOL_LENGTH;
 use freemap::MAP_WORDS;
 use layout::ANCHOR_WORDS;
 use layout::COUNT_WORD;
@@ -41,21 +44,21 @@ pub fn check_map(pool: &[u64], map: &mut [u64]) -> u64
 {
     let n = nodes_in(pool);
     if n == 0 {
-        return 1;
+        return POOL_LENGTH;
     }
     if pool[COUNT_WORD] != n {
-        return 2;
+        return NOT_WELL_FORMED;
     }
     if pool[SPARE_WORD] != 0 {
-        return 2;
+        return NOT_WELL_FORMED;
     }
     if !nodes_ok(pool, map) {
-        return 2;
+        return NOT_WELL_FORMED;
     }
     if !head_ok(pool) {
-        return 2;
+        return NOT_WELL_FORMED;
     }
-    0
+    DONE
 }
 
 // The same for who needs no map.
@@ -74,10 +77,10 @@ pub fn init(pool: &mut [u64]) -> u64
 {
     let n = nodes_in(pool);
     if n == 0 {
-        return 1;
+        return POOL_LENGTH;
     }
     let len = pool.len() as u64;
     fill(pool, 0, 0, len);
     pool[COUNT_WORD] = n;
-    0
+    DONE
 }

@@ -17,19 +17,8 @@ use Rattle.batch.specs.Batch.{maxBatch, Parsed, Parsed.commands, Parsed.refused
 use Rattle.batch.specs.Reply.{replyBytes}
 use Rattle.batch.proofs.ParseLaws.{parse-long, parse-rest, not-refused}
 use Rattle.words.proofs.WriteLaws.{overwrite-all}
-use Rattle.xapool.specs.Calls.{
-  Called,
-  result,
-  counts,
-  countResult,
-  refuseCall,
-  badRecord,
-  replyShort,
-  done,
-  replies,
-  runParsed,
-  run,
-}
+use Rattle.xapool.specs.Calls.{Called, counts, countResult, refuseCall, replies, runParsed, run}
+use Rattle.answers.specs.Answers.{result, badBatch, replySpace, done}
 use Rattle.xapool.specs.Running.{Ahead, Ends}
 use Rattle.xapool.proofs.RunningLaws.{replies-length}
 
@@ -81,7 +70,7 @@ pub count-done : (bs : List ℕ) {k : ℕ} → Commands k ≡ counted (parse bs)
 count-done bs e =
     let r : Read bs _ = was-read e in sym (ap counts (r .parsed) ∙ ap (result done) (r .count))
 
-pub count-refused : (bs : List ℕ) {at : ℕ} → Refused at ≡ counted (parse bs) → result badRecord at ≡ countResult bs
+pub count-refused : (bs : List ℕ) {at : ℕ} → Refused at ≡ counted (parse bs) → result badBatch at ≡ countResult bs
 count-refused bs e = sym (ap counts (was-refused bs e))
 
 -- REFUSALS
@@ -95,11 +84,11 @@ module _ (ws bs rs : List ℕ) where
     unfolding run
     run-checked q = rw (eq-eqb (checkAnswer ws) done e, q)
 
-    pub run-bad : {at : ℕ} → Refused at ≡ counted (parse bs) → run ws bs rs ≡ refuseCall ws rs badRecord at
+    pub run-bad : {at : ℕ} → Refused at ≡ counted (parse bs) → run ws bs rs ≡ refuseCall ws rs badBatch at
     run-bad f = run-checked (was-refused bs f)
 
     module _ {k : ℕ} (r : Read bs k) where
-      pub run-short : length rs < replyBytes * k → run ws bs rs ≡ refuseCall ws rs replyShort k
+      pub run-short : length rs < replyBytes * k → run ws bs rs ≡ refuseCall ws rs replySpace k
       run-short h =
           run-checked (r .parsed)
           ∙ rw (r .count, lt-ltb (length rs) (replyBytes * k) h)

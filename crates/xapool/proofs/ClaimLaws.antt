@@ -32,14 +32,16 @@ use Rattle.batch.specs.Reply.{replyBytes}
 use Rattle.batch.proofs.BoundLaws.{AllFit, parse-fits}
 use Rattle.batch.proofs.CutLaws.{cut}
 use Rattle.listing.proofs.ListedLaws.{listed-fits}
-use Rattle.execute.specs.Execute.{Executed, execute, replyOf, short, reserving}
+use Rattle.execute.specs.Execute.{execute, short, tree}
+use Rattle.commands.specs.Commands.{Executed, replyOf, reserving}
 use Rattle.execute.specs.State.{State, Kept, next, states}
 use Rattle.execute.specs.Part.{mayWrite}
 use Rattle.execute.proofs.ExecuteLaws.{next-kept, states-kept, short-11, reserve-11}
 use Rattle.execute.proofs.Footprint.{footprint, refused-words}
 use Rattle.execute.proofs.ReplyFits.{reply-fits}
 use Rattle.execute.proofs.TableLaws.{rows, row-sole}
-use Rattle.xapool.specs.Calls.{Called, run, runParsed, replies, result, done, listOver}
+use Rattle.xapool.specs.Calls.{Called, run, runParsed, replies, listOver}
+use Rattle.answers.specs.Answers.{result, done}
 use Rattle.xapool.specs.Running.{wordsOf}
 use Rattle.xapool.specs.Demand.{
   Call,
@@ -107,7 +109,7 @@ module _ (n : ℕ) (l : List Entry) (i k w : ℕ) where
   }
 
 module _ (n : ℕ) (l : List Entry) (i : ℕ) where
-  reserve-only : (o : Option Entry) → covering l i ≡ o → reserving n 135 l i o .reply .answer ≡ 11 →
+  reserve-only : (o : Option Entry) → covering l i ≡ o → reserving (tree n) 135 l i o .reply .answer ≡ 11 →
       (covering l i ≡ none) × (n - length (nodes l) < needed l (store l i 0 reservedWord))
   reserve-only (some x) q e = absurd (let z : _≡_ {A = ℕ} 15 11 = e in omega arith)
   reserve-only none q e =

@@ -15,7 +15,8 @@ use Rattle.verify.specs.Answers.{checkAnswer, Verdict, Verdict.well-formed, Ver
 use Rattle.verify.proofs.AnswerLaws.{answered, meaning, accepted, well-formed-0}
 use Rattle.listing.specs.declared.Listed.{Listed}
 use Rattle.listing.specs.Listing.{listed, entryBytes, fits, outcome, filledWith}
-use Rattle.xapool.specs.Calls.{Evidence, evidence, result, done, badRange, listResult, listOver, list}
+use Rattle.xapool.specs.Calls.{Evidence, evidence, listResult, listOver, list}
+use Rattle.answers.specs.Answers.{result, done, firstAboveLast}
 use Rattle.xapool.specs.Refusal.{
   ListRow,
   ListRow.list-1,
@@ -35,7 +36,7 @@ module _ (ws : List ℕ) (a z : ℕ) (bs : List ℕ) where
   list-checked h = rw (eq-eqb (checkAnswer ws) done h)
 
   -- R148: 8 before 4
-  pub list-turned : checkAnswer ws ≡ done → z < a → list ws a z bs ≡ evidence bs badRange 0
+  pub list-turned : checkAnswer ws ≡ done → z < a → list ws a z bs ≡ evidence bs firstAboveLast 0
   list-turned h lt = list-checked h ∙ rw (lt-ltb z a lt)
 
   -- a refusal with answer x

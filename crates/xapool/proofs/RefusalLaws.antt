@@ -13,7 +13,8 @@ use Rattle.verify.proofs.AnswerLaws.{answered, meaning, accepted, well-formed-0
 use Rattle.batch.specs.Batch.{Parsed, Parsed.commands, Parsed.refused, parse}
 use Rattle.batch.specs.Reply.{replyBytes}
 use Rattle.batch.proofs.RecordLaws.{refused-exactly}
-use Rattle.xapool.specs.Calls.{Called, refuseCall, done, run}
+use Rattle.xapool.specs.Calls.{Called, refuseCall, run}
+use Rattle.answers.specs.Answers.{done}
 use Rattle.xapool.specs.Refusal.{
   CallRow,
   CallRow.row-1,

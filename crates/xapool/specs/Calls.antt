@@ -17,23 +17,8 @@ use Rattle.listing.specs.declared.Listed.{Listed}
 use Rattle.listing.specs.declared.Listed.the-variants.{Short, Done}
 use Rattle.execute.specs.Execute.{execute}
 use Rattle.execute.specs.State.{State, states}
-pub use Rattle.xapool.specs.declared.Result.{Result}
-
--- THE ANSWERS of a call; 1 and 2 are `checkAnswer`'s
-abbrev pub done : ℕ
-done = 0
-
-abbrev pub badRecord : ℕ
-badRecord = 3
-
-abbrev pub replyShort : ℕ
-replyShort = 4
-
-abbrev pub badRange : ℕ
-badRange = 8
-
-abbrev pub result : ℕ → ℕ → Result
-result a n = record { answer = a; number = n }
+use Rattle.answers.specs.declared.Result.{Result}
+use Rattle.answers.specs.Answers.{result, done, badBatch, replySpace, firstAboveLast}
 
 -- what a call leaves: its result, the pool's words and the reply's bytes
 pub record Called : Type 0 where
@@ -55,7 +40,7 @@ checkResult ws = result (checkAnswer ws) 0
 -- THE COUNT of a batch by itself: what a run would make of the batch
 abbrev pub counts : Parsed → Result
 counts (commands cs) = result done (length cs)
-counts (refused at) = result badRecord at
+counts (refused at) = result badBatch at
 
 abbrev pub countResult : List ℕ → Result
 countResult bs = counts (parse bs)
@@ -79,9 +64,9 @@ module _ (n : ℕ) where
 
   -- R72
   abbrev pub runParsed : List ℕ → List ℕ → Parsed → Called
-  runParsed ws rs (refused at) = refuseCall ws rs badRecord at
+  runParsed ws rs (refused at) = refuseCall ws rs badBatch at
   runParsed ws rs (commands cs) =
-      pick (ltb (length rs) (replyBytes * length cs)) (refuseCall ws rs replyShort (length cs))
+      pick (ltb (length rs) (replyBytes * length cs)) (refuseCall ws rs replySpace (length cs))
       (running (record { list = listOf ws; places = placesOf ws }) cs rs)
 
 -- R81: 1 and 2, which are the check's, go first
@@ -100,13 +85,13 @@ evidence bs a n = record { result = result a n; buffer = bs }
 
 -- R145, R146: where it does not fit, the answer is that of a reply space too small
 abbrev pub listResult : Listed → Result
-listResult (Short n) = result replyShort n
+listResult (Short n) = result replySpace n
 listResult (Done n) = result done n
 
 -- R148: on a well-formed pool, of the list that it holds
 abbrev pub listOver : List Entry → (first last : ℕ) → (buffer : List ℕ) → Evidence
 listOver l a z bs =
-    pick (ltb z a) (evidence bs badRange 0)
+    pick (ltb z a) (evidence bs firstAboveLast 0)
     (record { result = listResult (outcome (listed l a z) bs); buffer = filledWith (listed l a z) bs })
 
 -- R148: 1 and 2 go first

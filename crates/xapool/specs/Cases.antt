@@ -19,7 +19,8 @@ use Rattle.batch.specs.declared.Command.the-variants.{Store, Load, Erase, Mark,
 use Rattle.batch.specs.Reply.{replyBytes, encode, answered}
 use Rattle.batch.specs.declared.Reply.{Reply}
 use Rattle.execute.specs.Part.{partOf}
-use Rattle.xapool.specs.Calls.{Called, done, run}
+use Rattle.xapool.specs.Calls.{Called, run}
+use Rattle.answers.specs.Answers.{done}
 
 -- what a case says of its last command, by its reply and by the pool's words
 pub data Fact : Type 0 where

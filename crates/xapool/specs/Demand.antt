@@ -23,23 +23,14 @@ use Rattle.batch.specs.Batch.{Parsed, Parsed.commands, Parsed.refused, parse}
 use Rattle.batch.specs.Reply.{replyBytes}
 use Rattle.listing.specs.Listing.{listed}
 use Rattle.listing.specs.Claims.{FitsListed}
-use Rattle.execute.specs.Execute.{Executed, execute, tooFewNodes}
+use Rattle.execute.specs.Execute.{execute}
+use Rattle.commands.specs.Commands.{Executed}
+use Rattle.answers.specs.Answers.{tooFewNodes, result, done, badBatch, replySpace}
 use Rattle.execute.specs.Part.{mayWrite}
 use Rattle.execute.specs.Table.{CommandRow}
 use Rattle.execute.specs.Widths.{FitsReply}
 use Rattle.verify.specs.Answers.{checkAnswer, initAnswer, initWords}
-use Rattle.xapool.specs.Calls.{
-  run,
-  replies,
-  result,
-  done,
-  badRecord,
-  replyShort,
-  refuseCall,
-  initResult,
-  checkResult,
-  listOver,
-}
+use Rattle.xapool.specs.Calls.{run, replies, refuseCall, initResult, checkResult, listOver}
 use Rattle.xapool.specs.Calls as C
 
 -- R105: each run with a batch (document 01: a sheet) and a reply space of its own
@@ -150,9 +141,9 @@ module _ (n : ℕ) (l : List Entry) (ws : List ℕ) where
 
   -- R71, R72, R82: a refused batch alters neither words nor bytes
   abbrev pub AtBatch : (bs rs : List ℕ) → Parsed → Type 0
-  AtBatch bs rs (refused at) = run ws bs rs ≡ refuseCall ws rs badRecord at
+  AtBatch bs rs (refused at) = run ws bs rs ≡ refuseCall ws rs badBatch at
   AtBatch bs rs (commands cs) =
-      (length rs < replyBytes * length cs → run ws bs rs ≡ refuseCall ws rs replyShort (length cs))
+      (length rs < replyBytes * length cs → run ws bs rs ≡ refuseCall ws rs replySpace (length cs))
       × (replyBytes * length cs ≤ length rs → Ran bs rs cs)
 
   -- of a listing its result and bytes, and that no field of an entry in it is cut (R144)

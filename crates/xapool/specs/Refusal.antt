@@ -14,14 +14,8 @@ use Rattle.batch.specs.Batch.{Parsed, Parsed.commands, parse}
 use Rattle.batch.specs.Records.{Refuses}
 use Rattle.batch.specs.Reply.{replyBytes}
 use Rattle.listing.specs.Listing.{listed, entryBytes, listing}
-use Rattle.xapool.specs.Calls.{
-  Called,
-  refuseCall,
-  running,
-  Evidence,
-  evidence,
-  result,
-}
+use Rattle.xapool.specs.Calls.{Called, refuseCall, running, Evidence, evidence}
+use Rattle.answers.specs.Answers.{result}
 
 -- the rows of the table for a run, each under the conditions that the ones above it leave
 pub data CallRow (ws bs rs : List ℕ) : Called → Type 0 where

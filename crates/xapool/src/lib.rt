@@ -3,6 +3,11 @@
 //
 // pool: the borrowed words; batch: the borrowed bytes of the commands; reply: the borrowed bytes for their replies;
 // at: a place in the batch; out: a place in the reply; map: the map of the pool's free nodes.
+use answers::BAD_BATCH;
+use answers::DONE;
+use answers::FIRST_ABOVE_LAST;
+use answers::REPLY_SPACE;
+use answers::Result;
 use batch::Command;
 use batch::Counted;
 use batch::REPLY_BYTES;
@@ -25,23 +30,7 @@ ghost use Rattle.xapool.specs.Running.{Turned, Ahead, Ends};
 ghost use Rattle.crc32c.specs.Crc.{crc32c};
 ghost use Rattle.xapool.specs.Regions.{compareResult};
 
-// The answers of a call; 1 and 2 are the check's.
-const DONE: u64 = 0;
-
-const BAD_RECORD: u64 = 3;
-
-const REPLY_SHORT: u64 = 4;
-
-const BAD_RANGE: u64 = 8;
-
 const REPLY_SIZE: u64 = 24;
-
-// What a call answers: the number of the answer, and the number that goes with it (R68 to R72).
-#[repr(C)]
-pub struct Result {
-    pub answer: u64,
-    pub number: u64,
-}
 
 // One command, with its reply written at `out`.
 fn run_one(pool: &mut [u64], map: &mut [u64], c: Command, reply: &mut [u8], out: usize)
@@ -88,7 +77,7 @@ fn run_counted(pool: &mut [u64], map: &mut [u64], batch: &[u8], reply: &mut [u8]
     let room = reply.len() as u64;
     if room / REPLY_SIZE < k {
         return Result {
-            answer: REPLY_SHORT,
+            answer: REPLY_SPACE,
             number: k,
         };
     }
@@ -144,7 +133,7 @@ pub extern "C" fn xapool_run(pool: &mut [u64], batch: &[u8], reply: &mut [u8]) -
     let counted = batch::count(batch);
     match counted {
         Counted::Refused(place) => Result {
-            answer: BAD_RECORD,
+            answer: BAD_BATCH,
             number: place,
         },
         Counted::Commands(k) => run_counted(pool, &mut map, batch, reply, k),
@@ -161,7 +150,7 @@ pub extern "C" fn xapool_count(batch: &[u8]) -> Result
     let counted = reader::count_through(batch);
     match counted {
         Counted::Refused(place) => Result {
-            answer: BAD_RECORD,
+            answer: BAD_BATCH,
             number: place,
         },
         Counted::Commands(k) => Result {
@@ -188,14 +177,14 @@ pub extern "C" fn xapool_list(pool: &[u64], first: u64, last: u64, buffer: &mut 
     }
     if last < first {
         return Result {
-            answer: BAD_RANGE,
+            answer: FIRST_ABOVE_LAST,
             number: 0,
         };
     }
     let listed = listing::list(pool, first, last, buffer);
     match listed {
         Listed::Short(k) => Result {
-            answer: REPLY_SHORT,
+            answer: REPLY_SPACE,
             number: k,
         },
         Listed::Done(k) => Result {

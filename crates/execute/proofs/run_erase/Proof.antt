@@ -1,6 +1,6 @@
 -- `run_erase`: an erase, its reply and the words.
 use mathlib.Core.Path.{ap, _∙_}
-use Rattle.execute.specs.Contracts.{coveredReply}
+use Rattle.commands.specs.Replies.{coveredReply}
 use Rattle.execute.proofs.ReplyLaws.{erases}
 use borrow.Author.Needs.{needs}
 use Rattle.execute.proofs.run_erase.Statement.{statement}

@@ -1,6 +1,7 @@
 -- `run_find`: a find, its reply; the words stay.
 use mathlib.Core.Path.{sym, ap, _∙_}
-use Rattle.execute.specs.Execute.{Executed, finding}
+use Rattle.execute.specs.Execute.{finding}
+use Rattle.commands.specs.Commands.{Executed}
 use Rattle.execute.proofs.ReplyLaws.{find-mark, find-first, find-budget, find-runs}
 use borrow.Author.Needs.{needs}
 use Rattle.execute.proofs.run_find.Statement.{statement}

@@ -1,6 +1,6 @@
 -- `run_load`: a load, its reply; the words stay.
 use mathlib.Core.Path.{sym, ap, _∙_}
-use Rattle.execute.specs.Execute.{Executed}
+use Rattle.commands.specs.Commands.{Executed}
 use Rattle.execute.specs.Contracts.{loadedReply}
 use Rattle.execute.proofs.ReplyLaws.{load-runs}
 use borrow.Author.Needs.{needs}

@@ -3,8 +3,9 @@ use Prim.Native.Nat.{ℕ}
 use mathlib.Core.Path.{ap, ap₂, _∙_}
 use Rattle.batch.specs.Reply.{answered}
 use Rattle.erase.proofs.FreedLaws.{map-remark}
-use Rattle.execute.specs.Execute.{markAbove}
-use Rattle.execute.specs.Contracts.{coveredReply, remarking}
+use Rattle.answers.specs.Answers.{badMark}
+use Rattle.execute.specs.Contracts.{remarking}
+use Rattle.commands.specs.Replies.{coveredReply}
 use Rattle.execute.proofs.ReplyLaws.{leaves, remarks, remark-above, remark-runs}
 use borrow.Author.Needs.{needs}
 use Rattle.execute.proofs.run_remark.Statement.{statement}
@@ -30,7 +31,7 @@ returns : tie.Need-returns
 returns c = let a = start-from-answered c .args in (
   (λ s. leaves s (remarking (a .index) (a .mark) (a .on))
       (remark-above (s .n) (s .list) (a .index) (a .mark) (a .on) (c .before .if1 .taken))
-      (c .answered .ensures ∙ ap (λ (t : ℕ). answered t markAbove 0 0) (c .before .before .remarked-tag .ensures))),
+      (c .answered .ensures ∙ ap (λ (t : ℕ). answered t badMark 0 0) (c .before .before .remarked-tag .ensures))),
   λ ms u. u,
 )
 

@@ -8,7 +8,7 @@ use Rattle.model.specs.declared.Entry.{Entry}
 use Rattle.model.specs.Model.{matchedMark, covering, covered}
 use Rattle.layout.specs.Places.{render}
 use Rattle.marks.proofs.RemarkLaws.{remark-clear}
-use Rattle.execute.specs.Contracts.{coveredReply}
+use Rattle.commands.specs.Replies.{coveredReply}
 use Rattle.execute.proofs.ReplyLaws.{unmarked-words, unmarked-reply}
 use Rattle.execute.proofs.TableLaws.{present-cleared}
 use borrow.Author.Needs.{needs}

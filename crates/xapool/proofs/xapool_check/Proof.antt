@@ -1,7 +1,7 @@
 -- `xapool_check`: / Whether a pool is well-formed: whether some list of entries prescribes its words.
 use mathlib.Core.Path.{ap, refl}
 use Prim.Native.Nat.{ℕ}
-use Rattle.xapool.specs.Calls.{result}
+use Rattle.answers.specs.Answers.{result}
 use borrow.Author.Needs.{needs}
 use Rattle.xapool.proofs.xapool_check.Statement.{statement}
 use Rattle.xapool.proofs.xapool_check.Tie as tie

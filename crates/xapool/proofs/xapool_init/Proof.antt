@@ -1,7 +1,7 @@
 -- `xapool_init`: / Makes every node of a pool free and its list empty (document 01: blanking).
 use mathlib.Core.Path.{ap}
 use Prim.Native.Nat.{ℕ}
-use Rattle.xapool.specs.Calls.{result}
+use Rattle.answers.specs.Answers.{result}
 use borrow.Author.Needs.{needs}
 use Rattle.xapool.proofs.xapool_init.Statement.{statement}
 use Rattle.xapool.proofs.xapool_init.Tie as tie

@@ -5,8 +5,8 @@ use native.Mathlib.Omega.{arith}
 use lib.Dec.{eqb}
 use Rattle.blocks.proofs.BlockLaws.{pow-pos}
 use borrow.Author.Needs.{needs}
-use Rattle.execute.proofs.is_aligned.Statement.{statement}
-use Rattle.execute.proofs.is_aligned.Tie as tie
+use Rattle.commands.proofs.is_aligned.Statement.{statement}
+use Rattle.commands.proofs.is_aligned.Tie as tie
 
 pow2-requires : tie.Need-pow2-requires
 pow2-requires c κs = search needs

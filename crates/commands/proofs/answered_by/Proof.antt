@@ -1,8 +1,8 @@
 -- `answered_by`: done, with an entry or a reservation.
 use mathlib.Core.Path.{refl}
 use borrow.Author.Needs.{needs}
-use Rattle.execute.proofs.answered_by.Statement.{statement}
-use Rattle.execute.proofs.answered_by.Tie as tie
+use Rattle.commands.proofs.answered_by.Statement.{statement}
+use Rattle.commands.proofs.answered_by.Tie as tie
 
 shown-word-requires : tie.Need-shown-word-requires
 shown-word-requires c κs = search needs

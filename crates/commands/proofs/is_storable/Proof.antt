@@ -6,8 +6,8 @@ use borrow.Author.Tests.{eqb-true, eqb-false, eq-eqb, ne-eqb}
 use Prim.Native.Nat.{ℕ, _+_, _*_, _/_, _%_}
 use lib.Dec.{eqb}
 use Rattle.blocks.proofs.BoolLaws.{byT}
-use Rattle.execute.proofs.is_storable.Statement.{statement}
-use Rattle.execute.proofs.is_storable.Tie as tie
+use Rattle.commands.proofs.is_storable.Statement.{statement}
+use Rattle.commands.proofs.is_storable.Tie as tie
 
 -- the word of which the last two bits are 2
 inner-word : (w : ℕ) → eqb (w % 4) 2 ≡ eqb (w / 4 * 4 + 2) w

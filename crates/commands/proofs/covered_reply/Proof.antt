@@ -1,9 +1,9 @@
 -- `covered_reply`: the reply by what covers an index.
 use mathlib.Core.Path.{sym, ap, _∙_}
-use Rattle.execute.specs.Contracts.{coveredReply}
+use Rattle.commands.specs.Replies.{coveredReply}
 use borrow.Author.Needs.{needs}
-use Rattle.execute.proofs.covered_reply.Statement.{statement}
-use Rattle.execute.proofs.covered_reply.Tie as tie
+use Rattle.commands.proofs.covered_reply.Statement.{statement}
+use Rattle.commands.proofs.covered_reply.Tie as tie
 
 enum-told : tie.Need-enum-told
 enum-told c = search needs

@@ -4,8 +4,8 @@ use mathlib.Core.Bool.{Bool}
 use Rattle.blocks.specs.Choice.{either}
 use Rattle.model.specs.Model.{storable}
 use borrow.Author.Needs.{needs}
-use Rattle.execute.proofs.is_enterable.Statement.{statement}
-use Rattle.execute.proofs.is_enterable.Tie as tie
+use Rattle.commands.proofs.is_enterable.Statement.{statement}
+use Rattle.commands.proofs.is_enterable.Tie as tie
 
 returns : tie.Need-returns
 returns c = search needs
