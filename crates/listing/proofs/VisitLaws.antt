@@ -6,13 +6,13 @@ use mathlib.Core.List.{List, [], _∷_, _++_, append-nil}
 use mathlib.Core.Option.{none, some}
 use native.Mathlib.Omega.{arith}
 use native.Mathlib.Nat.{mul-suc, mul-comm, mul-assoc, add-mul, mul-le-mul-right}
-use lib.Dec.{leb, ltb, eqb}
+use lib.Dec.{leb, ltb}
 use lib.ListN.{length}
-use borrow.Author.Tests.{ltb-true, ltb-false, eqb-true, lt-ltb, eq-eqb, le-leb}
+use borrow.Author.Tests.{ltb-true, ltb-false, lt-ltb, eq-eqb, le-leb}
 use Rattle.blocks.specs.Choice.{both}
-use Rattle.blocks.specs.Lists.{All, In, here, there, any, keep, nonempty}
+use Rattle.blocks.specs.Lists.{In, there, any}
 use Rattle.blocks.specs.Blocks.{block}
-use Rattle.blocks.proofs.BoolLaws.{byT, clash, both-l, both-r}
+use Rattle.blocks.proofs.BoolLaws.{byT, clash, both-l}
 use Rattle.blocks.proofs.BlockLaws.{pow-add, pow-pos, block-at, block-hi}
 use Rattle.blocks.proofs.ListLaws.{All-map, look, each, in-any, any-in, first-no, first-yes}
 use Rattle.model.specs.declared.Entry.{Entry}
@@ -21,7 +21,7 @@ use Rattle.model.proofs.RangeLaws.{covers-run}
 use Rattle.model.proofs.ValidLaws.{block-in, covers-i, covers-self, sorted-ok, unique}
 use Rattle.tree.specs.Slots.{Numbering}
 use Rattle.tree.specs.Tree.{slotBits, slots, tierOrder, topTier, height, fits}
-use Rattle.tree.proofs.HeightLaws.{Low, height-fits, fits-base}
+use Rattle.tree.proofs.HeightLaws.{height-fits, fits-base}
 use Rattle.tree.proofs.NodeListLaws.{has-in, has-le}
 use Rattle.tree.proofs.SlotLaws.{tier-up}
 use Rattle.layout.specs.WellFormed.{WellFormed, num}

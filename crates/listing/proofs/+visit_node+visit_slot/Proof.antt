@@ -1,5 +1,5 @@
 -- `visit_node` and `visit_slot`, which call each other: the entries that start in a node's block, slot by slot.
-use Prim.Native.Nat.{ℕ, suc, _+_, _*_, _-_, _/_, _^_, _≤_, _<_}
+use Prim.Native.Nat.{ℕ, suc, _+_, _*_, _-_, _^_, _≤_, _<_}
 use mathlib.Core.Path.{_≡_, refl, sym, ap, subst, _∙_}
 use mathlib.Core.List.{List, [], _∷_}
 use native.Mathlib.Omega.{arith}
@@ -10,15 +10,13 @@ use Rattle.blocks.specs.Blocks.{block}
 use Rattle.blocks.proofs.BlockLaws.{pow-pos, block-at}
 use Rattle.model.specs.declared.Entry.{Entry}
 use Rattle.tree.specs.Tree.{slots, tierOrder, topTier}
-use Rattle.tree.proofs.SlotLaws.{tier-up}
 use Rattle.layout.specs.WellFormed.{WellFormed, num}
-use Rattle.lookup.specs.Views.{AtNode}
 use Rattle.lookup.proofs.WordLaws.{node-fits}
 use Rattle.lookup.proofs.WalkLaws.{end-le}
 use Rattle.lookup.proofs.StandLaws.{end-fits}
 use Rattle.lookup.specs.declared.Sight.the-variants.{Shows}
 use Rattle.listing.specs.Listing.{listed}
-use Rattle.listing.specs.Visits.{between, Emits, Ready}
+use Rattle.listing.specs.Visits.{between, Emits}
 use Rattle.listing.proofs.EmitLaws.{emits-nothing}
 use Rattle.listing.proofs.VisitLaws.{
   node-begins,

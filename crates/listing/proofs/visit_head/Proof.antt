@@ -1,6 +1,6 @@
 -- `visit_head`: all entries that meet the range.
-use mathlib.Core.Path.{_≡_, ap, sym, subst}
-use mathlib.Core.List.{List, [], _∷_}
+use mathlib.Core.Path.{ap, sym, subst}
+use mathlib.Core.List.{List}
 use native.Mathlib.Omega.{arith}
 use Rattle.model.specs.declared.Entry.{Entry}
 use Rattle.listing.specs.Listing.{listed}
