@@ -1,13 +1,12 @@
 -- The tests of `Decide` hold exactly where what they test does.
 use Prim.Native.Nat.{ℕ, _*_, _^_}
 use mathlib.Core.Path.{_≡_, refl, sym, ap, subst, _∙_}
-use mathlib.Core.Bool.{Bool, true, false}
+use mathlib.Core.Bool.{true}
 use mathlib.Core.List.{List, [], _∷_}
 use native.Mathlib.Omega.{arith}
 use lib.Dec.{leb, ltb, eqb, T}
 use lib.ListN.{length}
 use borrow.Author.Tests.{leb-true, ltb-true, eqb-true, le-leb, lt-ltb, eq-eqb}
-use Rattle.blocks.specs.Choice.{both}
 use Rattle.blocks.specs.Blocks.{block}
 use Rattle.blocks.proofs.BoolLaws.{both-i, both-l, both-r, T-true}
 use Rattle.blocks.proofs.ListLaws.{equal-is, is-equal}

@@ -14,7 +14,7 @@ use Rattle.layout.specs.declared.Slot.the-variants.{Empty, Reserved, Held, Sibl
 use Rattle.layout.specs.Decode.{wide, span, cell, below, cellAt, entryAt}
 use Rattle.decode.proofs.Restrict.{Chain, EntryGood}
 use Rattle.decode.proofs.ChainLaws.{bit-lt, chain-append, chain-lower, held-word, reserved-word, order-pow, scale, slot-aligned}
-use Rattle.local.specs.Local.{cap, HeldOk, ReservedOk, ChildOk, SlotOk, Live, Fits, Local, topLevel}
+use Rattle.local.specs.Local.{cap, HeldOk, ReservedOk, ChildOk, SlotOk, Live, Fits64, Local, topLevel}
 use Rattle.tree.specs.Slots.{siblingWord}
 
 -- an entry or a node begins in the slot
@@ -25,7 +25,7 @@ Filled Held = Unit
 Filled (Sibling o) = ⊥
 Filled (Child m) = Unit
 
-module _ (P : Pool) (fits : Fits P) where
+module _ (P : Pool) (fits : Fits64 P) where
   pub held-end : (v n b j : ℕ) → (slots * b + j) * wide v + 2 ^ (tierOrder v + run P n j) ≡
       (slots * b + (j + 2 ^ run P n j)) * wide v
   held-end v n b j = rw order-pow (omega arith)

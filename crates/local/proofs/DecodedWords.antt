@@ -28,7 +28,7 @@ use Rattle.layout.proofs.SaysLaws.{word-of}
 use Rattle.decode.proofs.ChainLaws.{bit-lt}
 use Rattle.decode.proofs.FitLaws.{chain-ends, chain-oks}
 use Rattle.decode.proofs.CoverLaws.{any-span, bits-are, covers-in, in-covers, unscale, unscale≤}
-use Rattle.local.specs.Local.{HeldOk, SiblingOk, ChildOk, SlotOk, Live, Local, HeadNode, topLevel}
+use Rattle.local.specs.Local.{HeldOk, SiblingOk, ChildOk, SlotOk, Live, Local, HeadNodeOk, topLevel}
 use Rattle.local.proofs.ChainBelow.{child-chain, held-ok, held-end, Filled, reserved-held, reserved-ok}
 use Rattle.local.proofs.Standing.{Tall, decoded, below-low, child-live, child-some, At, here, down, at-live, at-list, at-top, at-num, slot-at}
 use Rattle.local.proofs.DecodedHeight.{decoded-height}
@@ -192,7 +192,7 @@ module _ (P : Pool) (L : Local P) where
             (rw (held-end P (L .fits) v n b o) (mul-lt-mul-of-pos-right (omega (arith, s .in-run)) (wide-pos v))),
       ))
 
-  module _ (h : ℕ) (head-is : slotOf (P .head) ≡ Child h) (H : HeadNode P h) where
+  module _ (h : ℕ) (head-is : slotOf (P .head) ≡ Child h) (H : HeadNodeOk P h) where
     l : List Entry
     l = decoded P L h head-is H
 

@@ -77,7 +77,7 @@ use Rattle.decode.proofs.ListBack.{
   head-all,
   in-head,
 }
-use Rattle.local.specs.Local.{cap, HeldOk, ReservedOk, SiblingOk, ChildOk, SlotOk, Unmarked, Live, OwnedBy, HeadNode, HeadOk, UsedFrom, topLevel}
+use Rattle.local.specs.Local.{cap, HeldOk, ReservedOk, SiblingOk, ChildOk, SlotOk, NoMark, Live, OwnedBy, HeadNodeOk, HeadOk, UsedFrom, topLevel}
 use Rattle.model.proofs.MarkLaws.{marks-one}
 use Rattle.model.proofs.WordLaws.{by-word, storable-kind, reserved-bare}
 
@@ -128,7 +128,7 @@ module _ (P : Pool) (l : List Entry) (ν : Numbering) (R : Prescribes P l ν) wh
   pick-bit false = refl
 
   unmarked : (v b j : ℕ) → hasLevel l v b ≡ true → j < slots → part (wide v) (slots * b + j) l ≡ [] →
-      Unmarked P (ν v b) j
+      NoMark P (ν v b) j
   unmarked v b j t lt e μ three = slot-bit P l ν R v b j μ t lt three ∙ (rw e)
 
   mark-any : (v b μ : ℕ) → hasLevel l v b ≡ true → μ < 3 →
@@ -411,7 +411,7 @@ module _ (P : Pool) (l : List Entry) (ν : Numbering) (R : Prescribes P l ν) wh
         (λ q. absurd (o (omega (arith, leb-false (tierOrder t) (x .order) q)))))))
         (λ p. tall-wide x m (ltb-false (x .base) (wide t) p))
 
-    pub head-node : HeadNode P (ν t 0)
+    pub head-node : HeadNodeOk P (ν t 0)
     head-node =
         let h = has-head P l ν R t ht in
         let a = head-all P l ν R t ht in

@@ -19,7 +19,7 @@ use Rattle.decode.proofs.KeepLaws.{no-both}
 use Rattle.layout.proofs.SaysLaws.{word-of}
 use Rattle.decode.proofs.ChainLaws.{held-word, reserved-word}
 use Rattle.decode.proofs.FitLaws.{low-base}
-use Rattle.local.specs.Local.{Live, Local, HeadNode, AllFree, HeadOk, topLevel}
+use Rattle.local.specs.Local.{Live, Local, HeadNodeOk, AllFree, HeadOk, topLevel}
 use Rattle.local.proofs.Standing.{decoded, At, here, at-num, at-same, at-there, climb}
 use Rattle.local.proofs.DecodedHeight.{decoded-height, decoded-valid, at-has, has-at}
 use Rattle.local.proofs.DecodedWords.{node-is, mark-node}
@@ -27,7 +27,7 @@ use Rattle.model.proofs.MarkLaws.{marks-one}
 use Rattle.model.specs.Model.{markCount, wordOk}
 
 module _ (P : Pool) (L : Local P) where
-  module _ (h : ℕ) (head-is : slotOf (P .head) ≡ Child h) (H : HeadNode P h) where
+  module _ (h : ℕ) (head-is : slotOf (P .head) ≡ Child h) (H : HeadNodeOk P h) where
     tree-sound : Prescribes P (decoded P L h head-is H) (numOf P)
     tree-sound =
         record {

@@ -16,7 +16,7 @@ use Rattle.layout.specs.Decode.{blockOf, wide, span, cell, below, cellAt, entry
 use Rattle.decode.proofs.Restrict.{part, numFrom, numOf}
 use Rattle.decode.proofs.KeepLaws.{Every, Some, all-map, keep-all, some-left, some-right}
 use Rattle.decode.proofs.BelowLaws.{span-all, in-below, slot-of}
-use Rattle.local.specs.Local.{ChildOk, SlotOk, Live, Local, OwnedBy, HeadNode, topLevel}
+use Rattle.local.specs.Local.{ChildOk, SlotOk, Live, Local, OwnedBy, HeadNodeOk, topLevel}
 use Rattle.local.proofs.ChainBelow.{live-of, reserved-run}
 
 pub span-some : (Q : Entry → Type 0) (f : ℕ → List Entry) (i j k : ℕ) → j ≤ i → i < j + k → Some Q (f i) →
@@ -98,7 +98,7 @@ module _ (P : Pool) (L : Local P) where
   child-some n zero j m c s = absurd (omega (arith, s .is-lower))
   child-some n (suc v) j m c s = below-some v m c (child-live n (suc v) j m s)
 
-  module _ (h : ℕ) (head-is : slotOf (P .head) ≡ Child h) (H : HeadNode P h) where
+  module _ (h : ℕ) (head-is : slotOf (P .head) ≡ Child h) (H : HeadNodeOk P h) where
     abbrev pub decoded : List Entry
     decoded = below P (suc (H .top)) h 0
 

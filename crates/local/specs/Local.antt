@@ -35,8 +35,8 @@ levelWord v = tierOrder v + 1
 
 -- A SLOT
 -- no mark on slot j of node n
-abbrev pub Unmarked : Pool → ℕ → ℕ → Type 0
-Unmarked P n j = (μ : ℕ) → μ < markCount → bit j (P .mark n μ) ≡ 0
+abbrev pub NoMark : Pool → ℕ → ℕ → Type 0
+NoMark P n j = (μ : ℕ) → μ < markCount → bit j (P .mark n μ) ≡ 0
 
 -- mark μ of slot j of node n is that of node m: set exactly if some slot of m has it
 abbrev pub Agree : Pool → (n j m μ : ℕ) → Type 0
@@ -54,12 +54,12 @@ module _ (P : Pool) (n v j : ℕ) where
   -- slot j is reserved: only where an entry of order 0 could stand, without marks (R201)
   pub record ReservedOk : Type 0 where
     pub bottom : v ≡ 0
-    pub unmarked : Unmarked P n j
+    pub unmarked : NoMark P n j
     pub alone : j + 1 < slots → P .slot n (j + 1) ≢ siblingWord j
 
   -- slot j is a sibling of slot o: an entry begins there, and its run reaches j
   pub record SiblingOk (o : ℕ) : Type 0 where
-    pub unmarked : Unmarked P n j
+    pub unmarked : NoMark P n j
     pub after : o < j
     pub of-held : slotAt P n o ≡ Held
     pub in-run : j < o + 2 ^ run P n o
@@ -75,7 +75,7 @@ module _ (P : Pool) (n v j : ℕ) where
     pub marked : (μ : ℕ) → μ < markCount → Agree P n j m μ
 
   abbrev pub SlotOk : Slot → Type 0
-  SlotOk Empty = Unmarked P n j
+  SlotOk Empty = NoMark P n j
   SlotOk Reserved = ReservedOk
   SlotOk Held = HeldOk
   SlotOk (Sibling o) = SiblingOk o
@@ -122,7 +122,7 @@ markSum f = pick (f 0) 1 0 + pick (f 1) 2 0 + pick (f 2) 4 0
 abbrev pub TallOk : Pool → ℕ → Type 0
 TallOk P h = UsedFrom P h 1 ⊎ ((P .shift h ≢ 1) × (slotAt P h 0 ≡ Held))
 
-pub record HeadNode (P : Pool) (h : ℕ) : Type 0 where
+pub record HeadNodeOk (P : Pool) (h : ℕ) : Type 0 where
   pub there : h < P .count
   pub top : ℕ
   pub live : Live P h top
@@ -139,7 +139,7 @@ HeadOk P Empty = AllFree P × (P .marks ≡ 0)
 HeadOk P Reserved = AllFree P × (P .marks ≡ 0)
 HeadOk P Held = AllFree P × (P .marks < 2 ^ markCount)
 HeadOk P (Sibling o) = ⊥
-HeadOk P (Child h) = HeadNode P h
+HeadOk P (Child h) = HeadNodeOk P h
 
 -- every node passes
 abbrev pub NodesOk : List ℕ → Type 0
@@ -147,12 +147,12 @@ NodesOk ws = (n : ℕ) → n < getD ws countWord 0 → NodeOk (poolOf ws) n
 
 -- THE WHOLE
 -- every word has 64 bits
-pub record Fits (P : Pool) : Type 0 where
+pub record Fits64 (P : Pool) : Type 0 where
   pub of-slot : (n j : ℕ) → P .slot n j < 2 ^ 64
   pub of-mark : (n μ : ℕ) → P .mark n μ < 2 ^ 64
   pub of-head : P .head < 2 ^ 64
 
 pub record Local (P : Pool) : Type 0 where
-  pub fits : Fits P
+  pub fits : Fits64 P
   pub nodes : (n : ℕ) → n < P .count → NodeOk P n
   pub head-ok : HeadOk P (slotOf (P .head))

@@ -20,7 +20,7 @@ use Rattle.decode.proofs.CoverLaws.{bit-suc}
 use Rattle.tree.specs.Tree.{slots}
 use Rattle.layout.specs.Pool.{Pool}
 use Rattle.layout.specs.Reading.{Internal}
-use Rattle.passes.specs.Passes.{Weighs, Framed, Bytes, unfitOf, Chained, ChainedTo, HeldTo, NoneLead}
+use Rattle.passes.specs.Bytes.{Weighs, Framed, Bytes, unfitOf, Chained, ChainedTo, HeldTo, NoneLead}
 use Rattle.steps.specs.Steps.{filledTo}
 use Rattle.decode.proofs.ChainLaws.{bit-lt}
 

@@ -6,7 +6,7 @@ use Rattle.layout.specs.Pool.{Pool, slotAt}
 use Rattle.layout.specs.declared.Slot.the-variants.{Empty, Reserved, Held, Sibling, Child}
 use Rattle.layout.proofs.SaysLaws.{word-of}
 use Rattle.local.specs.Local.{ChildOk}
-use Rattle.passes.specs.Passes.{LeadsOk}
+use Rattle.passes.specs.Bytes.{LeadsOk}
 use Rattle.steps.proofs.StepLaws.{child-not-held}
 use Rattle.model.specs.Model.{reservedWord}
 

@@ -19,7 +19,7 @@ use Rattle.layout.specs.declared.Slot.the-variants.{Reserved, Held, Sibling, Ch
 use Rattle.layout.proofs.SaysLaws.{said, word-of}
 use Rattle.local.specs.Local.{topLevel}
 use Rattle.steps.specs.Steps.{AllMarks, SlotsFilled}
-use Rattle.passes.specs.Passes.{byteOf, upperByteOf, notLeaf, notUpper, Bytes, ChainedTo, HeldTo, NoneLead, ChildrenTo}
+use Rattle.passes.specs.Bytes.{byteOf, upperByteOf, notLeaf, notUpper, Bytes, ChainedTo, HeldTo, NoneLead, ChildrenTo}
 use Rattle.steps.proofs.RunLaws.{cap-other}
 use Rattle.passes.proofs.SeenLaws.{Seen, seen-ok}
 

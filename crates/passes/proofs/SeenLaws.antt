@@ -21,8 +21,8 @@ use Rattle.layout.specs.declared.Slot.{Slot}
 use Rattle.layout.specs.declared.Slot.the-variants.{Empty, Reserved, Held, Sibling, Child}
 use Rattle.layout.proofs.SaysLaws.{word-of, said-sibling}
 use Rattle.local.specs.Local.{SlotsOk, cap, topLevel}
-use Rattle.steps.specs.Steps.{AllMarks, Counted, RunFits, Stepped}
-use Rattle.passes.specs.Passes.{unfitOf, ChainedTo, ChildrenTo}
+use Rattle.steps.specs.Steps.{AllMarks, SameSlots, RunFits, Stepped}
+use Rattle.passes.specs.Bytes.{unfitOf, ChainedTo, ChildrenTo}
 use Rattle.steps.proofs.DecideLaws.{yes! }
 use Rattle.steps.proofs.WordLaws.{mask-mod}
 use Rattle.steps.proofs.RunLaws.{fits-run, fits-held}
@@ -178,7 +178,7 @@ module _ (P : Pool) (n v m : ℕ) (bs : List ℕ) (g : Seen P n v m bs) (ch : Ch
       sibling-not-held : (i o : ℕ) → P .slot n i ≡ siblingWord o → slotAt P n i ≢ Held
       sibling-not-held i o e q = (word-of (P .slot n i) Held q) .1 (let z : P .slot n i % 4 ≡ 2 = omega arith in z)
 
-      counted : o + (j - o) ≡ j → Counted P n o (siblingWord o) (j - o)
+      counted : o + (j - o) ≡ j → SameSlots P n o (siblingWord o) (j - o)
       counted d = record {
         some = omega (arith, p .below);
         inside = omega arith;

@@ -1,4 +1,4 @@
-// The slots of a node by bytes: a byte for each slot, so that the compiler takes sixteen at once, and no branch for a slot (specs/Passes).
+// The slots of a node by bytes: a byte for each slot, so that the compiler takes sixteen at once, and no branch for a slot (specs/Bytes).
 // A node that passes is as it must be; one that does not is decided step by step (scan).
 //
 // pool: the borrowed words; n: the number of a node; v: its level (its shift / 6); k: how many of its slots are filled, as it says;
@@ -20,8 +20,8 @@ ghost use Rattle.tree.specs.Tree.{slots};
 ghost use Rattle.layout.specs.Pool.{poolOf};
 ghost use Rattle.local.specs.Local.{HasNode, topLevel};
 ghost use Rattle.steps.specs.Steps.{SlotsFilled};
-ghost use Rattle.passes.specs.Passes.{byteOf, upperByteOf, notLeaf, notUpper, Weighs, Framed, Bytes};
-ghost use Rattle.passes.specs.Passes.{unfitOf, Chained, ChainedTo, HeldTo, NoneLead, LeadsOk, ChildrenTo};
+ghost use Rattle.passes.specs.Bytes.{byteOf, upperByteOf, notLeaf, notUpper, Weighs, Framed, Bytes};
+ghost use Rattle.passes.specs.Bytes.{unfitOf, Chained, ChainedTo, HeldTo, NoneLead, LeadsOk, ChildrenTo};
 
 // The word of a slot that is reserved.
 const RESERVED: u64 = 1030;

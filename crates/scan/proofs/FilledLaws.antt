@@ -13,7 +13,7 @@ use Rattle.blocks.proofs.BoolLaws.{byT, decide-eqb}
 use Rattle.tree.specs.Tree.{slots}
 use Rattle.layout.specs.Pool.{Pool, slotAt}
 use Rattle.layout.specs.Reading.{Decides}
-use Rattle.scan.specs.Scan.{fillBit, FilledFrom, Filled, NoLoose}
+use Rattle.scan.specs.Passes.{fillBit, FilledFrom, Filled, NoLoose}
 use Rattle.decode.proofs.CoverLaws.{bit-suc}
 use Rattle.steps.proofs.WordLaws.{join-low, join-high, among-clear, clear-among}
 use Rattle.layout.specs.declared.Slot.{Slot}

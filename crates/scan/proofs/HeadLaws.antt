@@ -12,7 +12,7 @@ use Rattle.layout.specs.Pool.{Pool, Free, slotAt, slotOf}
 use Rattle.layout.specs.declared.Slot.{Slot}
 use Rattle.layout.specs.declared.Slot.the-variants.{Held}
 use Rattle.layout.specs.Reading.{Decides}
-use Rattle.local.specs.Local.{NodeOk, Live, TallOk, HeadOk, HeadNode, markSum, UsedFrom}
+use Rattle.local.specs.Local.{NodeOk, Live, TallOk, HeadOk, HeadNodeOk, markSum, UsedFrom}
 
 -- where no slot after the first is in use
 module _ (P : Pool) (h : ℕ) (F : UsedFrom P h 1 → ⊥) where
@@ -29,7 +29,7 @@ pub head-at : (P : Pool) (r : Bool) (κ : Slot) → slotOf (P .head) ≡ κ → 
     Decides r (HeadOk P (slotOf (P .head)))
 head-at P r κ s d = subst (λ (k : Slot). Decides r (HeadOk P k)) (sym s) d
 
-pub head-tall : (P : Pool) (h : ℕ) → HeadNode P h → TallOk P h
+pub head-tall : (P : Pool) (h : ℕ) → HeadNodeOk P h → TallOk P h
 head-tall P h H =
     ⊎-elim inl (λ q. inr ((λ (z : P .shift h ≡ 1). q .0 (omega (arith, H .live .level))), q .1)) (H .tall)
 
@@ -39,7 +39,7 @@ module _ (P : Pool) (ok : (n : ℕ) → n < P .count → NodeOk P n) where
     lv = ⊎-elim (λ (b : Free P h). absurd (nz (b .shift-is))) (λ (l : (v : ℕ) × Live P h v). l) (ok h lt)
 
     pub head-yes : (m s : ℕ) → m ≡ P .marks → s ≡ markSum (λ μ. not (eqb (P .mark h μ) 0)) → TallOk P h →
-        Decides (eqb m s) (HeadNode P h)
+        Decides (eqb m s) (HeadNodeOk P h)
     head-yes m s a b t =
         decide-eqb m s
         (λ e. record {

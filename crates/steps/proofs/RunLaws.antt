@@ -15,7 +15,7 @@ use Rattle.layout.specs.Pool.{Pool, run, runFrom, slotAt, maxRun}
 use Rattle.layout.specs.declared.Slot.the-variants.{Held, Sibling}
 use Rattle.layout.proofs.SaysLaws.{word-of, said-sibling}
 use Rattle.local.specs.Local.{cap, topLevel, SlotOk, SlotsOk, HeldOk, SiblingOk}
-use Rattle.steps.specs.Steps.{Counted, Power, RunFits}
+use Rattle.steps.specs.Steps.{SameSlots, Power, RunFits}
 use Rattle.steps.proofs.DecideLaws.{between-next}
 use Rattle.blocks.specs.Choice.{both, pick}
 use Rattle.model.specs.Model.{maxOrder}
@@ -119,7 +119,7 @@ module _ (P : Pool) (n j w : ℕ) where
     all = λ i a b. between-next (λ k. P .slot n k ≡ w) j (j + r) (g .all) e i a (omega arith);
   }
 
-  pub counted : (r : ℕ) → Going r → (j + r < slots → P .slot n (j + r) ≢ w) → Counted P n j w r
+  pub counted : (r : ℕ) → Going r → (j + r < slots → P .slot n (j + r) ≢ w) → SameSlots P n j w r
   counted r g e = record { some = g .some; inside = g .inside; all = g .all; ends = e }
 
 -- THE POWERS
@@ -138,7 +138,7 @@ no-power r a b c d e p =
     (λ z. absurd (e z)) (λ z. z) (p .0) (p .1) (p .2)
 
 -- THE RUN
-module _ (P : Pool) (n v j r : ℕ) (lt : j < slots) (c : Counted P n j (siblingWord j) r) where
+module _ (P : Pool) (n v j r : ℕ) (lt : j < slots) (c : SameSlots P n j (siblingWord j) r) where
   module _ (k : ℕ) (h : k ≤ maxRun) (e : r ≡ 2 ^ k) where
     reach : (i : ℕ) → i ≤ k → run P n j ≡ runFrom P n j (maxRun - i) i
     unfolding run

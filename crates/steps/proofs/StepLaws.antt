@@ -17,7 +17,7 @@ use Rattle.layout.specs.declared.Slot.the-variants.{Empty, Reserved, Held, Sibl
 use Rattle.layout.specs.Reading.{Decides}
 use Rattle.layout.proofs.SaysLaws.{said, word-of}
 use Rattle.local.specs.Local.{SlotOk, SlotsOk, HeldOk, ReservedOk, SiblingOk, ChildOk}
-use Rattle.steps.specs.Steps.{AllMarks, Counted, Past, Stepped}
+use Rattle.steps.specs.Steps.{AllMarks, SameSlots, Past, Stepped}
 use Rattle.steps.proofs.RunLaws.{cap-le}
 use Rattle.model.specs.Model.{reservedWord}
 use Rattle.tree.specs.Slots.{siblingWord}
@@ -66,7 +66,7 @@ module _ (P : Pool) (n v j : ℕ) where
       let x : P .slot n j % 4 ≢ 2 = (word-of (P .slot n j) Held f) .1 in x (omega arith)
 
   -- a reserved slot, where r slots are that slot and those after it that name it
-  pub reserved-decides : (r m : ℕ) → j < slots → Counted P n j (siblingWord j) r → v ≡ 0 → AllMarks P n m → bit j m ≡ 0 →
+  pub reserved-decides : (r m : ℕ) → j < slots → SameSlots P n j (siblingWord j) r → v ≡ 0 → AllMarks P n m → bit j m ≡ 0 →
       Decides (eqb r 1) (ReservedOk P n v j)
   reserved-decides r m lt c z am b = decide-eqb r 1
       (λ e. record { bottom = z; unmarked = am .clear j b; alone = subst (λ (x : ℕ). j + x < slots → P .slot n (j + x) ≢ siblingWord j) e (c .ends) })
@@ -147,7 +147,7 @@ module _ (P : Pool) (n v j m : ℕ) (empty : slotAt P n j ≡ Empty) (lt : j < s
   pub gap-marked : (bit j m ≡ 0 → ⊥) → Stepped P n v j 0
   gap-marked f = step-bad P n v j lt (λ s. f (am .cleared j (subst (SlotOk P n v j) empty (s j lt))))
 
-  module _ (r : ℕ) (c : Counted P n j 0 r) where
+  module _ (r : ℕ) (c : SameSlots P n j 0 r) where
     pub rest-marked : (((i : ℕ) → j < i → i < j + r → bit i m ≡ 0) → ⊥) → Stepped P n v j 0
     rest-marked f = step-bad P n v j lt (λ s. f (λ i a b. am .cleared i
         (subst (SlotOk P n v i) (said (P .slot n i) Empty (c .all i a b)) (s i (omega (arith, c .inside))))))

@@ -9,13 +9,13 @@ use Rattle.tree.specs.Tree.{slots}
 use Rattle.layout.specs.declared.Slot.the-variants.{Held}
 use Rattle.layout.specs.Words.{filledOf}
 use Rattle.layout.specs.Pool.{Pool, slotAt, run, maxRun}
-use Rattle.local.specs.Local.{Unmarked, SlotOk, SlotsOk, cap}
+use Rattle.local.specs.Local.{NoMark, SlotOk, SlotsOk, cap}
 
 -- bit j of m is 0 exactly if slot j of node n has no mark
 pub record AllMarks (P : Pool) (n m : ℕ) : Type 0 where
   pub fits : m < 2 ^ 64
-  pub clear : (j : ℕ) → bit j m ≡ 0 → Unmarked P n j
-  pub cleared : (j : ℕ) → Unmarked P n j → bit j m ≡ 0
+  pub clear : (j : ℕ) → bit j m ≡ 0 → NoMark P n j
+  pub cleared : (j : ℕ) → NoMark P n j → bit j m ≡ 0
 
 -- how many slots of node n before slot j are filled
 abbrev pub filledTo : Pool → (n j : ℕ) → ℕ
@@ -40,7 +40,7 @@ pub record SlotsFilled (P : Pool) (n v k : ℕ) : Type 0 where
   pub filled-is : k ≡ filledOf (P .slot n)
 
 -- r slots are slot j and those after it that have the word w
-pub record Counted (P : Pool) (n j w r : ℕ) : Type 0 where
+pub record SameSlots (P : Pool) (n j w r : ℕ) : Type 0 where
   pub some : 0 < r
   pub inside : j + r ≤ slots
   pub all : (i : ℕ) → j < i → i < j + r → P .slot n i ≡ w

@@ -26,7 +26,7 @@ ghost use Rattle.layout.specs.declared.Slot.the-variants.{Empty, Held};
 ghost use Rattle.layout.specs.Pool.{slotAt, poolOf};
 ghost use Rattle.layout.specs.Reading.{Decides};
 ghost use Rattle.local.specs.Local.{HasNode, cap, topLevel, Agree, ReservedOk, ChildOk};
-ghost use Rattle.steps.specs.Steps.{AllMarks, Past, Stepped, Counted, Power, RunFits};
+ghost use Rattle.steps.specs.Steps.{AllMarks, Past, Stepped, SameSlots, Power, RunFits};
 
 // The level of the nodes of shift 60.
 pub const TOP_LEVEL: u64 = TOP_TIER - 1;
@@ -42,7 +42,7 @@ pub fn all_marks(pool: &[u64], n: u64) -> u64
 // How many slots slot j of node n and those after it with the word w are.
 fn same_slots(pool: &[u64], n: u64, j: u64, w: u64) -> u64
     requires { ⌜ HasNode n (now pool) ⌝ ∗ ⌜ j < slots ⌝ }
-    ensures { λ r. ⌜ Counted (poolOf (now (pool .entry))) n j w r ⌝ }
+    ensures { λ r. ⌜ SameSlots (poolOf (now (pool .entry))) n j w r ⌝ }
 {
     let mut p = 1;
     while j + p < SLOTS {

@@ -19,11 +19,11 @@ abbrev μ-loop : tie.MeasureT-loop
 loop-holds : tie.Need-loop-holds Inv-loop μ-loop
 loop-holds c = (omega arith, refl)
 
-shared-slice-read-step : tie.Need-shared-slice-read-step Inv-loop μ-loop
-shared-slice-read-step c = omega arith
+shared-slice-read-byte-step : tie.Need-shared-slice-read-byte-step Inv-loop μ-loop
+shared-slice-read-byte-step c = omega arith
 
-step-requires : tie.Need-step-requires Inv-loop μ-loop
-step-requires c κs = search needs
+byte-step-requires : tie.Need-byte-step-requires Inv-loop μ-loop
+byte-step-requires c κs = search needs
 
 add-i : tie.Need-add-i Inv-loop μ-loop
 add-i c = omega arith
@@ -36,7 +36,7 @@ loop-again c =
     let s = c .before .before .before .before .before .before .args .s .now in
     let l = c .before .before .before .loop in (
       omega arith,
-      ap₂ register (c .step .ensures) (ap (λ (n : ℕ). drop n s) (add-one (l .i)))
+      ap₂ register (c .byte-step .ensures) (ap (λ (n : ℕ). drop n s) (add-one (l .i)))
           ∙ sym (ap (register (l .c)) (drop-cons s (l .i) 0 (omega arith)))
           ∙ l .inv .1,
     )
@@ -55,8 +55,8 @@ by-bytes-spec =
     Inv-loop
     μ-loop
     loop-holds
-    shared-slice-read-step
-    step-requires
+    shared-slice-read-byte-step
+    byte-step-requires
     add-i
     loop-less
     loop-again

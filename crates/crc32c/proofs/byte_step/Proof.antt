@@ -1,11 +1,11 @@
--- `step`: the register after one byte.
+-- `byte_step`: the register after one byte.
 use mathlib.Core.Path.{sym, ap, _∙_}
 use native.Mathlib.Omega.{arith}
 use borrow.Author.Needs.{needs}
 use Rattle.crc32c.specs.Crc.{byteStep}
 use Rattle.crc32c.proofs.TableLaws.{byte-by-table}
-use Rattle.crc32c.proofs.step.Statement.{statement}
-use Rattle.crc32c.proofs.step.Tie as tie
+use Rattle.crc32c.proofs.byte_step.Statement.{statement}
+use Rattle.crc32c.proofs.byte_step.Tie as tie
 
 wide-requires : tie.Need-wide-requires
 wide-requires c κs = search needs
@@ -25,5 +25,5 @@ returns c =
     sym (byte-by-table (s .args .t .now) (s .pre) (s .args .c) (c .before .wide .result))
     ∙ ap (byteStep (s .args .c)) (c .before .wide .ensures)
 
-pub step-spec : {M : Type 1} → statement M
-step-spec = tie.close (tie.spec wide-requires cast-i mul-result shared-slice-read-result returns)
+pub byte-step-spec : {M : Type 1} → statement M
+byte-step-spec = tie.close (tie.spec wide-requires cast-i mul-result shared-slice-read-result returns)

@@ -4,7 +4,7 @@ use native.Mathlib.Omega.{arith}
 use Prim.Native.Nat.{_-_, _≤_}
 use Rattle.layout.specs.Pool.{poolOf}
 use Rattle.tree.specs.Tree.{slots}
-use Rattle.passes.specs.Passes.{byteOf, notLeaf, Bytes}
+use Rattle.passes.specs.Bytes.{byteOf, notLeaf, Bytes}
 use Rattle.passes.proofs.ByteLaws.{bytes-start, bytes-on, bytes-all}
 use Rattle.passes.proofs.bytes_of.Statement.{statement}
 use Rattle.passes.proofs.bytes_of.Tie as tie

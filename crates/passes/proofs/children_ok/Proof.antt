@@ -6,7 +6,7 @@ use Prim.Native.Nat.{_-_, _≤_}
 use Rattle.blocks.proofs.BoolLaws.{clash}
 use Rattle.tree.specs.Tree.{slots}
 use Rattle.layout.specs.Pool.{poolOf}
-use Rattle.passes.specs.Passes.{ChildrenTo}
+use Rattle.passes.specs.Bytes.{ChildrenTo}
 use Rattle.steps.proofs.DecideLaws.{below-next}
 use Rattle.passes.proofs.children_ok.Statement.{statement}
 use Rattle.passes.proofs.children_ok.Tie as tie

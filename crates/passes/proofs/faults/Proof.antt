@@ -3,7 +3,7 @@ use mathlib.Core.Path.{_≡_}
 use native.Mathlib.Omega.{arith}
 use Prim.Native.Nat.{_-_, _≤_}
 use Rattle.tree.specs.Tree.{slots}
-use Rattle.passes.specs.Passes.{ChainedTo}
+use Rattle.passes.specs.Bytes.{ChainedTo}
 use Rattle.passes.proofs.ByteLaws.{chained-on, chained-all}
 use Rattle.passes.proofs.faults.Statement.{statement}
 use Rattle.passes.proofs.faults.Tie as tie

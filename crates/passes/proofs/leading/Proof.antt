@@ -3,7 +3,7 @@ use mathlib.Core.Path.{_≡_}
 use native.Mathlib.Omega.{arith}
 use Prim.Native.Nat.{_-_, _≤_}
 use Rattle.tree.specs.Tree.{slots}
-use Rattle.passes.specs.Passes.{NoneLead}
+use Rattle.passes.specs.Bytes.{NoneLead}
 use Rattle.passes.proofs.ByteLaws.{none-lead-on}
 use Rattle.passes.proofs.leading.Statement.{statement}
 use Rattle.passes.proofs.leading.Tie as tie

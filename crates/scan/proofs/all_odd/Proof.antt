@@ -5,7 +5,7 @@ use native.Mathlib.Omega.{arith}
 use borrow.Author.Tests.{eqb-true}
 use Rattle.tree.specs.Tree.{slots}
 use Rattle.layout.specs.Pool.{poolOf}
-use Rattle.scan.specs.Scan.{OddTo}
+use Rattle.scan.specs.Passes.{OddTo}
 use Rattle.scan.proofs.TallyLaws.{odd-next, odd-all}
 use Rattle.scan.proofs.all_odd.Statement.{statement}
 use Rattle.scan.proofs.all_odd.Tie as tie

@@ -2,7 +2,7 @@
 use mathlib.Core.Path.{subst}
 use native.Mathlib.Omega.{arith}
 use Prim.Native.Nat.{ℕ}
-use Rattle.steps.specs.Steps.{Counted}
+use Rattle.steps.specs.Steps.{SameSlots}
 use Rattle.layout.specs.Pool.{poolOf}
 use Rattle.steps.proofs.DecideLaws.{no! }
 use Rattle.steps.proofs.StepLaws.{reserved-decides}
@@ -29,7 +29,7 @@ returns-3 c =
     let s = c .before .before .before .before .before in
     let P = poolOf (s .args .pool .now) in
     reserved-decides P (s .args .n) (s .args .v) (s .args .j) (c .same-slots .result) (s .args .m) (omega arith)
-    (subst (λ (w : ℕ). Counted P (s .args .n) (s .args .j) w (c .same-slots .result)) (c .before .sibling-word .ensures)
+    (subst (λ (w : ℕ). SameSlots P (s .args .n) (s .args .j) w (c .same-slots .result)) (c .before .sibling-word .ensures)
     (c .same-slots .ensures)) (omega arith) (s .pre .1 .1) (c .before .before .if2 .left)
 
 pub reserved-ok-spec : {M : Type 1} → statement M

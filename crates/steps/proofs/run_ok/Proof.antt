@@ -4,7 +4,7 @@ use mathlib.Core.Path.{subst}
 use native.Mathlib.Omega.{arith}
 use borrow.Author.Tests.{not-true, not-false}
 use Rattle.layout.specs.Pool.{poolOf}
-use Rattle.steps.specs.Steps.{Counted}
+use Rattle.steps.specs.Steps.{SameSlots}
 use Rattle.steps.proofs.StepLaws.{step-bad, step-marked, step-run}
 use Rattle.steps.proofs.RunLaws.{fits-of, fits-run, fits-held}
 use Rattle.steps.proofs.run_ok.Statement.{statement}
@@ -44,7 +44,7 @@ run-fits-requires c κs = omega (arith, c .same-slots .ensures .some, c .same-sl
 returns : tie.Need-returns
 returns c = let s = start-from-then1 c in
     let P = poolOf (s .args .pool .now) in
-    let q = subst (λ (w : ℕ). Counted P (s .args .n) (s .args .j) w (c .before .before .same-slots .result))
+    let q = subst (λ (w : ℕ). SameSlots P (s .args .n) (s .args .j) w (c .before .before .same-slots .result))
     (c .before .before .before .sibling-word .ensures) (c .before .before .same-slots .ensures) in
     step-bad P (s .args .n) (s .args .v) (s .args .j) (s .pre .1 .0 .0)
     (λ k. c .before .run-fits .ensures .1 (not-true _ (c .if1 .taken))
@@ -56,7 +56,7 @@ rest-clear-requires c κs = omega (arith, c .before .before .same-slots .ensures
 returns-2 : tie.Need-returns-2
 returns-2 c = let s = start-from-then2 c in
     let P = poolOf (s .args .pool .now) in
-    let q = subst (λ (w : ℕ). Counted P (s .args .n) (s .args .j) w (same-slots-from-then2 c .same-slots .result))
+    let q = subst (λ (w : ℕ). SameSlots P (s .args .n) (s .args .j) w (same-slots-from-then2 c .same-slots .result))
     (sibling-word-from-then2 c .sibling-word .ensures) (same-slots-from-then2 c .same-slots .ensures) in
     let f = c .before .before .before .run-fits .ensures .0 (not-false _ (c .before .before .if1 .left)) in
     step-marked P (s .args .n) (s .args .v) (s .args .j) (s .pre .1 .1 .1 .1) (s .pre .1 .0 .0) _ (s .args .m)
@@ -67,7 +67,7 @@ returns-2 c = let s = start-from-then2 c in
 returns-3 : tie.Need-returns-3
 returns-3 c = let s = start-from-else2 c in
     let P = poolOf (s .args .pool .now) in
-    let q = subst (λ (w : ℕ). Counted P (s .args .n) (s .args .j) w (same-slots-from-else2 c .same-slots .result))
+    let q = subst (λ (w : ℕ). SameSlots P (s .args .n) (s .args .j) w (same-slots-from-else2 c .same-slots .result))
     (sibling-word-from-else2 c .sibling-word .ensures) (same-slots-from-else2 c .same-slots .ensures) in
     let f = c .before .before .before .run-fits .ensures .0 (not-false _ (c .before .before .if1 .left)) in
     step-run P (s .args .n) (s .args .v) (s .args .j) (s .pre .1 .1 .1 .1) (s .pre .1 .0 .0) _ (s .args .m)
