@@ -5,11 +5,11 @@ use mathlib.Core.List.{List, [], _∷_}
 use native.Mathlib.Omega.{arith}
 use lib.ListN.{length, drop, set}
 use borrow.Author.Tests.{lt-ltb, le-ltb}
-use Rattle.xapool.specs.Calls.{Called, refuseCall, run}
+use Rattle.calls.specs.Calls.{Called, refuseCall, run}
 use Rattle.answers.specs.declared.Result.{Result}
 use Rattle.answers.specs.Answers.{badBatch}
-use Rattle.xapool.specs.Demand.{Call.init, wordsAfter}
-use Rattle.xapool.specs.Refusal.{
+use Rattle.calls.specs.Demand.{Call.init, wordsAfter}
+use Rattle.calls.specs.Refusal.{
   CallRow,
   CallRow.row-1,
   CallRow.row-2,
@@ -17,7 +17,7 @@ use Rattle.xapool.specs.Refusal.{
   CallRow.row-4,
   CallRow.row-0,
 }
-use Rattle.xapool.proofs.RefusalLaws.{call-row}
+use Rattle.calls.proofs.RefusalLaws.{call-row}
 use Rattle.tamburish.specs.Program.{maxInput, ran, refusalSize, refusalOver, sizeFor, spaceFor, size, space}
 
 -- six bytes set one by one

@@ -33,12 +33,12 @@ use Rattle.batch.specs.Batch.{
 }
 use Rattle.batch.specs.Reply.{replyBytes}
 use Rattle.batch.proofs.ParseLaws.{WasRead, was-read, Whole, whole, Onward, next-after, not-refused, parse-long, parse-rest}
-use Rattle.xapool.specs.Calls.{Called, refuseCall, replies, run, runParsed}
+use Rattle.calls.specs.Calls.{Called, refuseCall, replies, run, runParsed}
 use Rattle.answers.specs.Answers.{badBatch}
-use Rattle.xapool.specs.Demand.{Call.init, wordsAfter, Starts.fresh}
+use Rattle.calls.specs.Demand.{Call.init, wordsAfter, Starts.fresh}
 use Rattle.decode.proofs.DecodeLaws.{decode-list}
-use Rattle.xapool.proofs.DemandLaws.{run-as, Started, started}
-use Rattle.xapool.proofs.RunningLaws.{replies-length}
+use Rattle.calls.proofs.DemandLaws.{run-as, Started, started}
+use Rattle.calls.proofs.RunningLaws.{replies-length}
 use Rattle.tamburish.specs.Program.{
   maxInput,
   ran,

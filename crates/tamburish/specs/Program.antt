@@ -5,9 +5,9 @@ use lib.Dec.{ltb}
 use lib.ListN.{length, drop}
 use Rattle.blocks.specs.Choice.{pick}
 use Rattle.batch.specs.Batch.{Parsed, Parsed.commands, Parsed.refused, parse}
-use Rattle.xapool.specs.Calls.{Called, refuseCall, replies, run}
+use Rattle.calls.specs.Calls.{Called, refuseCall, replies, run}
 use Rattle.answers.specs.Answers.{badBatch}
-use Rattle.xapool.specs.Demand.{Call.init, wordsAfter}
+use Rattle.calls.specs.Demand.{Call.init, wordsAfter}
 
 -- R230: the longest batch that the program takes
 abbrev pub maxInput : ℕ

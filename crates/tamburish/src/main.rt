@@ -47,8 +47,8 @@ fn respond(pool: &mut [u64], batch: &[u8], reply: &mut [u8]) -> usize
     if batch.len() > MAX_INPUT {
         return refusal(reply, BAD_BATCH, MAX_INPUT as u64);
     }
-    xapool::xapool_init(pool);
-    let result = xapool::xapool_run(pool, batch, reply);
+    calls::init(pool);
+    let result = calls::run(pool, batch, reply);
     let answer = result.answer;
     let number = result.number;
     if answer != DONE {
