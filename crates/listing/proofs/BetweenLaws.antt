@@ -12,7 +12,7 @@ use Rattle.blocks.specs.Choice.{both}
 use Rattle.blocks.specs.Lists.{All, end, also, In, here, there, keep}
 use Rattle.blocks.proofs.BoolLaws.{byT, both-l, both-r}
 use Rattle.blocks.proofs.BlockLaws.{pow-pos}
-use Rattle.blocks.proofs.ListLaws.{each, in-cons}
+use Rattle.blocks.proofs.ListLaws.{each, in-cons, keep-none}
 use Rattle.model.specs.declared.Entry.{Entry}
 use Rattle.model.specs.Model.{Sorted, done, more, Valid, meets}
 use Rattle.model.proofs.ValidLaws.{sorted-low}
@@ -28,10 +28,6 @@ module _ {A : Type 0} (p : A → Bool) where
   pub keep-all : {l : List A} → All (λ x. p x ≡ true) l → keep p l ≡ l
   keep-all end = refl
   keep-all (also {x} t a) = rw t (ap (λ (y : List A). x ∷ y) (keep-all a))
-
-  pub keep-none : {l : List A} → All (λ x. p x ≡ false) l → keep p l ≡ []
-  keep-none end = refl
-  keep-none (also t a) = rw t (keep-none a)
 
   pub keep-in : (l : List A) {x : A} → In x (keep p l) → In x l × (p x ≡ true)
   keep-in (y ∷ l) {x} m =

@@ -1,6 +1,6 @@
-pub mod ChainBelow
-pub mod Standing
-pub mod DecodedHeight
-pub mod DecodedWords
-pub mod LocalSound
-pub mod LocalExact
+pub mod BelowLaws
+pub mod StandingLaws
+pub mod HeightLaws
+pub mod DecodedLaws
+pub mod SoundLaws
+pub mod ExactLaws

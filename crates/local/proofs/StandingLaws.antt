@@ -17,7 +17,7 @@ use Rattle.decode.proofs.Restrict.{part, numFrom, numOf}
 use Rattle.decode.proofs.KeepLaws.{Every, Some, all-map, keep-all, some-left, some-right}
 use Rattle.decode.proofs.BelowLaws.{span-all, in-below, slot-of}
 use Rattle.local.specs.Local.{ChildOk, SlotOk, Live, Local, OwnedBy, HeadNodeOk, topLevel}
-use Rattle.local.proofs.ChainBelow.{live-of, reserved-run}
+use Rattle.local.proofs.BelowLaws.{live-of, reserved-run}
 
 pub span-some : (Q : Entry → Type 0) (f : ℕ → List Entry) (i j k : ℕ) → j ≤ i → i < j + k → Some Q (f i) →
     Some Q (span f j k)

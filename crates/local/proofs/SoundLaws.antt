@@ -20,9 +20,9 @@ use Rattle.layout.proofs.SaysLaws.{word-of}
 use Rattle.decode.proofs.ChainLaws.{held-word, reserved-word}
 use Rattle.decode.proofs.FitLaws.{low-base}
 use Rattle.local.specs.Local.{Live, Local, HeadNodeOk, AllFree, HeadOk, topLevel}
-use Rattle.local.proofs.Standing.{decoded, At, here, at-num, at-same, at-there, climb}
-use Rattle.local.proofs.DecodedHeight.{decoded-height, decoded-valid, at-has, has-at}
-use Rattle.local.proofs.DecodedWords.{node-is, mark-node}
+use Rattle.local.proofs.StandingLaws.{decoded, At, here, at-num, at-same, at-there, climb}
+use Rattle.local.proofs.HeightLaws.{decoded-height, decoded-valid, at-has, has-at}
+use Rattle.local.proofs.DecodedLaws.{node-is, mark-node}
 use Rattle.model.proofs.MarkLaws.{marks-one}
 use Rattle.model.specs.Model.{markCount, wordOk}
 

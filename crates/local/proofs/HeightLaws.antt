@@ -34,8 +34,8 @@ use Rattle.decode.proofs.BelowLaws.{wide-pos, in-below, slot-of, up}
 use Rattle.decode.proofs.ChainLaws.{wide-pow, chain-lower}
 use Rattle.decode.proofs.FitLaws.{Big, chain-low, chain-raise, height-is, wide-mono}
 use Rattle.local.specs.Local.{cap, SlotOk, Live, Local, HeadNodeOk, UsedFrom, topLevel}
-use Rattle.local.proofs.ChainBelow.{chain-node, cap-low}
-use Rattle.local.proofs.Standing.{span-some, decoded, below-low, below-some, child-some, At, here, down, at-live, at-list, at-top}
+use Rattle.local.proofs.BelowLaws.{chain-node, cap-low}
+use Rattle.local.proofs.StandingLaws.{span-some, decoded, below-low, below-some, child-some, At, here, down, at-live, at-list, at-top}
 
 module _ (P : Pool) (L : Local P) (h : ℕ) (head-is : slotOf (P .head) ≡ Child h) (H : HeadNodeOk P h) where
   t : ℕ

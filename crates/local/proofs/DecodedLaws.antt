@@ -29,9 +29,9 @@ use Rattle.decode.proofs.ChainLaws.{bit-lt}
 use Rattle.decode.proofs.FitLaws.{chain-ends, chain-oks}
 use Rattle.decode.proofs.CoverLaws.{any-span, bits-are, covers-in, in-covers, unscale, unscale≤}
 use Rattle.local.specs.Local.{HeldOk, SiblingOk, ChildOk, SlotOk, Live, Local, HeadNodeOk, topLevel}
-use Rattle.local.proofs.ChainBelow.{child-chain, held-ok, held-end, Filled, reserved-held, reserved-ok}
-use Rattle.local.proofs.Standing.{Tall, decoded, below-low, child-live, child-some, At, here, down, at-live, at-list, at-top, at-num, slot-at}
-use Rattle.local.proofs.DecodedHeight.{decoded-height}
+use Rattle.local.proofs.BelowLaws.{child-chain, held-ok, held-end, Filled, reserved-held, reserved-ok}
+use Rattle.local.proofs.StandingLaws.{Tall, decoded, below-low, child-live, child-some, At, here, down, at-live, at-list, at-top, at-num, slot-at}
+use Rattle.local.proofs.HeightLaws.{decoded-height}
 
 -- ---- marks
 
