@@ -32,7 +32,7 @@ use Rattle.freemap.specs.FreeMap.{MapOf, FreeMap}
 use Rattle.freemap.proofs.MapLaws.{map-as}
 use Rattle.plan.specs.Plan.{freePlace, NewStore}
 use Rattle.plan.proofs.AfterStoreLaws.{Lies, lies, on-path, in-run, off, rooms, tops, has-path, stays, new-valid}
-use Rattle.write.specs.Writes.{span, offset, linked, entered}
+use Rattle.write.specs.Writes.{width, offset, linked, entered}
 use Rattle.store.specs.Stored.{Stores, Done, entryOf}
 use Rattle.store.proofs.MapAfterLaws.{map-after}
 use Rattle.store.proofs.FreeingLaws.{Freed, freed-none}
@@ -169,7 +169,7 @@ module _ {ws ws₁ : List ℕ} (s : WellFormed ws) {i k w : ℕ} {ps cs : List �
 
   pub path-chain-entry : entered (grownWords (linked ws₁ ps i (k / slotBits) (height L₁)) ps cs (marksOf L) (height L)
       (height L₁) (slot L (numberIn (s .places)) (height L) 0) (both (nonempty L) (not (eqb (block k i) 0))))
-      (getD ps (k / slotBits + 1) 0) (offset i k) (span k) w ≡ render L₁ N₁ (s .n)
+      (getD ps (k / slotBits + 1) 0) (offset i k) (width k) w ≡ render L₁ N₁ (s .n)
   unfolding fieldAt₁
   path-chain-entry = render-is L₁ N₁ (s .n) _
       (enter-long plan (grow-long plan (link-long plan (lg₁ plan clear counted))) .len)

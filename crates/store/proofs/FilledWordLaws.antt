@@ -28,22 +28,9 @@ use Rattle.layout.proofs.FieldLaws.{field-filled}
 use Rattle.layout.proofs.RenderWordLaws.{pool-node}
 use Rattle.plan.specs.Plan.{NewStore}
 use Rattle.plan.proofs.AfterStoreLaws.{has-path, new-lies, fresh-node, zero-apart, has-zero}
-use Rattle.write.specs.Writes.{span, offset}
-use Rattle.store.proofs.SlotCountLaws.{
-  filledAt,
-  filled-at,
-  filled-any,
-  full-node,
-  apart-count,
-  path-count,
-  path-slot,
-  empty-count,
-  entry-count,
-  entry-new,
-  entry-whole,
-  run-none,
-  zero-count,
-}
+use Rattle.write.specs.Writes.{width, offset}
+use Rattle.store.proofs.SlotCountLaws.{filledAt, filled-at, filled-any, full-node, apart-count, path-count, path-slot, empty-count}
+use Rattle.store.proofs.SlotCountLaws.{entry-count, entry-new, entry-whole, run-none, zero-count}
 use Rattle.store.proofs.FinalWordLaws.{Right, Counts}
 use Rattle.store.proofs.NewWordLaws.{field₁-filled, X, X-node, Enough, FilledCounts}
 use Rattle.store.proofs.PathWordLaws.{start-old, Numbered}
@@ -110,16 +97,16 @@ module _ {n : ℕ} {l : List Entry} {os : Places} {i k w : ℕ} (new : NewStore 
 
   -- the entry's node: those of its slots that were filled count no more
   pub entry-one : v < height l′ → any (within (tierOrder (v + 1)) (path (v + 1))) l ≡ false →
-      span k ≡ Y (filledPlace (ν′ (v + 1) (path (v + 1))))
+      width k ≡ Y (filledPlace (ν′ (v + 1) (path (v + 1))))
   entry-one a e = sym (entry-is a ∙ entry-new new ν′ some-word e)
 
   pub entry-then : v < height l′ →
-      filledAt l ν′ v (path (v + 1)) + span k - countTo (λ t. not (eqb (slot l ν′ v (slots * path (v + 1) + (offset i k + t))) 0)) (span k) ≡
+      filledAt l ν′ v (path (v + 1)) + width k - countTo (λ t. not (eqb (slot l ν′ v (slots * path (v + 1) + (offset i k + t))) 0)) (width k) ≡
       Y (filledPlace (ν′ (v + 1) (path (v + 1))))
   entry-then a = omega (arith, entry-is a, entry-count new ν′ some-word)
 
   pub entry-more : v < height l′ → All (λ x. block k (x .base) ≡ block k i → ⊥) l →
-      filledAt l ν′ v (path (v + 1)) + span k ≡ Y (filledPlace (ν′ (v + 1) (path (v + 1))))
+      filledAt l ν′ v (path (v + 1)) + width k ≡ Y (filledPlace (ν′ (v + 1) (path (v + 1))))
   entry-more a z = omega (
     arith,
     entry-is a,
@@ -127,7 +114,7 @@ module _ {n : ℕ} {l : List Entry} {os : Places} {i k w : ℕ} (new : NewStore 
     run-none new ν′ z,
   )
 
-  pub entry-all : v < height l′ → height l < height l′ → block k i ≡ 0 → span k ≡ Y (filledPlace (ν′ (v + 1) (path (v + 1))))
+  pub entry-all : v < height l′ → height l < height l′ → block k i ≡ 0 → width k ≡ Y (filledPlace (ν′ (v + 1) (path (v + 1))))
   entry-all a g e = sym (entry-is a ∙ entry-whole new ν′ some-word g e)
 
   -- a node between the heads

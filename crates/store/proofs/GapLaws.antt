@@ -28,20 +28,8 @@ use Rattle.tree.proofs.HeightLaws.{height-fits, fits-i, fits-base, fits-tall}
 use Rattle.tree.proofs.NeededLaws.{path-up}
 use Rattle.tree.proofs.SlotLaws.{tier-up, zero-starts}
 use Rattle.tree.proofs.StoreLaws.{within-only}
-use Rattle.layout.specs.Words.{
-  place,
-  shiftField,
-  ownerField,
-  fieldSlot,
-  shiftWord,
-  field,
-  fieldAt,
-  shiftPlace,
-  ownerPlace,
-  filledPlace,
-  slotPlace,
-  IsField,
-}
+use Rattle.layout.specs.Words.{place, shiftField, ownerField, fieldSlot, shiftWord, field, fieldAt, shiftPlace, ownerPlace, filledPlace}
+use Rattle.layout.specs.Words.{slotPlace, IsField}
 use Rattle.layout.specs.Places.{Places, numberIn, freeCount, newPlaces, render}
 use Rattle.layout.specs.WellFormed.{WellFormed, num}
 use Rattle.layout.proofs.OwnerLaws.{parent, owner-same}
@@ -55,36 +43,17 @@ use Rattle.plan.specs.Plan.{Drawn, Walked, before, freeAt, leftFree, NewStore}
 use Rattle.plan.proofs.AfterStoreLaws.{lows, tops, has-path}
 use Rattle.plan.proofs.MapNumbers.{map-places, left-new, drawn-none}
 use Rattle.plan.proofs.FreshNumbers.{Tiers, tiers-same, needed-is, path-number}
-use Rattle.write.specs.Writes.{span, offset, joins, headAt, linked, entered, pathCounts, settled, Laid, built}
+use Rattle.write.specs.Writes.{width, offset, joins, headAt, linked, entered, pathCounts, settled, Laid, built}
 use Rattle.store.specs.Stored.{AtGap, Stores, Done, Short, entryOf}
-use Rattle.store.proofs.FinalWordLaws.{
-  Long,
-  Right,
-  EdgeAt,
-  Counts,
-  PathFinal,
-  path-counts,
-  path-makes,
-  set-stays,
-  joins-same,
-  joins-split,
-  joins-keeps,
-  joins-stay,
-}
-use Rattle.store.proofs.NewWordLaws.{field₁, field₁-shift, field₁-owner, field₁-slot, X, X-anchor, X-node, num-lt, edge-of, Enough, FilledCounts}
+use Rattle.store.proofs.FinalWordLaws.{Long, Right, EdgeAt, Counts, PathFinal, path-counts, path-makes, set-stays, joins-same}
+use Rattle.store.proofs.FinalWordLaws.{joins-split, joins-keeps, joins-stay}
+use Rattle.store.proofs.NewWordLaws.{field₁, field₁-shift, field₁-owner, field₁-slot, X, X-anchor, X-node, num-lt, edge-of, Enough}
+use Rattle.store.proofs.NewWordLaws.{FilledCounts}
 use Rattle.store.proofs.PathWordLaws.{shift-ok, owner-ok, head-ok, Numbered}
 use Rattle.write.proofs.RunLaws.{run-fits, run-slot}
 use Rattle.store.proofs.SlotCountLaws.{filledAt}
-use Rattle.store.proofs.FilledWordLaws.{
-  enterable-some,
-  path-more,
-  path-one,
-  entry-one,
-  entry-more,
-  was-filled,
-  path-stays,
-  all-filled,
-}
+use Rattle.store.proofs.FilledWordLaws.{enterable-some, path-more, path-one, entry-one, entry-more, was-filled, path-stays}
+use Rattle.store.proofs.FilledWordLaws.{all-filled}
 use Rattle.store.proofs.EmptyRangeLaws.{has-keeps, map-left, stores-unmarked, path-chain-entry, none-cleared}
 use Rattle.tree.proofs.NodeListLaws.{has-le, has-within, has-in}
 use Rattle.store.proofs.FreedLaws.{Clear}
@@ -384,8 +353,8 @@ module _ {ws : List ℕ} {s : WellFormed ws} {i k w u first : ℕ} (gap : Gap s 
         nodes = λ t a b. rw (is t a b) (path-lt t a b);
         alone = λ e. let d : u ≡ v = omega arith in
             rw (first-filled, is (u + 1) (omega arith) (omega arith)) (subst (λ (y : ℕ).
-            filledAt l ν′ y (block (tierOrder (suc y)) i) + span k ≡ Y (filledPlace (ν′ (y + 1) (block (tierOrder (y + 1)) i))))
-            (sym d) (subst (λ (y : ℕ). filledAt l ν′ v (block (tierOrder y) i) + span k ≡
+            filledAt l ν′ y (block (tierOrder (suc y)) i) + width k ≡ Y (filledPlace (ν′ (y + 1) (block (tierOrder (y + 1)) i))))
+            (sym d) (subst (λ (y : ℕ). filledAt l ν′ v (block (tierOrder y) i) + width k ≡
             Y (filledPlace (ν′ (v + 1) (block (tierOrder (v + 1)) i)))) (add-one v)
             (entry-more (gap .new) enough some-word
             (omega (arith, tier-le, height-same)) (gap .none-start))));
@@ -428,9 +397,9 @@ module _ {ws : List ℕ} {s : WellFormed ws} {i k w u first : ℕ} (gap : Gap s 
       words-after =
           let agree : (t : ℕ) → v < t → t ≤ u + 1 → getD ps t 0 ≡ getD ps′ t 0 =
           λ t a b. is t a b ∙ sym (ps′-is t (omega (arith, tier-le))) in
-          ap (λ (y : List ℕ). entered y (getD ps (v + 1) 0) (offset i k) (span k) w)
+          ap (λ (y : List ℕ). entered y (getD ps (v + 1) 0) (offset i k) (width k) w)
           (joins-same ps ps′ i w₁ (v + 1) d₀ (λ t a b. agree t (omega arith) (omega arith)) ∙ sym (linked-is counted)) ∙
-          (ap (λ (a : ℕ). entered (linked w₁ ps′ i v H′) a (offset i k) (span k) w) (agree (v + 1) (omega arith) (omega arith)) ∙
+          (ap (λ (a : ℕ). entered (linked w₁ ps′ i v H′) a (offset i k) (width k) w) (agree (v + 1) (omega arith) (omega arith)) ∙
           (sym (rw (le-ltb H H′ (omega (arith, height-same))) refl) ∙
           path-chain-entry s plan (gap .none-start) filled))
 
@@ -505,7 +474,7 @@ module _ {ws : List ℕ} (s : WellFormed ws) {i k w u first : ℕ} (deep : k / s
 -- AS THE CODE HAS IT: empty slots of the entry's node
 module _ {ws : List ℕ} (s : WellFormed ws) {i k w u a : ℕ}
     (g : AtGap (s .list) (num s) i k w u a) (tier-is : k / slotBits ≡ u)
-    (empty : (t : ℕ) → t < span k → getD ws (slotPlace a (offset i k + t)) 0 ≡ 0) where
+    (empty : (t : ℕ) → t < width k → getD ws (slotPlace a (offset i k + t)) 0 ≡ 0) where
   abbrev b₀ : ℕ
   b₀ = block (tierOrder (k / slotBits + 1)) i
 
@@ -513,7 +482,7 @@ module _ {ws : List ℕ} (s : WellFormed ws) {i k w u a : ℕ}
   at₀ = subst (λ (y : ℕ). AtNode (s .list) (num s) (k / slotBits) (block (tierOrder y) i) a) (sym (add-one (k / slotBits)))
       (subst (λ (v : ℕ). AtNode (s .list) (num s) v (block (tierOrder (suc v)) i) a) (sym tier-is) (g .at-node))
 
-  slot-zero : (t : ℕ) → t < span k → slot (s .list) (num s) (k / slotBits) (slots * b₀ + (offset i k + t)) ≡ 0
+  slot-zero : (t : ℕ) → t < width k → slot (s .list) (num s) (k / slotBits) (slots * b₀ + (offset i k + t)) ≡ 0
   slot-zero t h = sym (slot-at s at₀ (offset i k + t) (omega (arith, run-fits i k))) ∙ empty t h
 
   none-in : All (λ x. block k (x .base) ≡ block k i → ⊥) (s .list)
@@ -539,7 +508,7 @@ module _ {ws : List ℕ} (s : WellFormed ws) {i k w u a : ℕ}
   enough₀ : Enough (s .n) (s .list) (s .places) (storeNew (s .list) i k w)
   enough₀ = record { placed = s .placed; free = omega (arith, none-needed) }
 
-  words₀ : {ws′ : List ℕ} → T (enterable k w) → ws′ ≡ settled ws a (offset i k) (span k) w → ws′ ≡ render (storeNew (s .list) i k w)
+  words₀ : {ws′ : List ℕ} → T (enterable k w) → ws′ ≡ settled ws a (offset i k) (width k) w → ws′ ≡ render (storeNew (s .list) i k w)
       (newPlaces (s .list) (storeNew (s .list) i k w) (s .places)) (s .n)
   unfolding built joins pathCounts
   words₀ st e =
@@ -548,7 +517,7 @@ module _ {ws : List ℕ} (s : WellFormed ws) {i k w u a : ℕ}
       (omega arith) in
       let z : u + 1 - (k / slotBits + 1) ≡ 0 = omega arith in
       let y : u + 1 ≡ k / slotBits + 1 = omega arith in
-      let same : settled ws a (offset i k) (span k) w ≡ built ws (upTo (λ t. a) 0 (k / slotBits + 2)) i k w u =
+      let same : settled ws a (offset i k) (width k) w ≡ built ws (upTo (λ t. a) 0 (k / slotBits + 2)) i k w u =
       rw (z, y, eq-eqb (k / slotBits + 1) (k / slotBits + 1) refl, num-is) refl in
       e ∙ (same ∙ words-after gap-in high₀ enough₀ (enterable-some k w st)
       ps (λ t p q. let f : t ≡ k / slotBits + 1 = omega arith in
@@ -557,12 +526,12 @@ module _ {ws : List ℕ} (s : WellFormed ws) {i k w u a : ℕ}
       rw f′ (sym (first-is gap-in high₀ enough₀)))))
 
   pub slots-done : {ws′ : List ℕ} {e : Entry} → T (enterable k w) → e ≡ entryOf i k w 0 →
-      ws′ ≡ settled ws a (offset i k) (span k) w →
+      ws′ ≡ settled ws a (offset i k) (width k) w →
       Stores (s .n) (s .list) (s .places) (storeNew (s .list) i k w) i ws ws′ (Done e)
   slots-done st q e = stores-unmarked s (g .new) none-in enough₀ q (words₀ st e)
 
   pub slots-map : {ws′ ms : List ℕ} → T (enterable k w) → w < 2 ^ 64 → FreeMap ws ms →
-      ws′ ≡ settled ws a (offset i k) (span k) w → FreeMap ws′ ms
+      ws′ ≡ settled ws a (offset i k) (width k) w → FreeMap ws′ ms
   slots-map {ms = ms} st w< F e = map-left s (g .new) none-in enough₀ st w< (words₀ st e)
       (left-new (s .places) (newNodes (s .list) (storeNew (s .list) i k w)) ms
       (subst (λ (y : ℕ). MapOf (leftFree (s .places) y) ms) (sym none-needed)

@@ -32,7 +32,7 @@ use Rattle.layout.proofs.FreshLaws.{apart-slot, none-over}
 use Rattle.layout.proofs.RenderWordLaws.{slot-node}
 use Rattle.plan.proofs.AfterStoreLaws.{Lies, lies, on-path, in-run, off, rooms, lows, whole-top, apart-zero}
 use Rattle.plan.proofs.WalkLaws.{head-zero}
-use Rattle.write.specs.Writes.{span, offset}
+use Rattle.write.specs.Writes.{width, offset}
 use Rattle.write.proofs.RunLaws.{run-fits, slot-in-run, run-slot, entry-word, sibling-word}
 use Rattle.plan.specs.Plan.{NewStore}
 
@@ -175,12 +175,12 @@ module _ {l : List Entry} {i k w : ℕ} (new : NewStore l i k w) (ν : Numbering
   abbrev o₀ : ℕ
   o₀ = offset i k
 
-  run-of : (c : ℕ) → c / slots ≡ b₀ → Inside i k (tierOrder v) c → (t : ℕ) × (t < span k) × (c ≡ slots * b₀ + (o₀ + t))
+  run-of : (c : ℕ) → c / slots ≡ b₀ → Inside i k (tierOrder v) c → (t : ℕ) × (t < width k) × (c ≡ slots * b₀ + (o₀ + t))
   run-of c e a =
       run-slot i k c e (ap (λ (y : ℕ). y / 2 ^ (k - tierOrder v)) (sym (block-at (tierOrder v) c)) ∙
       (sym (block-block {j = tierOrder v} {k = k} (c * 2 ^ tierOrder v) (omega arith)) ∙ a _ (block-at (tierOrder v) c)))
 
-  off-run : (j : ℕ) → j < slots → (o₀ ≤ j → j < o₀ + span k → ⊥) → Apart i k (tierOrder v) (slots * b₀ + j)
+  off-run : (j : ℕ) → j < slots → (o₀ ≤ j → j < o₀ + width k → ⊥) → Apart i k (tierOrder v) (slots * b₀ + j)
   off-run j h ne = go (lies i k v (slots * b₀ + j))
     where
       go : Lies i k v (slots * b₀ + j) → Apart i k (tierOrder v) (slots * b₀ + j)
@@ -189,7 +189,7 @@ module _ {l : List Entry} {i k w : ℕ} (new : NewStore l i k w) (ν : Numbering
       go (off a) = a
 
   module _ (some-word : w ≡ 0 → ⊥) where
-    run-full : (t : ℕ) → t < span k → not (eqb (slot l′ ν v (slots * b₀ + (o₀ + t))) 0) ≡ true
+    run-full : (t : ℕ) → t < width k → not (eqb (slot l′ ν v (slots * b₀ + (o₀ + t))) 0) ≡ true
     run-full t h =
         byT (eqb t 0)
         (λ z. let e : t ≡ 0 = eqb-true _ _ z in
@@ -202,25 +202,25 @@ module _ {l : List Entry} {i k w : ℕ} (new : NewStore l i k w) (ν : Numbering
           ne-eqb (siblingWord (offset i k)) 0 (omega arith),
         ))
 
-    run-all : countTo (λ t. not (eqb (slot l′ ν v (slots * b₀ + (o₀ + t))) 0)) (span k) ≡ span k
-    run-all = count-all (λ t. not (eqb (slot l′ ν v (slots * b₀ + (o₀ + t))) 0)) (span k) run-full
+    run-all : countTo (λ t. not (eqb (slot l′ ν v (slots * b₀ + (o₀ + t))) 0)) (width k) ≡ width k
+    run-all = count-all (λ t. not (eqb (slot l′ ν v (slots * b₀ + (o₀ + t))) 0)) (width k) run-full
 
-    pub entry-count : filledAt l′ ν v b₀ + countTo (λ t. not (eqb (slot l ν v (slots * b₀ + (o₀ + t))) 0)) (span k) ≡
-        filledAt l ν v b₀ + span k
+    pub entry-count : filledAt l′ ν v b₀ + countTo (λ t. not (eqb (slot l ν v (slots * b₀ + (o₀ + t))) 0)) (width k) ≡
+        filledAt l ν v b₀ + width k
     unfolding filledAt
     entry-count = rw run-all at (count-run (λ o. not (eqb (slot l ν v (slots * b₀ + o)) 0))
-        (λ o. not (eqb (slot l′ ν v (slots * b₀ + o)) 0)) o₀ (span k) slots (run-fits i k)
+        (λ o. not (eqb (slot l′ ν v (slots * b₀ + o)) 0)) o₀ (width k) slots (run-fits i k)
         (λ j h ne. ap (λ (y : ℕ). not (eqb y 0)) (sym (off-slot v (slots * b₀ + j) (off-run j h ne)))))
 
     -- where the rest of the node is empty
     entry-alone : ((j : ℕ) → j < slots → Apart i k (tierOrder v) (slots * b₀ + j) → slot l ν v (slots * b₀ + j) ≡ 0) →
-        filledAt l′ ν v b₀ ≡ span k
+        filledAt l′ ν v b₀ ≡ width k
     unfolding filledAt
-    entry-alone z = only-run (λ o. not (eqb (slot l′ ν v (slots * b₀ + o)) 0)) o₀ (span k) slots (run-fits i k)
+    entry-alone z = only-run (λ o. not (eqb (slot l′ ν v (slots * b₀ + o)) 0)) o₀ (width k) slots (run-fits i k)
         (λ j h ne. rw (off-slot v (slots * b₀ + j) (off-run j h ne) ∙ z j h (off-run j h ne))) run-full
 
     -- a new node
-    pub entry-new : any (within (tierOrder (v + 1)) b₀) l ≡ false → filledAt l′ ν v b₀ ≡ span k
+    pub entry-new : any (within (tierOrder (v + 1)) b₀) l ≡ false → filledAt l′ ν v b₀ ≡ width k
     entry-new e =
         let s : suc v ≡ v + 1 = omega arith in
         entry-alone (λ j h a. subst (λ (y : ℕ). slot l ν v (slots * block (tierOrder y) i + j) ≡ 0) s
@@ -228,7 +228,7 @@ module _ {l : List Entry} {i k w : ℕ} (new : NewStore l i k w) (ν : Numbering
         j h))
 
     -- the head grows over a run that has the whole old tree
-    pub entry-whole : height l < height l′ → block k i ≡ 0 → filledAt l′ ν v b₀ ≡ span k
+    pub entry-whole : height l < height l′ → block k i ≡ 0 → filledAt l′ ν v b₀ ≡ width k
     entry-whole g e = entry-alone (λ j h a. shrunk l (new .valid) (lows new) ν v
         (omega (arith, whole-top new g e)) (slots * b₀ + j)
         (byT (eqb (slots * b₀ + j) 0)
@@ -237,7 +237,7 @@ module _ {l : List Entry} {i k w : ℕ} (new : NewStore l i k w) (ν : Numbering
         (λ z. let ne : slots * b₀ + j ≡ 0 → ⊥ = eqb-false _ _ z in omega arith)))
 
   -- nothing starts in the range: its slots are empty
-  pub run-slots : All (λ x. block k (x .base) ≡ block k i → ⊥) l → (t : ℕ) → t < span k →
+  pub run-slots : All (λ x. block k (x .base) ≡ block k i → ⊥) l → (t : ℕ) → t < width k →
       slot l ν v (slots * b₀ + (o₀ + t)) ≡ 0
   unfolding slot
   run-slots none t h = rw (
@@ -255,8 +255,8 @@ module _ {l : List Entry} {i k w : ℕ} (new : NewStore l i k w) (ν : Numbering
       inside = slot-in-run i k t h
 
   pub run-none : All (λ x. block k (x .base) ≡ block k i → ⊥) l →
-      countTo (λ t. not (eqb (slot l ν v (slots * b₀ + (o₀ + t))) 0)) (span k) ≡ 0
-  run-none none = count-none (λ t. not (eqb (slot l ν v (slots * b₀ + (o₀ + t))) 0)) (span k) (λ t h. rw (run-slots none t h))
+      countTo (λ t. not (eqb (slot l ν v (slots * b₀ + (o₀ + t))) 0)) (width k) ≡ 0
+  run-none none = count-none (λ t. not (eqb (slot l ν v (slots * b₀ + (o₀ + t))) 0)) (width k) (λ t h. rw (run-slots none t h))
 
   -- ABOVE THE OLD HEAD
   zero-full : (u : ℕ) → height l ≤ u → nonempty l ≡ true → not (eqb (slot l ν u 0) 0) ≡ true

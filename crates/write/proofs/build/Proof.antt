@@ -27,10 +27,10 @@ start c = c .before .before .before .before .before .before .before
 abbrev counted : tie.After-join-all-arg → tie.After-count-path
 counted c = c .before .before .before
 
-abbrev joined : tie.After-enter-arg → tie.After-join-all
+abbrev joined : tie.After-put-entry-arg → tie.After-join-all
 joined c = c .before .before .before .before
 
-abbrev entered-at : tie.After-slice-known4 → tie.After-enter
+abbrev entered-at : tie.After-slice-known4 → tie.After-put-entry
 entered-at c = c .before .before
 
 add-first : tie.Need-add-first
@@ -74,8 +74,8 @@ shared-slice-read-a c = search needs
 seat-of-requires : tie.Need-seat-of-requires
 seat-of-requires c κs = start (counted (joined c .before) .before) .pre .0 .0
 
-enter-requires : tie.Need-enter-requires
-enter-requires c κs = let j = joined (c .before) in let n = counted (j .before) in let z = start (n .before) in
+put-entry-requires : tie.Need-put-entry-requires
+put-entry-requires c κs = let j = joined (c .before) in let n = counted (j .before) in let z = start (n .before) in
     let s = c .seat-of .ensures in (
       omega (
         arith,
@@ -94,7 +94,7 @@ returns : tie.Need-returns
 returns c = let e = entered-at c in let s = e .before in let j = joined (s .before) in let n = counted (j .before) in
     let a = start (n .before) .args in
     built-is (a .pool .now) (a .path .now) (a .target .index) (a .target .order) (a .target .word) (a .u)
-    (n .before .filled-of .ensures) (n .count-path .ensures) (j .join-all .ensures) (s .seat-of .ensures .0) (e .enter .ensures)
+    (n .before .filled-of .ensures) (n .count-path .ensures) (j .join-all .ensures) (s .seat-of .ensures .0) (e .put-entry .ensures)
 
 pub build-spec : {M : Type 1} → statement M
 build-spec =
@@ -113,6 +113,6 @@ build-spec =
     mul-a
     shared-slice-read-a
     seat-of-requires
-    enter-requires
+    put-entry-requires
     same-length
     returns)

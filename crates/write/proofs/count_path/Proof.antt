@@ -8,12 +8,12 @@ use borrow.Author.Tests.{eq-eqb, ne-eqb}
 use borrow.Author.Needs.{needs}
 use Rattle.tree.specs.Tree.{slotBits}
 use Rattle.layout.specs.Words.{filledPlace, lastPlace}
-use Rattle.write.specs.Writes.{span, ones, pathCounts}
+use Rattle.write.specs.Writes.{width, ones, pathCounts}
 use Rattle.write.proofs.count_path.Statement.{statement}
 use Rattle.write.proofs.count_path.Tie as tie
 
 -- in the code's terms
-module _ (ws ps : List ℕ) (k top f : ℕ) {c : ℕ} (c-is : c ≡ span k) where
+module _ (ws ps : List ℕ) (k top f : ℕ) {c : ℕ} (c-is : c ≡ width k) where
   one-node : {ws₁ : List ℕ} → k / slotBits + 1 ≡ top → ws₁ ≡ set ws (filledPlace (getD ps top 0)) (f + c) →
       ws₁ ≡ pathCounts ws ps k top f
   unfolding pathCounts
@@ -28,7 +28,7 @@ module _ (ws ps : List ℕ) (k top f : ℕ) {c : ℕ} (c-is : c ≡ span k) wher
       e₃ ∙ rw (ne-eqb _ _ t, two, e₂, e₁, c-is)
 
 -- THE PLACES IN THE CODE, each from one after it
-abbrev start : tie.After-span-of → tie.Start
+abbrev start : tie.After-width-of → tie.Start
 start c = c .before .before .before
 
 abbrev put-one : tie.After-slice-known2 → tie.After-put-filled
@@ -37,7 +37,7 @@ put-one c = c .before .before
 abbrev alone : tie.After-put-filled-arg → tie.Then1
 alone c = c .before
 
-abbrev spanned : tie.Then1 → tie.After-span-of
+abbrev spanned : tie.Then1 → tie.After-width-of
 spanned c = c .before .before
 
 abbrev counted : tie.After-slice-known5 → tie.After-count-ones
@@ -52,7 +52,7 @@ put-top c = c .before .before .before .before
 abbrev further : tie.After-put-filled-arg2 → tie.Else1
 further c = c .before
 
-abbrev spanned-2 : tie.Else1 → tie.After-span-of
+abbrev spanned-2 : tie.Else1 → tie.After-width-of
 spanned-2 c = c .before .before
 
 -- the node of a tier of the path is one of the pool's
@@ -63,8 +63,8 @@ node-fits z u a b = z .pre .1 u a b
 add-t : tie.Need-add-t
 add-t c = search needs
 
-span-of-requires : tie.Need-span-of-requires
-span-of-requires c κs = search needs
+width-of-requires : tie.Need-width-of-requires
+width-of-requires c κs = search needs
 
 mul-a : tie.Need-mul-a
 mul-a c = search needs
@@ -83,7 +83,7 @@ same-length c = search needs
 
 returns : tie.Need-returns
 returns c = let y = put-one c in let t = alone (y .before) in let x = spanned t in let a = start x .args in
-    one-node (a .pool .now) (a .path .now) (a .order) (a .top) (a .f) (x .span-of .ensures .0) (t .if1 .taken)
+    one-node (a .pool .now) (a .path .now) (a .order) (a .top) (a .f) (x .width-of .ensures .0) (t .if1 .taken)
     (y .put-filled .ensures)
 
 add-put-filled-2 : tie.Need-add-put-filled-2
@@ -117,7 +117,7 @@ same-length-2 c = search needs
 returns-2 : tie.Need-returns-2
 returns-2 c = let n = counted c in let q = put-low (n .before) in let p = put-top (q .before) in
     let t = further (p .before) in let x = spanned-2 t in let a = start x .args in
-    more-nodes (a .pool .now) (a .path .now) (a .order) (a .top) (a .f) (x .span-of .ensures .0) (t .if1 .left)
+    more-nodes (a .pool .now) (a .path .now) (a .order) (a .top) (a .f) (x .width-of .ensures .0) (t .if1 .left)
     (p .put-filled2 .ensures) (q .put-filled3 .ensures) (n .count-ones .ensures)
 
 pub count-path-spec : {M : Type 1} → statement M
@@ -125,7 +125,7 @@ count-path-spec =
     tie.close
     (tie.spec
     add-t
-    span-of-requires
+    width-of-requires
     mul-a
     shared-slice-read-a
     add-put-filled

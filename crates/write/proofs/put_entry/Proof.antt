@@ -1,7 +1,7 @@
--- `enter`: an entry in its slots.
+-- `put_entry`: an entry in its slots.
 use borrow.Author.Needs.{needs}
-use Rattle.write.proofs.enter.Statement.{statement}
-use Rattle.write.proofs.enter.Tie as tie
+use Rattle.write.proofs.put_entry.Statement.{statement}
+use Rattle.write.proofs.put_entry.Tie as tie
 
 add-fill-slots : tie.Need-add-fill-slots
 add-fill-slots c = search needs
@@ -24,8 +24,8 @@ same-length c = search needs
 returns : tie.Need-returns
 returns c = cc
 
-pub enter-spec : {M : Type 1} → statement M
-enter-spec =
+pub put-entry-spec : {M : Type 1} → statement M
+put-entry-spec =
     tie.close
     (tie.spec
     add-fill-slots
