@@ -4,10 +4,10 @@
 use answers::ABSENT;
 use answers::DONE;
 use batch::Reply;
-use words::pow2;
 use model::Covered;
 use model::Entry;
 use model::shown_word;
+use words::pow2;
 ghost use mathlib.Core.Path.{_≡_};
 ghost use Prim.Native.Nat.{_≤_};
 ghost use Rattle.blocks.specs.Choice.{either};
