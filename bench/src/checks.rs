@@ -1,30 +1,19 @@
 //! Pools for the check: well-formed ones of many kinds, and each with one wrong word near its end.
 
-use crate::finds::runs;
+use crate::kinds::{kinds, pool, Kind};
 use crate::library::Library;
-use crate::loads::*;
-use crate::measure::{empty_pool, longest_batch, nanoseconds};
+use crate::measure::{empty_pool, nanoseconds};
 use std::hint::black_box;
 use std::time::Instant;
 use xapool_host::layout::{
     count_place, filled_slots, mark_place, node_place, node_word, owner_place,
 };
-use xapool_host::{node_count, Command, REPLY_BYTES};
+use xapool_host::node_count;
 
 const NODES: [usize; 3] = [40, 1000, 16_384];
-/// Room for more entries side by side than any pool has.
-const MOST_INDICES: u64 = 64 * 16_384;
-const TOO_FEW_NODES: u8 = 11;
 /// Checks of one pool by one build in a turn, and turns in a round: more where each takes less.
 const IN_A_TURN: u32 = 5;
 const TURNS_OF_SMALL: u32 = 8;
-
-/// A kind of pool: as many of these stores as fit, then the marks.
-struct Kind {
-    name: &'static str,
-    stores: Vec<Command>,
-    marks: Vec<Command>,
-}
 
 /// A pool, good or with one wrong word, the answer that each build must give, and nanoseconds of
 /// the check by each build, the shortest so far.
@@ -115,53 +104,6 @@ impl Trial {
     }
 }
 
-fn all_marks(indices: impl Iterator<Item = u64>) -> Vec<Command> {
-    indices.flat_map(|index| (0..3).map(move |mark| Command::Mark { index, mark })).collect()
-}
-
-fn kinds() -> Vec<Kind> {
-    let kind = |name, stores: Vec<Command>, marks| Kind { name, stores, marks };
-    let dense = || dense_stores(MOST_INDICES);
-    let mut random = Random(20);
-    let sparse = (0..2000).map(|_| store(random.below(1 << 24))).collect();
-    let holes: Vec<u64> = (0..2 * MOST_INDICES).filter(|_| random.below(2) == 0).collect();
-    let stored_holes = || holes.iter().copied().map(store).collect();
-    let runs = runs(&mut random, MOST_INDICES);
-    let runs = runs.into_iter().map(|(base, order)| store_order(base, order)).collect();
-    let order_1 = (0..MOST_INDICES / 2).map(|number| store_order(2 * number, 1)).collect();
-    let one_marked = one_in_97(MOST_INDICES).map(mark).collect();
-    vec![
-        kind("empty", Vec::new(), Vec::new()),
-        kind("dense, full", dense(), Vec::new()),
-        kind("sparse below 2^24", sparse, Vec::new()),
-        kind("random holes", stored_holes(), Vec::new()),
-        kind("dense, one in 97 marked", dense(), one_marked),
-        kind("dense, all marked", dense(), all_marks(0..MOST_INDICES)),
-        kind("random holes, the rest marked", stored_holes(), all_marks(holes.iter().copied())),
-        kind("runs of orders 0 to 5", runs, Vec::new()),
-        kind("order 1", order_1, Vec::new()),
-    ]
-}
-
-/// The words of a pool of this kind. Whether the builds make it alike is what the loads are for.
-fn pool(library: &dyn Library, kind: &Kind, nodes: usize) -> Result<Vec<u64>, String> {
-    let mut pool = empty_pool(library, nodes)?;
-    // Once full, no more fit; marks of what is not there are refused, and that is all.
-    for part in [&kind.stores, &kind.marks] {
-        for batch in batches(part, longest_batch(&[library])?) {
-            let mut reply = vec![0; REPLY_BYTES * batch.len()];
-            let result = library.run(&mut pool, batch.bytes(), &mut reply);
-            if result.answer != 0 {
-                return Err(format!("{}: {result:?}", kind.name));
-            }
-            if reply.chunks(REPLY_BYTES).any(|reply| reply[3] == TOO_FEW_NODES) {
-                break;
-            }
-        }
-    }
-    Ok(pool)
-}
-
 /// The last node in use.
 fn last_node(words: &[u64]) -> Option<usize> {
     (0..node_count(words.len())?).rev().find(|node| words[node_place(*node)] != 0)
@@ -183,8 +125,9 @@ impl Checked {
     }
 }
 
+/// What a pass over a pool takes at least.
 #[inline(never)]
-fn or_all(words: &[u64]) -> u64 {
+pub fn or_all(words: &[u64]) -> u64 {
     words.iter().fold(0, |all, word| all | word)
 }
 

@@ -90,6 +90,8 @@ struct Trial<'a> {
     engines: [Box<dyn Calls>; 2],
     run: Times,
     check: Times,
+    /// What each run took more than the check beside it.
+    less: Times,
     by_engines: [Times; 2],
 }
 
@@ -104,6 +106,7 @@ impl<'a> Trial<'a> {
             engines: [Box::new(safe), Box::new(raw)],
             run: Times::default(),
             check: Times::default(),
+            less: Times::default(),
             by_engines: Default::default(),
         })
     }
@@ -124,6 +127,7 @@ impl<'a> Trial<'a> {
         let times = times(&Linked, 0, &self.ready, &mut self.pool)?;
         self.run.add(times.iter().map(|time| time.run));
         self.check.add(times.iter().map(|time| time.check));
+        self.less.add(times.iter().map(|time| time.run - time.check));
         Ok(())
     }
 
@@ -145,6 +149,7 @@ impl<'a> Trial<'a> {
             batches: self.run.batches.len(),
             run: self.run.mean(),
             check: self.check.mean(),
+            less_median: self.less.mean().median,
             engines: [self.by_engines[0].mean(), self.by_engines[1].mean()],
         }
     }
@@ -186,14 +191,15 @@ pub struct Row {
     pub batches: usize,
     run: Mean,
     pub check: Mean,
+    /// Of what each run took more than the check beside it.
+    less_median: f64,
     engines: [Mean; 2],
 }
 
 impl Row {
     /// The library's time without the check.
     pub fn less_check(&self) -> Mean {
-        let (run, check) = (self.run, self.check);
-        Mean { least: run.least - check.least, median: run.median - check.median }
+        Mean { least: self.run.least - self.check.least, median: self.less_median }
     }
 
     /// The library's time without the check by the engines'.

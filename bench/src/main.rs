@@ -1,15 +1,17 @@
 //! bench: loads through xapool_run beside the engines of engine/, three of them also over a BTreeMap,
-//! the cost by nodes, that of free nodes, lists, and digests and comparisons. With `engines` that with
-//! the engines alone; with `against` two builds of the library in one run; with `redraw` the pictures
-//! of the figures that stand in BENCHMARKS.md.
+//! the cost by nodes, that of free nodes, lists, digests and comparisons, and the check beside an OR.
+//! With `engines` that with the engines alone, with `checks` that of the check; with `against` two
+//! builds of the library in one run; with `redraw` the pictures of the figures in BENCHMARKS.md.
 
 mod against;
+mod beside_or;
 mod checks;
 mod engine_plot;
 mod engines;
 mod figures;
 mod finds;
 mod free;
+mod kinds;
 mod library;
 mod lists;
 mod loads;
@@ -28,6 +30,7 @@ use std::path::Path;
 use std::process::ExitCode;
 use std::{env, fs};
 use table::{ByNodes, ListRow, Row, NODES};
+use xapool_host::MOST_NODES;
 
 /// The pool has room for 62,000 or so.
 const MOST_INDICES: u64 = 60_000;
@@ -40,6 +43,7 @@ usage: bench [--indices N] [--repeats N] [--small-repeats N] [--rounds N] [--wri
   --rounds    of the loads beside the engines; 100 if not named
   --write     writes BENCHMARKS.md, engines.svg and benchmarks.svg to this folder
        bench engines ..   the loads beside the engines alone
+       bench checks ..    the check of pools of many kinds beside an OR of their words
        bench against ..   two builds in one run: scripts/bench-against
        bench redraw DIR   engines.svg and benchmarks.svg anew, from DIR/BENCHMARKS.md; nothing is measured
 Exit status: 0 fine, 1 a call was refused or a file could not be written, 2 bad usage.";
@@ -76,6 +80,7 @@ fn main() -> ExitCode {
     let mode = env::args().nth(1).unwrap_or_default();
     let (measured, usage) = match mode.as_str() {
         "against" => (against::run(env::args().skip(2)), against::USAGE),
+        "checks" => (beside_or::measure(env::args().skip(2)), beside_or::USAGE),
         "engines" => (engines::measure(env::args().skip(2)), engines::USAGE),
         "redraw" => (env::args().nth(2).map(|folder| redraw(&folder)), USAGE),
         _ => (options().map(|options| measure_all(&options)), USAGE),
@@ -124,10 +129,14 @@ fn measure_alone(options: &Options) -> Result<String, String> {
     // A small run has small regions alone.
     let largest = if count < MOST_INDICES { 1 << 20 } else { usize::MAX };
     let regions = regions::rows(largest, options.repeats)?;
+    let checks = beside_or::rows(MOST_NODES, options.small_repeats.div_ceil(2))?;
+    let checks_text =
+        format!("{}\n{}\n", beside_or::table(MOST_NODES, &checks), beside_or::verdict(&checks));
     let texts = [
         table::loads(&rows),
         nodes_text,
         free_text,
+        checks_text,
         table::lists(&lists),
         table::regions(&regions),
     ];
@@ -174,7 +183,7 @@ fn free_nodes(options: &Options) -> Result<Vec<ByNodes>, String> {
             if at == 0 {
                 rows.push(ByNodes { name: load.name, costs: [measure::Cost::default(); 3] });
             }
-            rows[number].costs[at] = cost(load, nodes, fewer.max(options.repeats))?;
+            rows[number].costs[at] = cost(load, nodes, fewer.max(8 * options.repeats))?;
         }
     }
     Ok(rows)
@@ -194,7 +203,8 @@ fn put(folder: &str, name: &str, text: &str) -> Result<(), String> {
 /// What the first table says.
 const BESIDE: &str = "\
     Times and ratios are two: from the shortest time of each batch of all rounds, and from its median; each is the mean \
-    over all batches. The library and the two engines of [engine/](../engine) take the same batches in one process, in \
+    over all batches. The check is timed by an empty batch just before each, and the median without it is that of the \
+    differences. The library and the two engines of [engine/](../engine) take the same batches in one process, in \
     turns, and every reply of an engine is compared with the library's byte for byte. All are release builds, the engines \
     by rustc at opt-level 3 (Cargo.toml). An engine has nodes of its own and so no pool to check.";
 
@@ -202,11 +212,13 @@ const BESIDE: &str = "\
 const ALONE: &str = "\
     Where few nodes are free: an entry erased and another stored at random with nine tenths of the nodes in use (churn); a \
     store that needs three nodes and its erase, with one low and the last two free; stores that end in answer 11. \
-    A run and a list check their pool first, whose time grows with N and not with the commands; it is timed by itself on \
-    the same pool just before each, and taken off. Of each batch the shortest time of all repeats counts. \
+    A run and a list check their pool first, whose time grows with N and not with the commands; it is timed by an empty \
+    batch on the same pool just before each (of a list by xapool_check), and taken off. Of each batch the shortest times of \
+    all repeats count; with 16,384 nodes the median of the differences, as the check takes many times what the commands take. \
     The library reads records and writes replies as bytes; the BTreeMap takes its commands from memory, knows \
     order 0 alone and writes plain values. The GB/s of a \
-    comparison are of each of the two regions. The two in Rust are the usual loops over one table and over eight.";
+    comparison are of each of the two regions. Of a check beside an OR the times are of the processor, the shortest and the median: all pools \
+    are checked in turn, then an OR of each, so that the words come from memory; read again at once they come from the cache. The two in Rust are the usual loops over one table and over eight.";
 
 /// The pictures, each with its name, of the text of BENCHMARKS.md.
 fn pictures(benchmarks: &str) -> Result<[(&'static str, String); 2], String> {

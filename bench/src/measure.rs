@@ -1,10 +1,21 @@
-//! Times a load through the runs of one or more libraries, and the check by itself.
+//! Times a load through the runs of one or more libraries, each beside a run of an empty batch.
 
 use crate::library::Library;
 use crate::loads::{batches, Load, Work};
 use std::time::Instant;
 use xapool_host::raw::RawResult;
-use xapool_host::{pool_words, BatchBuilder, Command, MOST_BATCH_BYTES, REPLY_BYTES};
+use xapool_host::{pool_words, BatchBuilder, Command, MOST_BATCH_BYTES, MOST_NODES, REPLY_BYTES};
+
+pub fn least(times: &[f64]) -> f64 {
+    times.iter().copied().fold(f64::MAX, f64::min)
+}
+
+/// 0 if there are none.
+pub fn median(times: &[f64]) -> f64 {
+    let mut times = times.to_vec();
+    times.sort_by(f64::total_cmp);
+    times.get(times.len() / 2).copied().unwrap_or(0.0)
+}
 
 /// Nanoseconds for all commands of a load.
 #[derive(Clone, Copy, Debug, Default)]
@@ -13,7 +24,7 @@ pub struct Cost {
     pub batches: u64,
     /// All runs; each begins with a check of its pool.
     pub run: f64,
-    /// The check of the same pools, timed by itself just before each run.
+    /// Runs of an empty batch on the same pools, each just before the other: the check alone.
     pub check: f64,
 }
 
@@ -36,7 +47,7 @@ impl Cost {
     }
 }
 
-/// The time of a batch: its run, and the check before it.
+/// The time of a batch: its run, and that of an empty batch before it, which is the check.
 #[derive(Clone, Copy)]
 pub struct Time {
     pub run: f64,
@@ -51,13 +62,15 @@ impl Time {
     }
 }
 
-/// A load by one or more libraries, and the shortest time of each batch so far.
+/// A load by one or more libraries, and the times of each batch so far.
 pub struct Trial<'a> {
     pub load: &'a Load,
+    nodes: usize,
     /// One pool for all, so that none has the better place in memory; each takes as much as it needs.
     pool: Vec<u64>,
     ready: Vec<Ready>,
-    best: Vec<Vec<Time>>,
+    /// Of each library and each batch, by rounds.
+    times: Vec<Vec<Vec<Time>>>,
 }
 
 impl<'a> Trial<'a> {
@@ -69,9 +82,9 @@ impl<'a> Trial<'a> {
     ) -> Result<Trial<'a>, String> {
         let ready = all_ready(libraries, load, nodes)?;
         let batches: usize = ready.iter().map(|ready| ready.batches.len()).sum();
-        let best = vec![vec![Time::LONGEST; batches]; libraries.len()];
+        let times = vec![vec![Vec::new(); batches]; libraries.len()];
         let words = ready.iter().flat_map(|ready| &ready.sizes).max();
-        Ok(Trial { load, pool: vec![0; words.copied().unwrap_or(0)], ready, best })
+        Ok(Trial { load, nodes, pool: vec![0; words.copied().unwrap_or(0)], ready, times })
     }
 
     /// The load once by each library, in turns that begin with another in each round.
@@ -80,16 +93,32 @@ impl<'a> Trial<'a> {
             let at = (round as usize + turn) % libraries.len();
             let times = times(libraries[at], at, &self.ready, &mut self.pool)
                 .map_err(|error| format!("{}: {error}", self.load.name))?;
-            self.best[at].iter_mut().zip(times).for_each(|(best, time)| *best = best.least(time));
+            self.times[at].iter_mut().zip(times).for_each(|(all, time)| all.push(time));
         }
         Ok(())
     }
 
-    /// By each library, from the shortest times.
+    /// By each library, from the shortest time of each batch; in the largest pools from medians, as the
+    /// check takes many times what the commands take there.
     pub fn costs(&self) -> Vec<Cost> {
         let commands = self.load.pools.iter().map(|work| work.timed.len() as u64).sum();
-        self.best.iter().map(|times| total(commands, times)).collect()
+        let one = if self.nodes == MOST_NODES { middle } else { shortest };
+        let total = |batches: &Vec<Vec<Time>>| {
+            total(commands, &batches.iter().map(|times| one(times)).collect::<Vec<_>>())
+        };
+        self.times.iter().map(total).collect()
     }
+}
+
+pub fn shortest(times: &[Time]) -> Time {
+    times.iter().fold(Time::LONGEST, |best, time| best.least(*time))
+}
+
+/// The median of the checks, and with it that of what each run took more than the check beside it.
+pub fn middle(times: &[Time]) -> Time {
+    let all = |of: fn(&Time) -> f64| median(&times.iter().map(of).collect::<Vec<_>>());
+    let check = all(|time| time.check);
+    Time { run: check + all(|time| time.run - time.check), check }
 }
 
 fn total(commands: u64, times: &[Time]) -> Cost {
@@ -272,7 +301,7 @@ fn timed_run(
     // Not timed: so the words are as near for the check as for the run after it.
     done(library.check(pool))?;
     let start = Instant::now();
-    let checked = library.check(pool);
+    let checked = library.run(pool, &[], &mut []);
     let check = nanoseconds(start);
     let start = Instant::now();
     let ran = library.run(pool, batch.bytes(), reply);

@@ -82,7 +82,7 @@ pub fn loads(rows: &[Row]) -> String {
 }
 
 /// A number with its thousands told apart.
-fn grouped(number: usize) -> String {
+pub fn grouped(number: usize) -> String {
     match (number / 1000, number % 1000) {
         (0, rest) => rest.to_string(),
         (thousands, rest) => format!("{},{rest:03}", grouped(thousands)),

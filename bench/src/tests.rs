@@ -1,14 +1,17 @@
 //! The loads fit the pools they run on.
 
-use crate::library::{Library, Linked};
+use crate::library::{processor_time, Library, Linked};
 use crate::loads::*;
-use crate::measure::{Cost, Trial};
+use crate::measure::{self, Cost, Trial};
 use crate::table::{self, ByNodes};
-use crate::{checks, engines, finds, free, lists, regions, stores};
+use crate::{beside_or, checks, engines, finds, free, kinds, lists, regions, stores};
 use std::collections::BTreeSet;
-use xapool_host::layout::node_place;
+use xapool_host::layout::{
+    count_place, filled_slots, mark_place, node_place, sibling_word, slot_place, RESERVED_WORD,
+    SLOTS,
+};
 use xapool_host::raw::RawResult;
-use xapool_host::{Command, Pool, MOST_BATCH_BYTES};
+use xapool_host::{Command, Pool, MOST_BATCH_BYTES, MOST_NODES};
 
 /// The nodes that stores of order 0 below 2^24 take, at most: a node of each shift over each.
 fn most_nodes(work: &Work) -> usize {
@@ -208,8 +211,114 @@ fn builds_of_which_one_has_no_lists_are_measured_without() -> Result<(), String>
 #[test]
 fn pools_for_the_check_are_good_and_bad() -> Result<(), String> {
     let mut trials = checks::trials(&[&Linked])?;
-    assert_eq!(trials.len(), 27);
+    assert_eq!(trials.len(), 3 * kinds::kinds().len());
     trials.iter_mut().try_for_each(|trial| trial.round(&[&Linked], 0))
+}
+
+/// What the names of the kinds say of the pools, of 1,000 nodes: reserved places and places of entries,
+/// siblings and marks of a node that is in use.
+#[test]
+fn kinds_are_what_they_are_called() -> Result<(), String> {
+    for kind in kinds::kinds().into_iter().filter(|kind| kind.name != "empty") {
+        let words = kinds::pool(&Linked, &kind, 1000)?;
+        let in_use = (0..1000).filter(|node| words[node_place(*node)] != 0);
+        let slots: Vec<u64> = in_use
+            .clone()
+            .flat_map(|node| &words[slot_place(node, 0)..slot_place(node, SLOTS)])
+            .copied()
+            .collect();
+        let share = |is: fn(u64) -> bool| {
+            slots.iter().filter(|word| is(**word)).count() as f64 / slots.len() as f64
+        };
+        let reserved = share(|word| word == RESERVED_WORD);
+        let siblings = share(|word| word % 4 == 2 && word < 256);
+        let empty = share(|word| word == 0);
+        let marked = in_use.clone().any(|node| words[mark_place(node, 0)] != 0);
+        let about = |is: f64, to_be: f64| (is - to_be).abs() < 0.1;
+        let (name, says) = (kind.name, |word: &str| kind.name.contains(word));
+        assert_eq!(says("mark"), marked, "{name}");
+        assert_eq!(says("order"), siblings > 0.1, "{name}: {siblings}");
+        assert!(about(reserved, if says("reserved") { 0.5 } else { 0.0 }), "{name}: {reserved}");
+        assert!(!says("gaps") || empty > 0.2, "{name}: {empty}");
+        assert!(!says("holes") || about(empty, 0.5), "{name}: {empty}");
+        assert!(in_use.count() > 900, "{name}");
+    }
+    Ok(())
+}
+
+/// The shortest time of some checks that all give this answer.
+fn check_time(words: &[u64], answer: u64) -> f64 {
+    let once = |_| {
+        let start = processor_time();
+        assert_eq!(Linked.check(words).answer, answer);
+        processor_time() - start
+    };
+    measure::least(&(0..20).map(once).collect::<Vec<_>>())
+}
+
+/// What the byte passes do not pass is looked at again, and that once: a pool in which every leaf is bad,
+/// or every node above the leaves, is refused at the first.
+#[test]
+fn a_pool_of_bad_nodes_ends_at_the_first() -> Result<(), String> {
+    let kinds = kinds::kinds();
+    for (name, shift) in [("orders 0 and 1, gaps, marks", 0), ("orders 6 and 7, gaps, marks", 6)] {
+        let kind = kinds.iter().find(|kind| kind.name == name).ok_or(name)?;
+        let good = kinds::pool(&Linked, kind, MOST_NODES)?;
+        let mut bad = good.clone();
+        let nodes: Vec<usize> =
+            (0..MOST_NODES).filter(|node| good[node_place(*node)] == shift + 1).collect();
+        assert!(nodes.len() > MOST_NODES / 2);
+        // A sibling that follows nothing, and the count that goes with it.
+        for node in nodes {
+            bad[slot_place(node, 0)] = sibling_word(0);
+            bad[count_place(node)] = filled_slots(&bad, node);
+        }
+        let (good, bad) = (check_time(&good, 0), check_time(&bad, 2));
+        assert!(100.0 * bad < good, "{name}: {bad} against {good} ns");
+    }
+    Ok(())
+}
+
+#[test]
+fn checks_over_their_limits_are_named() {
+    let row =
+        |name, check, or| beside_or::Row::with(name, &[check, check, 2.0 * check], &[or, or, or]);
+    let rows = [
+        row(kinds::DENSE, 150.0, 100.0),
+        row(kinds::HOLES, 200.0, 100.0),
+        row("one", 999.0, 100.0),
+    ];
+    let verdict = beside_or::verdict(&rows);
+    assert_eq!(verdict.matches("none").count(), 3, "{verdict}");
+    let rows = [
+        row(kinds::DENSE, 151.0, 100.0),
+        row(kinds::HOLES, 201.0, 100.0),
+        row("one", 1001.0, 100.0),
+    ];
+    assert_eq!(
+        beside_or::verdict(&rows),
+        "From memory, over 10 times the OR: one; over 1.5 of the dense one: dense, full; over 2 of that with holes: random holes."
+    );
+}
+
+#[test]
+fn checks_beside_an_or_run() -> Result<(), String> {
+    let rows = beside_or::rows(40, 2)?;
+    assert_eq!(rows.len(), kinds::kinds().len());
+    assert_eq!(beside_or::table(40, &rows).lines().count(), rows.len() + 2);
+    Ok(())
+}
+
+/// In the largest pool it is not the shortest times that count: of (run, check) these are 100 and 50,
+/// while the median of the differences is 30.
+#[test]
+fn the_largest_pools_are_measured_by_medians() {
+    let time = |(run, check)| measure::Time { run, check };
+    let times = [(130.0, 100.0), (100.0, 99.0), (200.0, 50.0)].map(time);
+    let middle = measure::middle(&times);
+    assert_eq!((middle.check, middle.run - middle.check), (99.0, 30.0));
+    let least = measure::shortest(&times);
+    assert_eq!((least.run, least.check), (100.0, 50.0));
 }
 
 #[test]

@@ -114,6 +114,9 @@ fn number8(s: &[u8], at: usize) -> u64
     requires { ⌜ at + 8 ≤ length (now s) ⌝ }
     ensures { λ r. ⌜ r ≡ numberAt (now (s .entry)) at 8 ⌝ }
 {
+    if s.len() <= at {
+        return 0;
+    }
     let a = wide(s[at + 0]);
     let b = wide(s[at + 1]);
     let c = wide(s[at + 2]);

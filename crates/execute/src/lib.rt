@@ -158,7 +158,7 @@ fn is_storable(word: u64) -> bool
     if word == 0 {
         return false;
     }
-    word % 4 != 2
+    word / 4 * 4 + 2 != word
 }
 
 // A store's word, or that of a reservation.

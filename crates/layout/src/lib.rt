@@ -233,19 +233,19 @@ pub fn owner_word(n: u64, o: u64) -> u64
 pub fn read_slot(w: u64) -> Slot
     ensures { λ r. ⌜ r ≡ slotOf w ⌝ }
 {
+    if w % 4 == 2 {
+        if NODES_FROM <= w {
+            return Slot::Child(w / 4 - NODE_OFFSET);
+        }
+        if w == RESERVED {
+            return Slot::Reserved;
+        }
+        return Slot::Sibling(w / 4);
+    }
     if w == 0 {
         return Slot::Empty;
     }
-    if w % 4 != 2 {
-        return Slot::Held;
-    }
-    if w == RESERVED {
-        return Slot::Reserved;
-    }
-    if w < NODES_FROM {
-        return Slot::Sibling(w / 4);
-    }
-    Slot::Child(w / 4 - NODE_OFFSET)
+    Slot::Held
 }
 
 // 1 for the word of a sibling slot, else 0; such a word is below that of a reservation.
