@@ -4,7 +4,6 @@ pub mod ReplyLaws
 pub mod LocalLaws
 pub mod PartLaws
 pub mod Footprint
-pub mod BudgetLaws
 pub mod TableLaws
 pub mod ReplyFits
 pub mod Literals

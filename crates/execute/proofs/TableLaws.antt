@@ -74,7 +74,7 @@ use Rattle.execute.specs.Table.CommandRow.{
   find-12,
   find-13,
 }
-use Rattle.execute.proofs.BudgetLaws.{Comes, matched, ended, paused, comes, matched-is, ended-is}
+use Rattle.lookup.proofs.BudgetLaws.{Comes, matched, ended, paused, comes, matched-is, ended-is}
 use Rattle.execute.proofs.ExecuteLaws.{short-11, enough-0, taken-15, index-aligned}
 use Rattle.execute.proofs.ExecuteLaws as X
 use Rattle.execute.proofs.ReplyLaws.{

@@ -11,14 +11,13 @@ use borrow.Author.Tests.{leb-true, leb-false}
 use Rattle.blocks.proofs.BoolLaws.{byT}
 use Rattle.model.specs.declared.Entry.{Entry}
 use Rattle.model.specs.Model.{Valid}
 use Rattle.lookup.specs.declared.Turn.{Turn}
 use Rattle.lookup.specs.declared.Turn.the-variants.{Hit, Past, On}
 use Rattle.lookup.specs.declared.Outcome.{Outcome}
 use Rattle.lookup.specs.declared.Outcome.the-variants.{Found, Ended, Paused}
 use Rattle.lookup.specs.Find.{step, proceed, findFrom, find, firstMatch}
-use Rattle.lookup.specs.Steps.{steps}
+use Rattle.lookup.specs.Steps.{steps, enough, stepsIn, PausesAt}
 use Rattle.lookup.proofs.FindLaws.{Right, right-found, right-ended, right-paused, find-right, steps-budget, resume, no-pause}
-use Rattle.execute.specs.Table.{enough, stepsIn, PausesAt}
 
 module _ (l : List Entry) (f last : ℕ) where
   counted : (k n : ℕ) (t : Turn) → ((q : ℕ) → suc n ≤ steps (findFrom l f last k q (suc n))) →
