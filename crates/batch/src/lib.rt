@@ -11,14 +11,13 @@ use words::put8;
 ghost use mathlib.Core.Path.{_≡_};
 ghost use mathlib.Core.Bool.{true};
 ghost use mathlib.Core.Logic.{_≢_};
-ghost use mathlib.Core.List.{[], _∷_};
-ghost use Prim.Native.Nat.{_+_, _*_, _<_, _≤_, _%_};
+ghost use Prim.Native.Nat.{_+_, _<_, _≤_};
 ghost use lib.ListN.{length};
-ghost use Rattle.words.specs.Bytes.{numberAt, bytesThen, overwrite};
+ghost use Rattle.words.specs.Bytes.{numberAt, overwrite};
 ghost use Rattle.batch.specs.Batch.{fieldBytes, headBytes, commandAt, isRecord, nextAt, readAt, restAt, counted, parse};
 ghost use Rattle.batch.specs.declared.Read.the-variants.{Next};
 ghost use Rattle.blocks.specs.Choice.{pick};
-ghost use Rattle.batch.specs.Reply.{replyBytes, encode, replyTag};
+ghost use Rattle.batch.specs.Reply.{replyBytes, encode};
 
 // The longest batch, the bytes of a record before its fields, and the bytes of a reply.
 pub const MAX_BATCH: usize = 32768;

@@ -3,7 +3,7 @@ use Prim.Native.Nat.{ℕ, suc, _+_, _*_, _-_, _/_, _%_, _≤_, _<_}
 use mathlib.Core.Path.{_≡_, sym, ap, subst, _∙_}
 use mathlib.Core.List.{List}
 use native.Mathlib.Omega.{arith}
-use native.Mathlib.Nat.{zero-add, mod-lt, div-add-mod, div-eq-of-lt, mod-eq-of-lt, mul-add-div, mul-comm, mul-suc, mul-le-mul-left, add-mul-mod-self-left}
+use native.Mathlib.Nat.{zero-add, mod-lt, div-add-mod, div-eq-of-lt, mod-eq-of-lt, mul-add-div, mul-suc, mul-le-mul-left, add-mul-mod-self-left}
 use lib.Dec.{ltb}
 use lib.ListN.{length, getD}
 use lib.Seq.{ext-getD}

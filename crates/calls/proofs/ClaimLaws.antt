@@ -26,7 +26,7 @@ use Rattle.verify.proofs.AnswerLaws.{prescribed-0}
 use Rattle.batch.specs.Fits.{Fits}
 use Rattle.words.specs.Bytes.{Bytes}
 use Rattle.batch.specs.declared.Command.{Command}
-use Rattle.batch.specs.declared.Command.the-variants.{Store, Reserve}
+use Rattle.batch.specs.declared.Command.the-variants.{Store}
 use Rattle.batch.specs.Batch.{Parsed, Parsed.commands, Parsed.refused, parse}
 use Rattle.batch.specs.Reply.{replyBytes}
 use Rattle.batch.proofs.BoundLaws.{AllFit, parse-fits}
@@ -43,27 +43,7 @@ use Rattle.execute.proofs.TableLaws.{rows, row-sole}
 use Rattle.calls.specs.Calls.{Called, run, runParsed, replies, listOver}
 use Rattle.answers.specs.Answers.{result, done}
 use Rattle.calls.specs.Running.{wordsOf}
-use Rattle.calls.specs.Demand.{
-  Call,
-  Call.init,
-  Call.check,
-  Call.batch,
-  Call.list,
-  wordsAfterAll,
-  executeAll,
-  listAfterAll,
-  Bytewise,
-  Stands,
-  ShortExact,
-  ReserveShort,
-  Commanded,
-  AtCommand,
-  Ran,
-  AtBatch,
-  AtCall,
-  Demand3,
-  Starts,
-}
+use Rattle.calls.specs.Demand.{Call, Call.init, Call.check, Call.batch, Call.list, Bytewise, ShortExact, ReserveShort, Commanded, AtCommand, AtBatch, AtCall, Demand3, Starts}
 use Rattle.calls.proofs.ListCallLaws.{list-checked}
 use Rattle.calls.proofs.DemandLaws.{
   states-list,

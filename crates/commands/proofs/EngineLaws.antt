@@ -8,7 +8,7 @@ use lib.Dec.{ltb, eqb}
 use borrow.Author.Tests.{ltb-false}
 use Rattle.blocks.proofs.BoolLaws.{byT}
 use Rattle.model.specs.declared.Entry.{Entry}
-use Rattle.model.specs.Model.{reservedWord, markCount, covering, present, store}
+use Rattle.model.specs.Model.{markCount, covering, present}
 use Rattle.batch.specs.declared.Command.{Command}
 use Rattle.batch.specs.declared.Command.the-variants.{Store, Load, Erase, Mark, Unmark, Find, Reserve}
 use Rattle.commands.specs.Commands.{Engine, replyOf, reserving, executeAs}

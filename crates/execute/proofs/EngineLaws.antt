@@ -1,5 +1,5 @@
 -- The tree beside a plain list as engine: where both have room and no find pauses, they agree.
-use Prim.Native.Nat.{ℕ, _≤_}
+use Prim.Native.Nat.{ℕ}
 use mathlib.Core.Path.{_≡_, refl}
 use mathlib.Core.List.{List}
 use mathlib.Core.Option.{Option, none, some}
@@ -9,7 +9,7 @@ use Rattle.answers.specs.Answers.{ended}
 use Rattle.model.specs.declared.Entry.{Entry}
 use Rattle.model.specs.Model.{Valid}
 use Rattle.lookup.specs.declared.Outcome.{Outcome}
-use Rattle.lookup.specs.declared.Outcome.the-variants.{Found, Ended, Paused}
+use Rattle.lookup.specs.declared.Outcome.the-variants.{Paused}
 use Rattle.lookup.specs.Find.{find, firstMatch}
 use Rattle.lookup.proofs.FindLaws.{Right, right-found, right-ended, right-paused, find-right}
 use Rattle.batch.specs.declared.Command.{Command}

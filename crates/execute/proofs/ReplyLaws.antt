@@ -12,22 +12,7 @@ use borrow.Author.Tests.{leb-true, leb-false, lt-ltb, le-ltb, le-leb, lt-leb, eq
 use Rattle.blocks.specs.Choice.{pick, either}
 use Rattle.blocks.proofs.BoolLaws.{byT, clash, is-false, either-e}
 use Rattle.model.specs.declared.Entry.{Entry}
-use Rattle.model.specs.Model.{
-  covering,
-  present,
-  covered,
-  storable,
-  enterable,
-  reserved,
-  reservedWord,
-  maxOrder,
-  aligned,
-  store,
-  erase,
-  remark,
-  markCount,
-  matchedMark,
-}
+use Rattle.model.specs.Model.{covering, present, covered, storable, enterable, reservedWord, maxOrder, aligned, store, erase, remark, markCount, matchedMark}
 use Rattle.model.specs.ByBlock as B
 use Rattle.model.proofs.AlignedLaws.{store-is}
 use Rattle.model.proofs.ValidLaws.{storable-enters}

@@ -1,6 +1,6 @@
 -- Well-formedness as a test that computes: the list and the places are read off the words, and every word compared.
 use Prim.Native.Nat.{ℕ, _+_, _*_, _-_, _/_, _^_}
-use mathlib.Core.Bool.{Bool, true, false}
+use mathlib.Core.Bool.{Bool, true}
 use mathlib.Core.List.{List, [], _∷_}
 use lib.Dec.{leb, ltb, eqb}
 use lib.ListN.{length}

@@ -1,16 +1,15 @@
 -- Free numbers by a map of the free nodes: the lowest ones are drawn from it one by one.
-use Prim.Native.Nat.{ℕ, zero, suc, _+_, _-_, _≤_, _<_}
-use mathlib.Core.Path.{_≡_, refl, sym, ap, subst, _∙_}
+use Prim.Native.Nat.{ℕ, zero, suc, _+_, _≤_, _<_}
+use mathlib.Core.Path.{_≡_, refl, sym, ap, _∙_}
 use mathlib.Core.Bool.{Bool, true, false}
-use mathlib.Core.List.{List, [], _∷_}
-use mathlib.Core.Option.{none, some}
+use mathlib.Core.List.{List}
+use mathlib.Core.Option.{none}
 use native.Mathlib.Omega.{arith}
 use lib.Dec.{ltb, leb, eqb}
 use lib.ListN.{length, getD, set}
 use lib.Seq.{getD-set-same, getD-set-other}
-use borrow.Author.Tests.{eqb-true, eqb-false, ltb-true, ltb-false, lt-ltb, leb-true, leb-false, le-leb, lt-leb}
-use Rattle.blocks.specs.Choice.{both}
-use Rattle.blocks.proofs.BoolLaws.{byT, iff, clash, is-false, both-i, both-l, both-r, both-no, both-yes}
+use borrow.Author.Tests.{eqb-true, eqb-false, ltb-true, ltb-false, lt-ltb, leb-true, le-leb, lt-leb}
+use Rattle.blocks.proofs.BoolLaws.{byT, iff, clash, both-i, both-l, both-r, both-no, both-yes}
 use Rattle.tree.specs.Tree.{Node}
 use Rattle.layout.specs.Words.{countWord, shiftPlace}
 use Rattle.layout.specs.Places.{Places, freeCount, allocate}

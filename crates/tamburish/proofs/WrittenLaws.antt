@@ -1,7 +1,6 @@
 -- What the program writes, by the bytes that it read alone (R3, R56, R230): with a pool of 40 nodes and 17,856 bytes for replies.
-use Prim.Native.Nat.{ℕ, zero, suc, _+_, _*_, _-_, _/_, _≤_, _<_}
+use Prim.Native.Nat.{ℕ, zero, suc, _+_, _*_, _-_, _≤_, _<_}
 use mathlib.Core.Path.{_≡_, refl, sym, ap, subst, _∙_}
-use mathlib.Core.Bool.{Bool, true, false}
 use mathlib.Core.Logic.{_≢_}
 use mathlib.Core.List.{List, [], _∷_, _++_}
 use native.Mathlib.Omega.{arith}
@@ -9,10 +8,8 @@ use lib.Dec.{ltb, eqb}
 use lib.ListN.{length, getD, take, drop}
 use borrow.Author.Tests.{lt-ltb, le-ltb, ltb-true, ltb-false}
 use Rattle.blocks.proofs.BoolLaws.{byT}
-use Rattle.model.specs.declared.Entry.{Entry}
 use Rattle.layout.specs.Words.{poolWords}
-use Rattle.layout.specs.Decide.{nodeCount, isSized}
-use Rattle.verify.specs.Answers.{initAnswer, initWords}
+use Rattle.verify.specs.Answers.{initWords}
 use Rattle.batch.specs.declared.Command.{Command}
 use Rattle.batch.specs.declared.Cursor.{Cursor}
 use Rattle.batch.specs.declared.Read.{Read}
@@ -32,10 +29,10 @@ use Rattle.batch.specs.Batch.{
   parse,
 }
 use Rattle.batch.specs.Reply.{replyBytes}
-use Rattle.batch.proofs.ParseLaws.{WasRead, was-read, Whole, whole, Onward, next-after, not-refused, parse-long, parse-rest}
-use Rattle.calls.specs.Calls.{Called, refuseCall, replies, run, runParsed}
+use Rattle.batch.proofs.ParseLaws.{WasRead, was-read, whole, Onward, next-after, not-refused, parse-long, parse-rest}
+use Rattle.calls.specs.Calls.{refuseCall, replies, run, runParsed}
 use Rattle.answers.specs.Answers.{badBatch}
-use Rattle.calls.specs.Demand.{Call.init, wordsAfter, Starts.fresh}
+use Rattle.calls.specs.Demand.{Starts.fresh}
 use Rattle.decode.proofs.DecodeLaws.{decode-list}
 use Rattle.calls.proofs.DemandLaws.{run-as, Started, started}
 use Rattle.calls.proofs.RunningLaws.{replies-length}

@@ -1,7 +1,5 @@
 -- `list`: the entries whose run meets first to last, in index order.
-use mathlib.Core.Path.{_≡_, refl, sym, ap, _∙_}
-use Rattle.layout.specs.WellFormed.{WellFormed}
-use Rattle.verify.specs.Answers.{checkAnswer}
+use mathlib.Core.Path.{refl, sym, ap, _∙_}
 use Rattle.verify.proofs.AnswerLaws.{accepted}
 use Rattle.calls.specs.Calls.{listResult}
 use Rattle.calls.proofs.ListCallLaws.{list-unchecked, list-turned, list-refused, list-result, list-buffer}

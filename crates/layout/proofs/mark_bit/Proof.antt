@@ -1,5 +1,4 @@
 -- `mark_bit`: mark m of slot o of node n.
-use Prim.Native.Nat.{ℕ}
 use mathlib.Core.Path.{ap}
 use borrow.Author.Needs.{needs}
 use Rattle.blocks.specs.Blocks.{bit}

@@ -1,6 +1,5 @@
 -- `takes`: whether a filter takes an entry.
 use mathlib.Core.Path.{refl, sym, _∙_}
-use native.Mathlib.Omega.{arith}
 use borrow.Author.Tests.{ne-eqb}
 use borrow.Author.Needs.{needs}
 use Rattle.lookup.proofs.takes.Statement.{statement}

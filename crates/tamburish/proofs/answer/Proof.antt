@@ -1,7 +1,7 @@
 -- `answer`: what the program does with the bytes that it read.
 use borrow.Author.Needs.{needs}
 use native.Mathlib.Omega.{arith}
-use mathlib.Core.Path.{_≡_, refl, sym, ap, ap₂, subst, _∙_}
+use mathlib.Core.Path.{_≡_, refl, sym, ap₂, _∙_}
 use lib.ListN.{length, take, length-take}
 use Rattle.tamburish.proofs.WrittenLaws.{program-writes}
 use Rattle.tamburish.proofs.answer.Statement.{statement}
