@@ -6,15 +6,6 @@ use borrow.Author.Needs.{needs}
 use Rattle.calls.proofs.count.Statement.{statement}
 use Rattle.calls.proofs.count.Tie as tie
 
-count-through-requires : tie.Need-count-through-requires
-count-through-requires c κs = search needs
-
-enum-known-counted : tie.Need-enum-known-counted
-enum-known-counted c = search needs
-
-enum-known-counted-2 : tie.Need-enum-known-counted-2
-enum-known-counted-2 c = search needs
-
 returns : tie.Need-returns
 returns c = (count-refused _ (sym (c .before .counted .given .1) ∙ c .before .before .before .count-through .ensures), refl)
 
@@ -24,4 +15,4 @@ returns-2 c = (count-done _ (sym (c .before .counted2 .given .1) ∙ c .before .
 pub count-spec : {M : Type 1} → statement M
 count-spec =
     tie.close
-    (tie.spec count-through-requires enum-known-counted enum-known-counted-2 returns returns-2)
+    (tie.spec (λ c κs. search needs) (λ c. search needs) (λ c. search needs) returns returns-2)

@@ -6,14 +6,8 @@ use borrow.Author.Needs.{needs}
 use Rattle.calls.proofs.init.Statement.{statement}
 use Rattle.calls.proofs.init.Tie as tie
 
-init-requires : tie.Need-init-requires
-init-requires c κs = search needs
-
-same-length : tie.Need-same-length
-same-length c = search needs
-
 returns : tie.Need-returns
 returns c = (ap (λ (a : ℕ). result a 0) (c .before .before .init .ensures .0), c .before .before .init .ensures .1)
 
 pub init-spec : {M : Type 1} → statement M
-init-spec = tie.close (tie.spec init-requires same-length returns)
+init-spec = tie.close (tie.spec (λ c κs. search needs) (λ c. search needs) returns)

@@ -7,9 +7,6 @@ use borrow.Author.Needs.{needs}
 use Rattle.calls.proofs.list.Statement.{statement}
 use Rattle.calls.proofs.list.Tie as tie
 
-check-requires : tie.Need-check-requires
-check-requires c κs = search needs
-
 returns : tie.Need-returns
 returns c =
     let (r, b) = list-refused _ _ _ _ _ (c .before .check .ensures)
@@ -25,15 +22,6 @@ returns-2 c =
 list-requires : tie.Need-list-requires
 list-requires c κs = accepted _ (sym (c .before .before .before .check .ensures) ∙ c .before .before .if1 .left)
 
-enum-known-listed : tie.Need-enum-known-listed
-enum-known-listed c = search needs
-
-enum-known-listed-2 : tie.Need-enum-known-listed-2
-enum-known-listed-2 c = search needs
-
-same-length : tie.Need-same-length
-same-length c = search needs
-
 returns-3 : tie.Need-returns-3
 returns-3 c =
     let ok = sym (c .before .before .before .before .before .before .before .before .before .check .ensures) ∙ c .before .before .before
@@ -47,9 +35,6 @@ returns-3 c =
         refl,
       ),
     )
-
-same-length-2 : tie.Need-same-length-2
-same-length-2 c = search needs
 
 returns-4 : tie.Need-returns-4
 returns-4 c =
@@ -69,13 +54,13 @@ pub list-spec : {M : Type 1} → statement M
 list-spec =
     tie.close
     (tie.spec
-    check-requires
+    (λ c κs. search needs)
     returns
     returns-2
     list-requires
-    enum-known-listed
-    enum-known-listed-2
-    same-length
+    (λ c. search needs)
+    (λ c. search needs)
+    (λ c. search needs)
     returns-3
-    same-length-2
+    (λ c. search needs)
     returns-4)

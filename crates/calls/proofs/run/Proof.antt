@@ -19,30 +19,12 @@ counted c = c .before .before .before .before .before .before
 abbrev passed : tie.After-run-counted-arg2 → tie.Else1
 passed c = counted c .before
 
-slice-aggregate-check-map : tie.Need-slice-aggregate-check-map
-slice-aggregate-check-map c = search needs
-
 check-map-requires : tie.Need-check-map-requires
 check-map-requires c κs = blank-map
-
-same-length : tie.Need-same-length
-same-length c = search needs
 
 returns : tie.Need-returns
 returns c = let e = c .before .before .check-map .ensures .0 in
     with-lent (as-ensures (comes-as e (comes-refused (run-unchecked _ _ _ (λ z. c .if1 .taken (e ∙ z)))))) refl
-
-count-requires : tie.Need-count-requires
-count-requires c κs = search needs
-
-enum-known-counted : tie.Need-enum-known-counted
-enum-known-counted c = search needs
-
-enum-known-counted-2 : tie.Need-enum-known-counted-2
-enum-known-counted-2 c = search needs
-
-slice-aggregate-run-counted : tie.Need-slice-aggregate-run-counted
-slice-aggregate-run-counted c = search needs
 
 run-counted-requires : tie.Need-run-counted-requires
 run-counted-requires c κs = let p = passed c in let m = checked p .check-map .ensures in (
@@ -53,19 +35,10 @@ run-counted-requires c κs = let p = passed c in let m = checked p .check-map .e
   ),
 )
 
-same-length-2 : tie.Need-same-length-2
-same-length-2 c = search needs
-
 returns-2 : tie.Need-returns-2
 returns-2 c = let p = passed-bad c in
     with-lent (as-ensures (comes-refused (run-bad _ _ _ (sym (checked p .check-map .ensures .0) ∙ p .if1 .left)
     (sym (c .before .counted .given .1) ∙ c .before .before .before .count .ensures)))) refl
-
-same-length-3 : tie.Need-same-length-3
-same-length-3 c = search needs
-
-same-length-4 : tie.Need-same-length-4
-same-length-4 c = search needs
 
 returns-3 : tie.Need-returns-3
 returns-3 c = with-lent (c .before .before .before .before .before .run-counted .ensures) refl
@@ -74,17 +47,17 @@ pub run-spec : {M : Type 1} → statement M
 run-spec =
     tie.close
     (tie.spec
-    slice-aggregate-check-map
+    (λ c. search needs)
     check-map-requires
-    same-length
+    (λ c. search needs)
     returns
-    count-requires
-    enum-known-counted
-    enum-known-counted-2
-    slice-aggregate-run-counted
+    (λ c κs. search needs)
+    (λ c. search needs)
+    (λ c. search needs)
+    (λ c. search needs)
     run-counted-requires
-    same-length-2
+    (λ c. search needs)
     returns-2
-    same-length-3
-    same-length-4
+    (λ c. search needs)
+    (λ c. search needs)
     returns-3)

@@ -24,19 +24,10 @@ run-all-requires : tie.Need-run-all-requires
 run-all-requires c κs = let z = start c in
     (accepted _ (z .pre .0), (z .pre .1 .0, ahead (z .args .reply .now) (was-read (z .pre .1 .1)) (omega arith)))
 
-same-length : tie.Need-same-length
-same-length c = search needs
-
-same-length-2 : tie.Need-same-length-2
-same-length-2 c = search needs
-
-same-length-3 : tie.Need-same-length-3
-same-length-3 c = search needs
-
 returns-2 : tie.Need-returns-2
 returns-2 c = let a = ran-all c in let p = start (a .before) .pre in let r = was-read (p .1 .1) in
     as-ensures (ran (p .0) r (omega arith) (a .run-all .ensures (accepted _ (p .0)) (r .cs) (r .rest)))
 
 pub run-counted-spec : {M : Type 1} → statement M
 run-counted-spec =
-    tie.close (tie.spec returns run-all-requires same-length same-length-2 same-length-3 returns-2)
+    tie.close (tie.spec returns run-all-requires (λ c. search needs) (λ c. search needs) (λ c. search needs) returns-2)

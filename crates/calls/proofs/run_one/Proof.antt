@@ -9,21 +9,6 @@ use Rattle.calls.proofs.run_one.Tie as tie
 abbrev executed : tie.After-slice-known6 → tie.After-execute
 executed c = c .before .before .before .before .before .before .before .before
 
-execute-requires : tie.Need-execute-requires
-execute-requires c κs = search needs
-
-write-reply-requires : tie.Need-write-reply-requires
-write-reply-requires c κs = search needs
-
-same-length : tie.Need-same-length
-same-length c = search needs
-
-same-length-2 : tie.Need-same-length-2
-same-length-2 c = search needs
-
-same-length-3 : tie.Need-same-length-3
-same-length-3 c = search needs
-
 returns : tie.Need-returns
 returns c = (
   (λ s. turned s (executed c .execute .ensures .0 s) refl
@@ -33,4 +18,4 @@ returns c = (
 
 pub run-one-spec : {M : Type 1} → statement M
 run-one-spec =
-    tie.close (tie.spec execute-requires write-reply-requires same-length same-length-2 same-length-3 returns)
+    tie.close (tie.spec (λ c κs. search needs) (λ c κs. search needs) (λ c. search needs) (λ c. search needs) (λ c. search needs) returns)

@@ -4,11 +4,8 @@ use borrow.Author.Needs.{needs}
 use Rattle.commands.proofs.answered_by.Statement.{statement}
 use Rattle.commands.proofs.answered_by.Tie as tie
 
-shown-word-requires : tie.Need-shown-word-requires
-shown-word-requires c κs = search needs
-
 returns : tie.Need-returns
 returns c = rw (c .shown-word .ensures) refl
 
 pub answered-by-spec : {M : Type 1} → statement M
-answered-by-spec = tie.close (tie.spec shown-word-requires returns)
+answered-by-spec = tie.close (tie.spec (λ c κs. search needs) returns)

@@ -8,9 +8,6 @@ use borrow.Author.Needs.{needs}
 use Rattle.commands.proofs.is_aligned.Statement.{statement}
 use Rattle.commands.proofs.is_aligned.Tie as tie
 
-pow2-requires : tie.Need-pow2-requires
-pow2-requires c κs = search needs
-
 rem-result : tie.Need-rem-result
 rem-result c = omega (arith, c .pow2 .ensures, pow-pos (c .before .args .order))
 
@@ -18,4 +15,4 @@ returns : tie.Need-returns
 returns c = ap (λ (m : ℕ). eqb (c .before .args .index % m) 0) (c .pow2 .ensures)
 
 pub is-aligned-spec : {M : Type 1} → statement M
-is-aligned-spec = tie.close (tie.spec pow2-requires rem-result returns)
+is-aligned-spec = tie.close (tie.spec (λ c κs. search needs) rem-result returns)

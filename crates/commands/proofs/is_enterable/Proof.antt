@@ -7,14 +7,8 @@ use borrow.Author.Needs.{needs}
 use Rattle.commands.proofs.is_enterable.Statement.{statement}
 use Rattle.commands.proofs.is_enterable.Tie as tie
 
-returns : tie.Need-returns
-returns c = search needs
-
-is-storable-requires : tie.Need-is-storable-requires
-is-storable-requires c κs = search needs
-
 returns-2 : tie.Need-returns-2
 returns-2 c = c .is-storable .ensures ∙ sym (ap (λ (b : Bool). either b (storable (c .before .before .args .word))) (c .before .if1 .left))
 
 pub is-enterable-spec : {M : Type 1} → statement M
-is-enterable-spec = tie.close (tie.spec returns is-storable-requires returns-2)
+is-enterable-spec = tie.close (tie.spec (λ c. search needs) (λ c κs. search needs) returns-2)

@@ -21,14 +21,8 @@ inner-word w =
 returns : tie.Need-returns
 returns c = rw (c .if1 .taken)
 
-mul-result : tie.Need-mul-result
-mul-result c = omega arith
-
-add-result : tie.Need-add-result
-add-result c = omega arith
-
 returns-2 : tie.Need-returns-2
 returns-2 c = rw (ne-eqb _ 0 (c .if1 .left), inner-word _)
 
 pub is-storable-spec : {M : Type 1} → statement M
-is-storable-spec = tie.close (tie.spec returns mul-result add-result returns-2)
+is-storable-spec = tie.close (tie.spec returns (λ c. omega arith) (λ c. omega arith) returns-2)

@@ -125,12 +125,6 @@ returns-2 c = let o = owner-of-from-slice-known4 c in
           (c .before .before .free-head .kept .0) (d .gone) (d .head) (d .rest),
     )
 
-sub-m : tie.Need-sub-m Inv-loop μ-loop
-sub-m c = omega arith
-
-sub-unlink : tie.Need-sub-unlink Inv-loop μ-loop
-sub-unlink c = omega arith
-
 unlink-requires : tie.Need-unlink-requires Inv-loop μ-loop
 unlink-requires c κs = let o = c .before .before in
     let w = loop-from-owner-of o .loop .inv in
@@ -219,8 +213,8 @@ prune-up-spec =
     same-length-3
     same-length-4
     returns-2
-    sub-m
-    sub-unlink
+    (λ c. omega arith)
+    (λ c. omega arith)
     unlink-requires
     add-v
     loop-less

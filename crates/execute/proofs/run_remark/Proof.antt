@@ -21,12 +21,6 @@ else1-from-covered-reply c = c .before .before .before .before .before
 abbrev remarked-tag-from-covered-reply : tie.After-covered-reply → tie.After-remarked-tag
 remarked-tag-from-covered-reply c = else1-from-covered-reply c .before
 
-remarked-tag-requires : tie.Need-remarked-tag-requires
-remarked-tag-requires c κs = search needs
-
-answered-requires : tie.Need-answered-requires
-answered-requires c κs = search needs
-
 returns : tie.Need-returns
 returns c = let a = start-from-answered c .args in (
   (λ s. leaves s (remarking (a .index) (a .mark) (a .on))
@@ -34,15 +28,6 @@ returns c = let a = start-from-answered c .args in (
       (c .answered .ensures ∙ ap (λ (t : ℕ). answered t badMark 0 0) (c .before .before .remarked-tag .ensures))),
   λ ms u. u,
 )
-
-set-mark-requires : tie.Need-set-mark-requires
-set-mark-requires c κs = search needs
-
-covered-reply-requires : tie.Need-covered-reply-requires
-covered-reply-requires c κs = search needs
-
-same-length : tie.Need-same-length
-same-length c = search needs
 
 returns-2 : tie.Need-returns-2
 returns-2 c =
@@ -61,10 +46,10 @@ pub run-remark-spec : {M : Type 1} → statement M
 run-remark-spec =
     tie.close
     (tie.spec
-    remarked-tag-requires
-    answered-requires
+    (λ c κs. search needs)
+    (λ c κs. search needs)
     returns
-    set-mark-requires
-    covered-reply-requires
-    same-length
+    (λ c κs. search needs)
+    (λ c κs. search needs)
+    (λ c. search needs)
     returns-2)

@@ -17,17 +17,8 @@ abbrev μ-loop : tie.MeasureT-loop
 loop-holds : tie.Need-loop-holds Inv-loop μ-loop
 loop-holds c = (omega arith, λ x h. absurd (omega arith))
 
-add-next-marked : tie.Need-add-next-marked Inv-loop μ-loop
-add-next-marked c = omega arith
-
-mul-next-marked : tie.Need-mul-next-marked Inv-loop μ-loop
-mul-next-marked c = omega arith
-
 shared-slice-read-next-marked : tie.Need-shared-slice-read-next-marked Inv-loop μ-loop
 shared-slice-read-next-marked c = omega (arith, c .before .before .before .before .pre .is .long, c .before .loop-test .taken)
-
-next-marked-requires : tie.Need-next-marked-requires Inv-loop μ-loop
-next-marked-requires c κs = omega arith
 
 mul-k : tie.Need-mul-k Inv-loop μ-loop
 mul-k c = omega (arith, c .before .before .before .loop-test .taken)
@@ -44,9 +35,6 @@ mul-next-marked-2 c = omega (arith, c .before .before .before .loop-test .taken,
 shared-slice-read-next-marked-2 : tie.Need-shared-slice-read-next-marked-2 Inv-loop μ-loop
 shared-slice-read-next-marked-2 c = let t = c .before .before .before .before in
     omega (arith, t .before .before .before .pre .is .long, t .loop-test .taken, c .before .if1 .taken)
-
-next-marked-requires-2 : tie.Need-next-marked-requires-2 Inv-loop μ-loop
-next-marked-requires-2 c κs = omega arith
 
 add-result : tie.Need-add-result Inv-loop μ-loop
 add-result c = omega (arith, c .before .before .before .before .before .loop-test .taken, c .before .before .if1 .taken, c .next-marked2 .ensures .most)
@@ -79,16 +67,16 @@ lowest-free-spec =
     Inv-loop
     μ-loop
     loop-holds
-    add-next-marked
-    mul-next-marked
+    (λ c. omega arith)
+    (λ c. omega arith)
     shared-slice-read-next-marked
-    next-marked-requires
+    (λ c κs. omega arith)
     mul-k
     add-k
     mul-result
     mul-next-marked-2
     shared-slice-read-next-marked-2
-    next-marked-requires-2
+    (λ c κs. omega arith)
     add-result
     returns
     add-j

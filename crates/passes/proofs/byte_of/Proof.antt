@@ -4,15 +4,6 @@ use borrow.Author.Needs.{needs}
 use Rattle.passes.proofs.byte_of.Statement.{statement}
 use Rattle.passes.proofs.byte_of.Tie as tie
 
-sub-low-byte : tie.Need-sub-low-byte
-sub-low-byte c = search needs
-
-low-byte-requires : tie.Need-low-byte-requires
-low-byte-requires c κs = search needs
-
-bit-of-requires : tie.Need-bit-of-requires
-bit-of-requires c κs = search needs
-
 returns : tie.Need-returns
 returns c = rw (eq-eqb _ 2 (c .before .if1 .taken)) (c .low-byte .ensures)
 
@@ -21,4 +12,4 @@ returns-2 c = rw (ne-eqb _ 2 (c .before .if1 .left)) (c .bit-of .ensures)
 
 pub byte-of-spec : {M : Type 1} → statement M
 byte-of-spec =
-    tie.close (tie.spec sub-low-byte low-byte-requires bit-of-requires returns returns-2)
+    tie.close (tie.spec (λ c. search needs) (λ c κs. search needs) (λ c κs. search needs) returns returns-2)

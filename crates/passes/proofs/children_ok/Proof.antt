@@ -20,17 +20,8 @@ abbrev μ-loop : tie.MeasureT-loop
 loop-holds : tie.Need-loop-holds Inv-loop μ-loop
 loop-holds c = (omega arith, λ i l. absurd (omega arith))
 
-may-lead-requires : tie.Need-may-lead-requires Inv-loop μ-loop
-may-lead-requires c κs = omega arith
-
 returns : tie.Need-returns Inv-loop μ-loop
 returns c = λ e. absurd (clash e refl)
-
-add-j : tie.Need-add-j Inv-loop μ-loop
-add-j c = omega arith
-
-loop-less : tie.Need-loop-less Inv-loop μ-loop
-loop-less c = omega arith
 
 loop-again : tie.Need-loop-again Inv-loop μ-loop
 loop-again c = (omega arith, below-next _ _ (c .before .before .before .loop .inv .1) (c .before .may-lead .ensures (not-false _ (c .if1 .left))))
@@ -45,9 +36,9 @@ children-ok-spec =
     Inv-loop
     μ-loop
     loop-holds
-    may-lead-requires
+    (λ c κs. omega arith)
     returns
-    add-j
-    loop-less
+    (λ c. omega arith)
+    (λ c. omega arith)
     loop-again
     returns-2)

@@ -4,33 +4,6 @@ use Rattle.passes.proofs.ByteLaws.{chained-of}
 use Rattle.passes.proofs.fault.Statement.{statement}
 use Rattle.passes.proofs.fault.Tie as tie
 
-bit-of-requires : tie.Need-bit-of-requires
-bit-of-requires c κs = search needs
-
-bit-of-requires-2 : tie.Need-bit-of-requires-2
-bit-of-requires-2 c κs = search needs
-
-bit-of-requires-3 : tie.Need-bit-of-requires-3
-bit-of-requires-3 c κs = search needs
-
-add-bit-of : tie.Need-add-bit-of
-add-bit-of c = search needs
-
-bit-of-requires-4 : tie.Need-bit-of-requires-4
-bit-of-requires-4 c κs = search needs
-
-bit-of-requires-5 : tie.Need-bit-of-requires-5
-bit-of-requires-5 c κs = search needs
-
-unfit-requires : tie.Need-unfit-requires
-unfit-requires c κs = search needs
-
-bit-of-requires-6 : tie.Need-bit-of-requires-6
-bit-of-requires-6 c κs = search needs
-
-bit-of-requires-7 : tie.Need-bit-of-requires-7
-bit-of-requires-7 c κs = search needs
-
 returns : tie.Need-returns
 returns c = λ z. chained-of _ _ _ _ _ _ _ _ _ _ _ _ (c .before .before .before .before .before .before .before .bit-of .ensures)
     (c .before .before .before .before .before .before .bit-of2 .ensures) (c .before .before .before .before .before .bit-of3 .ensures)
@@ -41,13 +14,13 @@ pub fault-spec : {M : Type 1} → statement M
 fault-spec =
     tie.close
     (tie.spec
-    bit-of-requires
-    bit-of-requires-2
-    bit-of-requires-3
-    add-bit-of
-    bit-of-requires-4
-    bit-of-requires-5
-    unfit-requires
-    bit-of-requires-6
-    bit-of-requires-7
+    (λ c κs. search needs)
+    (λ c κs. search needs)
+    (λ c κs. search needs)
+    (λ c. search needs)
+    (λ c κs. search needs)
+    (λ c κs. search needs)
+    (λ c κs. search needs)
+    (λ c κs. search needs)
+    (λ c κs. search needs)
     returns)

@@ -17,33 +17,6 @@ abbrev μ-loop : tie.MeasureT-loop
 loop-holds : tie.Need-loop-holds Inv-loop μ-loop
 loop-holds c = (omega arith, λ z i l. absurd (omega arith))
 
-cast-p : tie.Need-cast-p Inv-loop μ-loop
-cast-p c = omega arith
-
-shared-slice-read-fault : tie.Need-shared-slice-read-fault Inv-loop μ-loop
-shared-slice-read-fault c = omega arith
-
-add-fault : tie.Need-add-fault Inv-loop μ-loop
-add-fault c = omega arith
-
-shared-slice-read-fault-2 : tie.Need-shared-slice-read-fault-2 Inv-loop μ-loop
-shared-slice-read-fault-2 c = omega arith
-
-add-fault-2 : tie.Need-add-fault-2 Inv-loop μ-loop
-add-fault-2 c = omega arith
-
-shared-slice-read-fault-3 : tie.Need-shared-slice-read-fault-3 Inv-loop μ-loop
-shared-slice-read-fault-3 c = omega arith
-
-fault-requires : tie.Need-fault-requires Inv-loop μ-loop
-fault-requires c κs = omega arith
-
-add-j : tie.Need-add-j Inv-loop μ-loop
-add-j c = omega arith
-
-loop-less : tie.Need-loop-less Inv-loop μ-loop
-loop-less c = omega arith
-
 loop-again : tie.Need-loop-again Inv-loop μ-loop
 loop-again c = (
   omega arith,
@@ -61,14 +34,14 @@ faults-spec =
     Inv-loop
     μ-loop
     loop-holds
-    cast-p
-    shared-slice-read-fault
-    add-fault
-    shared-slice-read-fault-2
-    add-fault-2
-    shared-slice-read-fault-3
-    fault-requires
-    add-j
-    loop-less
+    (λ c. omega arith)
+    (λ c. omega arith)
+    (λ c. omega arith)
+    (λ c. omega arith)
+    (λ c. omega arith)
+    (λ c. omega arith)
+    (λ c κs. omega arith)
+    (λ c. omega arith)
+    (λ c. omega arith)
     loop-again
     returns)

@@ -17,23 +17,8 @@ abbrev μ-loop : tie.MeasureT-loop
 loop-holds : tie.Need-loop-holds Inv-loop μ-loop
 loop-holds c = (omega arith, λ z i l. absurd (omega arith))
 
-cast-p : tie.Need-cast-p Inv-loop μ-loop
-cast-p c = omega arith
-
-add-bit-of : tie.Need-add-bit-of Inv-loop μ-loop
-add-bit-of c = omega arith
-
-shared-slice-read-bit-of : tie.Need-shared-slice-read-bit-of Inv-loop μ-loop
-shared-slice-read-bit-of c = omega arith
-
 bit-of-requires : tie.Need-bit-of-requires Inv-loop μ-loop
 bit-of-requires c κs = tt
-
-add-j : tie.Need-add-j Inv-loop μ-loop
-add-j c = omega arith
-
-loop-less : tie.Need-loop-less Inv-loop μ-loop
-loop-less c = omega arith
 
 loop-again : tie.Need-loop-again Inv-loop μ-loop
 loop-again c = (
@@ -52,11 +37,11 @@ leading-spec =
     Inv-loop
     μ-loop
     loop-holds
-    cast-p
-    add-bit-of
-    shared-slice-read-bit-of
+    (λ c. omega arith)
+    (λ c. omega arith)
+    (λ c. omega arith)
     bit-of-requires
-    add-j
-    loop-less
+    (λ c. omega arith)
+    (λ c. omega arith)
     loop-again
     returns)

@@ -21,12 +21,6 @@ loop-holds c = off-start _
 mul-f : tie.Need-mul-f Inv-loop μ-loop
 mul-f c = omega (arith, off-small _ _ _ (c .before .loop .inv) (omega arith))
 
-sub-one-if : tie.Need-sub-one-if Inv-loop μ-loop
-sub-one-if c = omega arith
-
-shared-slice-read-one-if : tie.Need-shared-slice-read-one-if Inv-loop μ-loop
-shared-slice-read-one-if c = omega arith
-
 one-if-requires : tie.Need-one-if-requires Inv-loop μ-loop
 one-if-requires c κs = tt
 
@@ -38,12 +32,6 @@ add-f c = omega (
       (not (eqb (getD (c .before .before .before .before .before .args .a .now) (slots - c .before .before .before .loop .t) 0 % 4) 1)) _
       (c .one-if .ensures),
 )
-
-add-t : tie.Need-add-t Inv-loop μ-loop
-add-t c = omega arith
-
-loop-less : tie.Need-loop-less Inv-loop μ-loop
-loop-less c = omega arith
 
 loop-again : tie.Need-loop-again Inv-loop μ-loop
 loop-again c = off-next _ _ _ _ (c .before .before .before .loop .inv) (omega arith) (c .one-if .ensures)
@@ -59,11 +47,11 @@ loose-spec =
     μ-loop
     loop-holds
     mul-f
-    sub-one-if
-    shared-slice-read-one-if
+    (λ c. omega arith)
+    (λ c. omega arith)
     one-if-requires
     add-f
-    add-t
-    loop-less
+    (λ c. omega arith)
+    (λ c. omega arith)
     loop-again
     returns)

@@ -6,29 +6,8 @@ use Rattle.passes.proofs.LeadLaws.{leads-empty, leads-reserved, leads-h
 use Rattle.passes.proofs.may_lead.Statement.{statement}
 use Rattle.passes.proofs.may_lead.Tie as tie
 
-slot-word-requires : tie.Need-slot-word-requires
-slot-word-requires c κs = search needs
-
-read-slot-requires : tie.Need-read-slot-requires
-read-slot-requires c κs = search needs
-
 enum-told : tie.Need-enum-told
 enum-told c = search needs
-
-enum-told-2 : tie.Need-enum-told-2
-enum-told-2 c = search needs
-
-enum-told-3 : tie.Need-enum-told-3
-enum-told-3 c = search needs
-
-enum-told-4 : tie.Need-enum-told-4
-enum-told-4 c = search needs
-
-enum-known-s : tie.Need-enum-known-s
-enum-known-s c = search needs
-
-child-ok-requires : tie.Need-child-ok-requires
-child-ok-requires c κs = search needs
 
 returns : tie.Need-returns
 returns c = λ t. leads-empty _ _ _ _ (sym (ap slotOf (c .before .before .before .slot-word .ensures)) ∙ sym (c .before .before .read-slot .ensures) ∙
@@ -55,14 +34,14 @@ pub may-lead-spec : {M : Type 1} → statement M
 may-lead-spec =
     tie.close
     (tie.spec
-    slot-word-requires
-    read-slot-requires
+    (λ c κs. search needs)
+    (λ c κs. search needs)
     enum-told
-    enum-told-2
-    enum-told-3
-    enum-told-4
-    enum-known-s
-    child-ok-requires
+    (λ c. search needs)
+    (λ c. search needs)
+    (λ c. search needs)
+    (λ c. search needs)
+    (λ c κs. search needs)
     returns
     returns-2
     returns-3

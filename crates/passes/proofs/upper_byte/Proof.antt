@@ -7,26 +7,14 @@ use Rattle.passes.proofs.ByteLaws.{upper-inner, upper-once, upper-fits}
 use Rattle.passes.proofs.upper_byte.Statement.{statement}
 use Rattle.passes.proofs.upper_byte.Tie as tie
 
-one-if-requires : tie.Need-one-if-requires
-one-if-requires c κs = search needs
-
 mul-low-byte : tie.Need-mul-low-byte
 mul-low-byte c = omega (arith, upper-once (c .before .args .w) _ (c .one-if .ensures))
-
-one-if-requires-2 : tie.Need-one-if-requires-2
-one-if-requires-2 c κs = search needs
 
 mul-low-byte-2 : tie.Need-mul-low-byte-2
 mul-low-byte-2 c = omega (arith, upper-fits (c .before .before .args .w) _ _ (c .before .one-if .ensures) (c .one-if2 .ensures))
 
 add-low-byte : tie.Need-add-low-byte
 add-low-byte c = omega (arith, upper-fits (c .before .before .args .w) _ _ (c .before .one-if .ensures) (c .one-if2 .ensures))
-
-low-byte-requires : tie.Need-low-byte-requires
-low-byte-requires c κs = search needs
-
-bit-of-requires : tie.Need-bit-of-requires
-bit-of-requires c κs = search needs
 
 returns : tie.Need-returns
 returns c = rw (eq-eqb _ 2 (c .if1 .taken)) (c .before .before .low-byte .ensures ∙
@@ -39,12 +27,12 @@ pub upper-byte-spec : {M : Type 1} → statement M
 upper-byte-spec =
     tie.close
     (tie.spec
-    one-if-requires
+    (λ c κs. search needs)
     mul-low-byte
-    one-if-requires-2
+    (λ c κs. search needs)
     mul-low-byte-2
     add-low-byte
-    low-byte-requires
-    bit-of-requires
+    (λ c κs. search needs)
+    (λ c κs. search needs)
     returns
     returns-2)

@@ -23,44 +23,17 @@ counted-from c = chained-from c .before .before
 abbrev read-from : tie.After-leading → tie.After-upper-bytes
 read-from c = counted-from c .before .before .before
 
-slice-aggregate-upper-bytes : tie.Need-slice-aggregate-upper-bytes
-slice-aggregate-upper-bytes c = search needs
-
-upper-bytes-requires : tie.Need-upper-bytes-requires
-upper-bytes-requires c κs = search needs
-
 returns : tie.Need-returns
 returns c = λ e. absurd (clash e refl)
 
 returns-2 : tie.Need-returns-2
 returns-2 c = λ e. absurd (clash e refl)
 
-slice-aggregate-faults : tie.Need-slice-aggregate-faults
-slice-aggregate-faults c = search needs
-
-faults-requires : tie.Need-faults-requires
-faults-requires c κs = search needs
-
 returns-3 : tie.Need-returns-3
 returns-3 c = λ e. absurd (clash e refl)
 
-slice-aggregate-loose : tie.Need-slice-aggregate-loose
-slice-aggregate-loose c = search needs
-
-all-marks-requires : tie.Need-all-marks-requires
-all-marks-requires c κs = search needs
-
-loose-requires : tie.Need-loose-requires
-loose-requires c κs = search needs
-
 returns-4 : tie.Need-returns-4
 returns-4 c = λ e. absurd (clash e refl)
-
-slice-aggregate-leading : tie.Need-slice-aggregate-leading
-slice-aggregate-leading c = search needs
-
-leading-requires : tie.Need-leading-requires
-leading-requires c κs = search needs
 
 returns-5 : tie.Need-returns-5
 returns-5 c = λ e. upper-filled _ _ _ _ _ _ (read-from (c .before) .upper-bytes .ensures) (omega (arith, counted-from (c .before) .before .if1 .left))
@@ -68,9 +41,6 @@ returns-5 c = λ e. upper-filled _ _ _ _ _ _ (read-from (c .before) .upper-bytes
     (lead-none _ _ _ _ _ (read-from (c .before) .upper-bytes .ensures) (c .before .leading .ensures (c .if5 .taken)))
     (chained-from (c .before) .faults .ensures (marks-from (c .before) .before .before .if3 .left)) (marks-from (c .before) .all-marks .ensures) _
     (sym (counted-from (c .before) .if2 .left))
-
-children-ok-requires : tie.Need-children-ok-requires
-children-ok-requires c κs = search needs
 
 returns-6 : tie.Need-returns-6
 returns-6 c = λ e. upper-filled _ _ _ _ _ _ (read-from (c .before .before) .upper-bytes .ensures)
@@ -85,19 +55,19 @@ pub upper-ok-spec : {M : Type 1} → statement M
 upper-ok-spec =
     tie.close
     (tie.spec
-    slice-aggregate-upper-bytes
-    upper-bytes-requires
+    (λ c. search needs)
+    (λ c κs. search needs)
     returns
     returns-2
-    slice-aggregate-faults
-    faults-requires
+    (λ c. search needs)
+    (λ c κs. search needs)
     returns-3
-    slice-aggregate-loose
-    all-marks-requires
-    loose-requires
+    (λ c. search needs)
+    (λ c κs. search needs)
+    (λ c κs. search needs)
     returns-4
-    slice-aggregate-leading
-    leading-requires
+    (λ c. search needs)
+    (λ c κs. search needs)
     returns-5
-    children-ok-requires
+    (λ c κs. search needs)
     returns-6)

@@ -6,9 +6,6 @@ use Rattle.blocks.proofs.BoolLaws.{clash}
 use Rattle.passes.proofs.upper_passes.Statement.{statement}
 use Rattle.passes.proofs.upper_passes.Tie as tie
 
-by-bytes-requires : tie.Need-by-bytes-requires
-by-bytes-requires c κs = search needs
-
 returns : tie.Need-returns
 returns c = λ e. absurd (clash e refl)
 
@@ -19,4 +16,4 @@ returns-2 : tie.Need-returns-2
 returns-2 c = c .upper-ok .ensures
 
 pub upper-passes-spec : {M : Type 1} → statement M
-upper-passes-spec = tie.close (tie.spec by-bytes-requires returns upper-ok-requires returns-2)
+upper-passes-spec = tie.close (tie.spec (λ c κs. search needs) returns upper-ok-requires returns-2)

@@ -23,9 +23,6 @@ abbrev μ-loop : tie.MeasureT-loop
 free-count-requires : tie.Need-free-count-requires Inv-loop μ-loop
 free-count-requires c κs = c .before .before .before .pre .0
 
-same-length : tie.Need-same-length Inv-loop μ-loop
-same-length c = search needs
-
 returns : tie.Need-returns Inv-loop μ-loop
 returns c = λ os h M. draws-none os _ _ _ h M (omega (arith, c .if1 .taken, c .before .free-count .ensures))
 
@@ -91,7 +88,7 @@ draw-spec =
     Inv-loop
     μ-loop
     free-count-requires
-    same-length
+    (λ c. search needs)
     returns
     loop-holds
     lowest-free-requires

@@ -16,23 +16,8 @@ start-from-then3 c = c .before .before .before .before .before .before
 returns : tie.Need-returns
 returns c = no! (λ s. omega (arith, s .is-lower))
 
-shared-slice-read-if2 : tie.Need-shared-slice-read-if2
-shared-slice-read-if2 c = omega arith
-
 returns-2 : tie.Need-returns-2
 returns-2 c = no! (λ s. omega (arith, s .there))
-
-shift-of-requires : tie.Need-shift-of-requires
-shift-of-requires c κs = omega arith
-
-sub-if3 : tie.Need-sub-if3
-sub-if3 c = omega arith
-
-mul-if3 : tie.Need-mul-if3
-mul-if3 c = omega arith
-
-add-if3 : tie.Need-add-if3
-add-if3 c = omega arith
 
 returns-3 : tie.Need-returns-3
 returns-3 c =
@@ -40,35 +25,17 @@ returns-3 c =
     no! (child-no-level _ _ _ _ _ (c6 .args .v - 1) (omega arith)
     (λ z. c .if3 .taken (c .before .shift-of .ensures ∙ z)))
 
-owner-of-requires : tie.Need-owner-of-requires
-owner-of-requires c κs = omega arith
-
-owner-word-requires : tie.Need-owner-word-requires
-owner-word-requires c κs = omega arith
-
 returns-4 : tie.Need-returns-4
 returns-4 c = no! (λ s. c .if4 .taken (c .before .before .owner-of .ensures ∙ (s .owned ∙ sym (c .before .owner-word .ensures))))
-
-width-requires : tie.Need-width-requires
-width-requires c κs = omega arith
 
 returns-5 : tie.Need-returns-5
 returns-5 c = no! (λ s. omega (arith, s .used))
 
-agrees-requires : tie.Need-agrees-requires
-agrees-requires c κs = omega arith
-
 returns-6 : tie.Need-returns-6
 returns-6 c = no! (λ s. c .before .agrees .ensures .1 (not-true _ (c .if6 .taken)) (s .marked 0 (lit< tt)))
 
-agrees-requires-2 : tie.Need-agrees-requires-2
-agrees-requires-2 c κs = omega arith
-
 returns-7 : tie.Need-returns-7
 returns-7 c = no! (λ s. c .before .agrees2 .ensures .1 (not-true _ (c .if7 .taken)) (s .marked 1 (lit< tt)))
-
-agrees-requires-3 : tie.Need-agrees-requires-3
-agrees-requires-3 c κs = omega arith
 
 returns-8 : tie.Need-returns-8
 returns-8 c =
@@ -89,21 +56,21 @@ child-ok-spec =
     tie.close
     (tie.spec
     returns
-    shared-slice-read-if2
+    (λ c. omega arith)
     returns-2
-    shift-of-requires
-    sub-if3
-    mul-if3
-    add-if3
+    (λ c κs. omega arith)
+    (λ c. omega arith)
+    (λ c. omega arith)
+    (λ c. omega arith)
     returns-3
-    owner-of-requires
-    owner-word-requires
+    (λ c κs. omega arith)
+    (λ c κs. omega arith)
     returns-4
-    width-requires
+    (λ c κs. omega arith)
     returns-5
-    agrees-requires
+    (λ c κs. omega arith)
     returns-6
-    agrees-requires-2
+    (λ c κs. omega arith)
     returns-7
-    agrees-requires-3
+    (λ c κs. omega arith)
     returns-8)

@@ -13,16 +13,10 @@ start-from-else2 c = c .before .before .before .before .before
 abbrev start-from-then2 : tie.Then2 → tie.Start
 start-from-then2 c = c .before .before .before .before .before
 
-shr-if1 : tie.Need-shr-if1
-shr-if1 c = omega arith
-
 returns : tie.Need-returns
 returns c = let s = c .before .before in
     gap-marked (poolOf (s .args .pool .now)) (s .args .n) (s .args .v) (s .args .j) (s .args .m)
     (s .pre .1 .1 .1 .1) (s .pre .1 .0 .0) (s .pre .1 .1 .0) (c .if1 .taken)
-
-same-slots-requires : tie.Need-same-slots-requires
-same-slots-requires c κs = omega arith
 
 rest-clear-requires : tie.Need-rest-clear-requires
 rest-clear-requires c κs = omega (arith, c .same-slots .ensures .some, c .same-slots .ensures .inside)
@@ -42,4 +36,4 @@ returns-3 c = let s = start-from-else2 c in
 pub gap-ok-spec : {M : Type 1} → statement M
 gap-ok-spec =
     tie.close
-    (tie.spec shr-if1 returns same-slots-requires rest-clear-requires returns-2 returns-3)
+    (tie.spec (λ c. omega arith) returns (λ c κs. omega arith) rest-clear-requires returns-2 returns-3)

@@ -12,17 +12,8 @@ use Rattle.steps.proofs.reserved_ok.Tie as tie
 returns : tie.Need-returns
 returns c = no! (λ i. omega (arith, c .if1 .taken, i .bottom))
 
-shr-if2 : tie.Need-shr-if2
-shr-if2 c = omega arith
-
 returns-2 : tie.Need-returns-2
 returns-2 c = let s = c .before .before .before in no! (λ i. c .if2 .taken (s .pre .1 .1 .cleared (s .args .j) (i .unmarked)))
-
-sibling-word-requires : tie.Need-sibling-word-requires
-sibling-word-requires c κs = omega arith
-
-same-slots-requires : tie.Need-same-slots-requires
-same-slots-requires c κs = omega arith
 
 returns-3 : tie.Need-returns-3
 returns-3 c =
@@ -35,4 +26,4 @@ returns-3 c =
 pub reserved-ok-spec : {M : Type 1} → statement M
 reserved-ok-spec =
     tie.close
-    (tie.spec returns shr-if2 returns-2 sibling-word-requires same-slots-requires returns-3)
+    (tie.spec returns (λ c. omega arith) returns-2 (λ c κs. omega arith) (λ c κs. omega arith) returns-3)

@@ -17,30 +17,15 @@ else1-from-else4 c = c .before .before .before .before
 abbrev is-power-from-else4 : tie.Else4 → tie.After-is-power
 is-power-from-else4 c = else1-from-else4 c .before
 
-is-power-requires : tie.Need-is-power-requires
-is-power-requires c κs = omega arith
-
 returns : tie.Need-returns
 returns c = no! (λ f. c .before .is-power .ensures .1 (not-true _ (c .if1 .taken)) (f .power))
-
-width-requires : tie.Need-width-requires
-width-requires c κs = omega arith
-
-mul-if2 : tie.Need-mul-if2
-mul-if2 c = omega arith
 
 returns-2 : tie.Need-returns-2
 returns-2 c = no! (λ f. omega (arith, f .short, c .before .width .ensures))
 
-sub-if3 : tie.Need-sub-if3
-sub-if3 c = omega arith
-
 returns-3 : tie.Need-returns-3
 returns-3 c = let k = is-power-from-then3 c .is-power .ensures .0 (not-false _ (c .before .before .before .if1 .left)) in
     no! (λ f. c .if3 .taken (mask-mod _ _ (k .0) (k .2) ∙ f .aligned))
-
-add-if4 : tie.Need-add-if4
-add-if4 c = omega arith
 
 returns-4 : tie.Need-returns-4
 returns-4 c = no! (λ f. omega (arith, f .ends, c .before .before .before .width .ensures))
@@ -58,13 +43,13 @@ pub run-fits-spec : {M : Type 1} → statement M
 run-fits-spec =
     tie.close
     (tie.spec
-    is-power-requires
+    (λ c κs. omega arith)
     returns
-    width-requires
-    mul-if2
+    (λ c κs. omega arith)
+    (λ c. omega arith)
     returns-2
-    sub-if3
+    (λ c. omega arith)
     returns-3
-    add-if4
+    (λ c. omega arith)
     returns-4
     returns-5)

@@ -32,12 +32,6 @@ sibling-word-from-then2 c = same-slots-from-then2 c .before
 abbrev start-from-then2 : tie.Then2 → tie.Start
 start-from-then2 c = sibling-word-from-then2 c .before .before
 
-sibling-word-requires : tie.Need-sibling-word-requires
-sibling-word-requires c κs = omega arith
-
-same-slots-requires : tie.Need-same-slots-requires
-same-slots-requires c κs = omega arith
-
 run-fits-requires : tie.Need-run-fits-requires
 run-fits-requires c κs = omega (arith, c .same-slots .ensures .some, c .same-slots .ensures .inside)
 
@@ -78,4 +72,4 @@ returns-3 c = let s = start-from-else2 c in
 pub run-ok-spec : {M : Type 1} → statement M
 run-ok-spec =
     tie.close
-    (tie.spec sibling-word-requires same-slots-requires run-fits-requires returns rest-clear-requires returns-2 returns-3)
+    (tie.spec (λ c κs. omega arith) (λ c κs. omega arith) run-fits-requires returns rest-clear-requires returns-2 returns-3)

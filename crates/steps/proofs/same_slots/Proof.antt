@@ -20,20 +20,8 @@ loop-holds c = going-start _ _ _ _ (omega arith)
 add-loop : tie.Need-add-loop Inv-loop μ-loop
 add-loop c = omega (arith, c .loop .inv .inside)
 
-add-slot-word : tie.Need-add-slot-word Inv-loop μ-loop
-add-slot-word c = omega arith
-
-slot-word-requires : tie.Need-slot-word-requires Inv-loop μ-loop
-slot-word-requires c κs = omega arith
-
 returns : tie.Need-returns Inv-loop μ-loop
 returns c = counted _ _ _ _ _ (c .before .before .before .loop .inv) (λ a z. c .if1 .taken (c .before .slot-word .ensures ∙ z))
-
-add-p : tie.Need-add-p Inv-loop μ-loop
-add-p c = omega arith
-
-loop-less : tie.Need-loop-less Inv-loop μ-loop
-loop-less c = omega arith
 
 loop-again : tie.Need-loop-again Inv-loop μ-loop
 loop-again c = going-on _ _ _ _ _ (c .before .before .before .loop .inv) (omega arith) (sym (c .before .slot-word .ensures) ∙ c .if1 .left)
@@ -49,10 +37,10 @@ same-slots-spec =
     μ-loop
     loop-holds
     add-loop
-    add-slot-word
-    slot-word-requires
+    (λ c. omega arith)
+    (λ c κs. omega arith)
     returns
-    add-p
-    loop-less
+    (λ c. omega arith)
+    (λ c. omega arith)
     loop-again
     returns-2)

@@ -34,12 +34,6 @@ slot-word-from-one-if c = read-slot-from-one-if c .before
 abbrev start-from-one-if : tie.After-one-if2 → tie.Start
 start-from-one-if c = slot-word-from-one-if c .before .before
 
-slot-word-requires : tie.Need-slot-word-requires
-slot-word-requires c κs = search needs
-
-read-slot-requires : tie.Need-read-slot-requires
-read-slot-requires c κs = search needs
-
 enum-told : tie.Need-enum-told
 enum-told c = search needs
 
@@ -59,18 +53,6 @@ gap-ok-requires c κs = let s = start-from-enum-told c in (
   ),
 )
 
-enum-told-2 : tie.Need-enum-told-2
-enum-told-2 c = search needs
-
-reserved-ok-requires : tie.Need-reserved-ok-requires
-reserved-ok-requires c κs = search needs
-
-one-if-requires : tie.Need-one-if-requires
-one-if-requires c κs = search needs
-
-enum-told-3 : tie.Need-enum-told-3
-enum-told-3 c = search needs
-
 run-ok-requires : tie.Need-run-ok-requires
 run-ok-requires c κs = let s = start-from-enum-told3 c in (
   s .pre .0,
@@ -86,18 +68,6 @@ run-ok-requires c κs = let s = start-from-enum-told3 c in (
     ),
   ),
 )
-
-enum-told-4 : tie.Need-enum-told-4
-enum-told-4 c = search needs
-
-enum-known-s : tie.Need-enum-known-s
-enum-known-s c = search needs
-
-child-ok-requires : tie.Need-child-ok-requires
-child-ok-requires c κs = search needs
-
-one-if-requires-2 : tie.Need-one-if-requires-2
-one-if-requires-2 c κs = search needs
 
 returns : tie.Need-returns
 returns c = c .gap-ok .ensures
@@ -134,19 +104,19 @@ pub step-spec : {M : Type 1} → statement M
 step-spec =
     tie.close
     (tie.spec
-    slot-word-requires
-    read-slot-requires
+    (λ c κs. search needs)
+    (λ c κs. search needs)
     enum-told
     gap-ok-requires
-    enum-told-2
-    reserved-ok-requires
-    one-if-requires
-    enum-told-3
+    (λ c. search needs)
+    (λ c κs. search needs)
+    (λ c κs. search needs)
+    (λ c. search needs)
     run-ok-requires
-    enum-told-4
-    enum-known-s
-    child-ok-requires
-    one-if-requires-2
+    (λ c. search needs)
+    (λ c. search needs)
+    (λ c κs. search needs)
+    (λ c κs. search needs)
     returns
     returns-2
     returns-3

@@ -63,12 +63,6 @@ store-below-requires : tie.Need-store-below-requires
 store-below-requires c κs = let p = start-below c .pre in
     (p .0, (p .1 .0, ((c .before .before .if1 .taken, p .1 .1 .0), p .1 .1 .1)))
 
-same-length : tie.Need-same-length
-same-length c = search needs
-
-same-length-2 : tie.Need-same-length-2
-same-length-2 c = search needs
-
 returns : tie.Need-returns
 returns c = below c .store-below .ensures
 
@@ -83,12 +77,6 @@ store-new-requires c κs = let p = start-new c .pre in (
     ),
   ),
 )
-
-same-length-3 : tie.Need-same-length-3
-same-length-3 c = search needs
-
-same-length-4 : tie.Need-same-length-4
-same-length-4 c = search needs
 
 returns-2 : tie.Need-returns-2
 returns-2 c = new c .store-new .ensures
@@ -114,12 +102,6 @@ store-new-requires-2 c κs = let x = seat (c .before .before .before) in let p =
   ),
 )
 
-same-length-5 : tie.Need-same-length-5
-same-length-5 c = search needs
-
-same-length-6 : tie.Need-same-length-6
-same-length-6 c = search needs
-
 returns-3 : tie.Need-returns-3
 returns-3 c = new-2 c .store-new2 .ensures
 
@@ -129,9 +111,6 @@ settle-requires c κs = let x = seat (c .before .before) in
 
 entry-of-requires : tie.Need-entry-of-requires
 entry-of-requires c κs = start (seat (asked (settled-at c)) .before) .pre .1 .0 .0
-
-same-length-7 : tie.Need-same-length-7
-same-length-7 c = search needs
 
 returns-4 : tie.Need-returns-4
 returns-4 c = let n = settled-at (c .before) in let y = asked n in let x = seat y in let z = start (x .before) in
@@ -154,21 +133,21 @@ store-at-gap-spec =
     tie.close
     (tie.spec
     store-below-requires
-    same-length
-    same-length-2
+    (λ c. search needs)
+    (λ c. search needs)
     returns
     store-new-requires
-    same-length-3
-    same-length-4
+    (λ c. search needs)
+    (λ c. search needs)
     returns-2
     seat-of-requires
     add-vacant
     vacant-requires
     store-new-requires-2
-    same-length-5
-    same-length-6
+    (λ c. search needs)
+    (λ c. search needs)
     returns-3
     settle-requires
     entry-of-requires
-    same-length-7
+    (λ c. search needs)
     returns-4)

@@ -14,12 +14,6 @@ use Rattle.verify.proofs.init.Tie as tie
 abbrev else1-from-slice-known2 : tie.After-slice-known2 → tie.Else1
 else1-from-slice-known2 c = c .before .before .before .before
 
-nodes-in-requires : tie.Need-nodes-in-requires
-nodes-in-requires c κs = search needs
-
-same-length : tie.Need-same-length
-same-length c = search needs
-
 returns : tie.Need-returns
 returns c = init-refused (c .before .nodes-in .ensures .no-pool (c .if1 .taken))
 
@@ -33,9 +27,6 @@ slice-write-pool c =
     let c5 = c4 .before in
     let s = c5 .nodes-in .ensures .sized (c4 .if1 .left) in
     omega (arith, ap length (c .before .before .fill .ensures) ∙ length-filled _ _ _ _, s .size)
-
-same-length-2 : tie.Need-same-length-2
-same-length-2 c = search needs
 
 returns-2 : tie.Need-returns-2
 returns-2 c =
@@ -51,10 +42,10 @@ pub init-spec : {M : Type 1} → statement M
 init-spec =
     tie.close
     (tie.spec
-    nodes-in-requires
-    same-length
+    (λ c κs. search needs)
+    (λ c. search needs)
     returns
     fill-requires
     slice-write-pool
-    same-length-2
+    (λ c. search needs)
     returns-2)

@@ -26,21 +26,6 @@ abbrev μ-loop : tie.MeasureT-loop
 loop-holds : tie.Need-loop-holds Inv-loop μ-loop
 loop-holds c = (omega arith, refl, start (c .args .s .now) (c .args .a) (c .args .x))
 
-add-s : tie.Need-add-s Inv-loop μ-loop
-add-s c = omega arith
-
-mul-s : tie.Need-mul-s Inv-loop μ-loop
-mul-s c = omega arith
-
-slice-write-s : tie.Need-slice-write-s Inv-loop μ-loop
-slice-write-s c = omega arith
-
-add-t : tie.Need-add-t Inv-loop μ-loop
-add-t c = omega arith
-
-loop-less : tie.Need-loop-less Inv-loop μ-loop
-loop-less c = omega arith
-
 loop-again : tie.Need-loop-again Inv-loop μ-loop
 loop-again c = (omega arith, simp length-set (omega arith), rw add-one (step _ _ _ _ _ (c .before .loop .inv .2)))
 
@@ -57,11 +42,11 @@ fill-spec =
     Inv-loop
     μ-loop
     loop-holds
-    add-s
-    mul-s
-    slice-write-s
-    add-t
-    loop-less
+    (λ c. omega arith)
+    (λ c. omega arith)
+    (λ c. omega arith)
+    (λ c. omega arith)
+    (λ c. omega arith)
     loop-again
     same-length
     returns)

@@ -7,21 +7,6 @@ use borrow.Author.Needs.{needs}
 use Rattle.words.proofs.put2.Statement.{statement}
 use Rattle.words.proofs.put2.Tie as tie
 
-cast-out : tie.Need-cast-out
-cast-out c = search needs
-
-add-out : tie.Need-add-out
-add-out c = search needs
-
-slice-write-out : tie.Need-slice-write-out
-slice-write-out c = search needs
-
-cast-out-2 : tie.Need-cast-out-2
-cast-out-2 c = search needs
-
-add-out-2 : tie.Need-add-out-2
-add-out-2 c = search needs
-
 slice-write-out-2 : tie.Need-slice-write-out-2
 slice-write-out-2 c = simp length-set (omega arith)
 
@@ -36,11 +21,11 @@ pub put2-spec : {M : Type 1} → statement M
 put2-spec =
     tie.close
     (tie.spec
-    cast-out
-    add-out
-    slice-write-out
-    cast-out-2
-    add-out-2
+    (λ c. search needs)
+    (λ c. search needs)
+    (λ c. search needs)
+    (λ c. search needs)
+    (λ c. search needs)
     slice-write-out-2
     same-length
     returns)

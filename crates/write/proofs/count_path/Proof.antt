@@ -60,59 +60,26 @@ node-fits : (z : tie.Start) (u : ℕ) → z .args .order / slotBits + 1 ≤ u �
     lastPlace (getD (z .args .path .now) u 0) < length (z .args .pool .now)
 node-fits z u a b = z .pre .1 u a b
 
-add-t : tie.Need-add-t
-add-t c = search needs
-
-width-of-requires : tie.Need-width-of-requires
-width-of-requires c κs = search needs
-
-mul-a : tie.Need-mul-a
-mul-a c = search needs
-
-shared-slice-read-a : tie.Need-shared-slice-read-a
-shared-slice-read-a c = search needs
-
-add-put-filled : tie.Need-add-put-filled
-add-put-filled c = search needs
-
 put-filled-requires : tie.Need-put-filled-requires
 put-filled-requires c κs = let z = start (spanned (alone c)) in omega (arith, node-fits z (z .args .top) (omega arith) (omega arith))
-
-same-length : tie.Need-same-length
-same-length c = search needs
 
 returns : tie.Need-returns
 returns c = let y = put-one c in let t = alone (y .before) in let x = spanned t in let a = start x .args in
     one-node (a .pool .now) (a .path .now) (a .order) (a .top) (a .f) (x .width-of .ensures .0) (t .if1 .taken)
     (y .put-filled .ensures)
 
-add-put-filled-2 : tie.Need-add-put-filled-2
-add-put-filled-2 c = search needs
-
 put-filled-requires-2 : tie.Need-put-filled-requires-2
 put-filled-requires-2 c κs = let z = start (spanned-2 (further c)) in
     omega (arith, node-fits z (z .args .top) (omega arith) (omega arith))
-
-mul-b : tie.Need-mul-b
-mul-b c = search needs
-
-shared-slice-read-b : tie.Need-shared-slice-read-b
-shared-slice-read-b c = search needs
 
 put-filled-requires-3 : tie.Need-put-filled-requires-3
 put-filled-requires-3 c κs = let p = put-top c in let z = start (spanned-2 (further (p .before))) in
     omega (arith, p .put-filled2 .kept .0, node-fits z (z .args .order / slotBits + 1) (omega arith) (omega arith))
 
-add-count-ones : tie.Need-add-count-ones
-add-count-ones c = search needs
-
 count-ones-requires : tie.Need-count-ones-requires
 count-ones-requires c κs = let q = put-low c in let p = put-top (q .before) in
     let z = start (spanned-2 (further (p .before))) in let e = p .put-filled2 .kept .0 in let d = q .put-filled3 .kept .0 in
     (omega arith, (omega arith, λ u a b. omega (arith, e, d, node-fits z u (omega arith) (omega arith))))
-
-same-length-2 : tie.Need-same-length-2
-same-length-2 c = search needs
 
 returns-2 : tie.Need-returns-2
 returns-2 c = let n = counted c in let q = put-low (n .before) in let p = put-top (q .before) in
@@ -124,20 +91,20 @@ pub count-path-spec : {M : Type 1} → statement M
 count-path-spec =
     tie.close
     (tie.spec
-    add-t
-    width-of-requires
-    mul-a
-    shared-slice-read-a
-    add-put-filled
+    (λ c. search needs)
+    (λ c κs. search needs)
+    (λ c. search needs)
+    (λ c. search needs)
+    (λ c. search needs)
     put-filled-requires
-    same-length
+    (λ c. search needs)
     returns
-    add-put-filled-2
+    (λ c. search needs)
     put-filled-requires-2
-    mul-b
-    shared-slice-read-b
+    (λ c. search needs)
+    (λ c. search needs)
     put-filled-requires-3
-    add-count-ones
+    (λ c. search needs)
     count-ones-requires
-    same-length-2
+    (λ c. search needs)
     returns-2)

@@ -56,15 +56,6 @@ grow-requires c κs = let l = linked-at c in let n = counted (l .before) in let 
       ),
     )
 
-add-a : tie.Need-add-a
-add-a c = search needs
-
-mul-a : tie.Need-mul-a
-mul-a c = search needs
-
-shared-slice-read-a : tie.Need-shared-slice-read-a
-shared-slice-read-a c = search needs
-
 seat-of-requires : tie.Need-seat-of-requires
 seat-of-requires c κs = start (counted (linked-at (grown-at c .before) .before) .before) .pre .0 .0
 
@@ -82,9 +73,6 @@ put-entry-requires c κs = let g = grown-at (c .before) in let l = linked-at (g 
       (s .1 .0, s .1 .1),
     )
 
-same-length : tie.Need-same-length
-same-length c = search needs
-
 returns : tie.Need-returns
 returns c = let e = entered-at c in let s = e .before in let g = grown-at (s .before) in
     let l = linked-at (g .before) in let n = counted (l .before) in let a = start (n .before) .args in
@@ -99,10 +87,10 @@ extend-spec =
     count-grown-requires
     link-requires
     grow-requires
-    add-a
-    mul-a
-    shared-slice-read-a
+    (λ c. search needs)
+    (λ c. search needs)
+    (λ c. search needs)
     seat-of-requires
     put-entry-requires
-    same-length
+    (λ c. search needs)
     returns)

@@ -8,9 +8,6 @@ use Rattle.write.proofs.RunLaws.{run-fits, offset-own}
 use Rattle.write.proofs.offset_of.Statement.{statement}
 use Rattle.write.proofs.offset_of.Tie as tie
 
-block-of-requires : tie.Need-block-of-requires
-block-of-requires c κs = search needs
-
 returns : tie.Need-returns
 returns c = let z = c .before .before in let t = z .args .target in
     let e : c .block-of .result % slots ≡ offset (t .index) (t .order) =
@@ -20,4 +17,4 @@ returns c = let z = c .before .before in let t = z .args .target in
     )
 
 pub offset-of-spec : {M : Type 1} → statement M
-offset-of-spec = tie.close (tie.spec block-of-requires returns)
+offset-of-spec = tie.close (tie.spec (λ c κs. search needs) returns)

@@ -67,15 +67,6 @@ entered-at c = c .before .before .before
 abbrev folded : tie.After-slice-known9 → tie.After-fold-all
 folded c = c .before .before
 
-add-a : tie.Need-add-a
-add-a c = search needs
-
-mul-a : tie.Need-mul-a
-mul-a c = search needs
-
-shared-slice-read-a : tie.Need-shared-slice-read-a
-shared-slice-read-a c = search needs
-
 seat-of-requires : tie.Need-seat-of-requires
 seat-of-requires c κs = start c .pre .1 .1 .1 .0 .0
 
@@ -182,9 +173,9 @@ pub rebuild-spec : {M : Type 1} → statement M
 rebuild-spec =
     tie.close
     (tie.spec
-    add-a
-    mul-a
-    shared-slice-read-a
+    (λ c. search needs)
+    (λ c. search needs)
+    (λ c. search needs)
     seat-of-requires
     filled-then-requires
     clear-requires

@@ -26,15 +26,9 @@ spanned c = c .before .before
 abbrev start : tie.After-struct-known → tie.Start
 start c = c .before .before .before
 
-width-of-requires : tie.Need-width-of-requires
-width-of-requires c κs = search needs
-
-offset-of-requires : tie.Need-offset-of-requires
-offset-of-requires c κs = search needs
-
 returns : tie.Need-returns
 returns c = let a = start c .args in seat-is (a .target .index) (a .target .order) (a .node) _ _
     (placed c .offset-of .ensures .0) (spanned c .width-of .ensures .0)
 
 pub seat-of-spec : {M : Type 1} → statement M
-seat-of-spec = tie.close (tie.spec width-of-requires offset-of-requires returns)
+seat-of-spec = tie.close (tie.spec (λ c κs. search needs) (λ c κs. search needs) returns)

@@ -24,21 +24,6 @@ counted c = c .before .before .before
 abbrev read : tie.After-struct-known → tie.After-filled-of
 read c = c .before .before
 
-filled-of-requires : tie.Need-filled-of-requires
-filled-of-requires c κs = search needs
-
-add-put-filled : tie.Need-add-put-filled
-add-put-filled c = search needs
-
-put-filled-requires : tie.Need-put-filled-requires
-put-filled-requires c κs = search needs
-
-put-entry-requires : tie.Need-put-entry-requires
-put-entry-requires c κs = search needs
-
-same-length : tie.Need-same-length
-same-length c = search needs
-
 returns : tie.Need-returns
 returns c = let e = entered-at c in let n = counted (e .before) in let r = read (n .before) in
     let z = r .before .before .before in let s = z .args .seat in
@@ -49,9 +34,9 @@ pub settle-spec : {M : Type 1} → statement M
 settle-spec =
     tie.close
     (tie.spec
-    filled-of-requires
-    add-put-filled
-    put-filled-requires
-    put-entry-requires
-    same-length
+    (λ c κs. search needs)
+    (λ c. search needs)
+    (λ c κs. search needs)
+    (λ c κs. search needs)
+    (λ c. search needs)
     returns)

@@ -5,11 +5,8 @@ use Rattle.write.proofs.RunLaws.{width-some, width-small}
 use Rattle.write.proofs.width_of.Statement.{statement}
 use Rattle.write.proofs.width_of.Tie as tie
 
-pow2-requires : tie.Need-pow2-requires
-pow2-requires c κs = search needs
-
 returns : tie.Need-returns
 returns c = rw (c .pow2 .ensures) (refl, width-some 0 (c .before .args .order), width-small 0 (c .before .args .order))
 
 pub width-of-spec : {M : Type 1} → statement M
-width-of-spec = tie.close (tie.spec pow2-requires returns)
+width-of-spec = tie.close (tie.spec (λ c κs. search needs) returns)

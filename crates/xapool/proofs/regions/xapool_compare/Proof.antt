@@ -11,18 +11,6 @@ use Rattle.xapool.proofs.regions.xapool_compare.Tie as tie
 abbrev numbered : ℕ → Compared → Comparison
 numbered n r = record { verdict = n; «old_crc» = r .«old_crc»; «new_crc» = r .«new_crc» }
 
-compare-digests-requires : tie.Need-compare-digests-requires
-compare-digests-requires c κs = search needs
-
-number-requires : tie.Need-number-requires
-number-requires c κs = search needs
-
-cast-t6 : tie.Need-cast-t6
-cast-t6 c = search needs
-
-cast-t7 : tie.Need-cast-t7
-cast-t7 c = search needs
-
 returns : tie.Need-returns
 returns c =
     let r = c .before .before .before .compare-digests in (
@@ -33,4 +21,4 @@ returns c =
 
 pub xapool-compare-spec : {M : Type 1} → statement M
 xapool-compare-spec =
-    tie.close (tie.spec compare-digests-requires number-requires cast-t6 cast-t7 returns)
+    tie.close (tie.spec (λ c κs. search needs) (λ c κs. search needs) (λ c. search needs) (λ c. search needs) returns)
