@@ -19,7 +19,7 @@ ghost use Rattle.blocks.specs.Choice.{pick, either};
 ghost use Rattle.model.specs.Model.{storable, reservedWord, maxOrder, aligned, matchedMark, covering, covered, remark};
 ghost use Rattle.layout.specs.Places.{render};
 ghost use Rattle.layout.specs.WellFormed.{WellFormed};
-ghost use Rattle.freemap.specs.FreeMap.{FreeMap};
+ghost use Rattle.freenodes.specs.FreeNodes.{FreeMap};
 ghost use Rattle.batch.specs.Reply.{answered, answeredBy};
 ghost use Rattle.execute.specs.Execute.{finding};
 ghost use Rattle.execute.specs.Contracts.{coveredReply, loadedReply, reservedReply, asStored, putting, putOf, noPut};

@@ -29,7 +29,8 @@ use Rattle.layout.specs.WellFormed.{WellFormed}
 use Rattle.layout.proofs.NewNumberLaws.{number-none}
 use Rattle.layout.proofs.NumberLaws.{in-standing}
 use Rattle.layout.proofs.RenderLaws.{render-is}
-use Rattle.freemap.specs.FreeMap.{MapOf, FreeMap}
+use Rattle.freemap.specs.FreeMap.{MapOf}
+use Rattle.freenodes.specs.FreeNodes.{FreeMap}
 use Rattle.freemap.proofs.MapLaws.{map-as}
 use Rattle.plan.specs.Plan.{Plan, freePlace}
 use Rattle.plan.proofs.AfterStore.{Lies, lies, on-path, in-run, off, rooms, tops, has-path, stays}
