@@ -1,18 +1,18 @@
 -- Free numbers, lowest first, over any kind of thing that stands at numbers.
-use Prim.Native.Nat.{ℕ, zero, suc, _+_, _-_, _≤_, _<_}
+use Prim.Native.Nat.{ℕ, zero, suc, _+_, _≤_, _<_}
 use mathlib.Core.Path.{_≡_, refl, sym, ap, subst, _∙_}
-use mathlib.Core.Bool.{Bool, true, false}
+use mathlib.Core.Bool.{Bool, true}
 use mathlib.Core.List.{List, [], _∷_, _++_}
 use mathlib.Core.Option.{none, some}
 use native.Mathlib.Omega.{arith}
 use lib.Dec.{leb}
 use lib.ListN.{length, getD}
-use borrow.Author.Tests.{leb-true, leb-false, le-leb, lt-leb}
+use borrow.Author.Tests.{leb-true, le-leb, lt-leb}
 use Rattle.blocks.specs.Choice.{pick, both}
 use Rattle.blocks.specs.Lists.{In, here, there}
 use Rattle.blocks.specs.Placing.{PlacesOf, standing, freeCount, allocate, numberOf}
 use Rattle.blocks.specs.Placing.{freeAt, freeBefore, freePlace, leftFree}
-use Rattle.blocks.proofs.BoolLaws.{byT, iff, clash, is-false, both-i}
+use Rattle.blocks.proofs.BoolLaws.{iff, clash, is-false}
 
 -- 1 for what passes
 abbrev pub one : Bool → ℕ
@@ -42,14 +42,6 @@ module _ {A : Type 0} where
   to-suc (none ∷ os) (suc m) = omega (arith, to-suc os m)
   to-suc (some p ∷ os) (suc m) = to-suc os m
 
-  pub to-more : (os : PlacesOf A) (x d : ℕ) → freeBefore os x ≤ freeBefore os (x + d)
-  to-more os x zero = let e : x + 0 ≡ x = omega arith in rw e (omega arith)
-  to-more os x (suc d) = let e : x + suc d ≡ suc (x + d) = omega arith in rw e (omega (arith, to-suc os (x + d), to-more os x d))
-
-  pub to-mono : (os : PlacesOf A) (x y : ℕ) → x ≤ y → freeBefore os x ≤ freeBefore os y
-  to-mono os x y h = let e : x + (y - x) ≡ y = omega arith in
-      subst (λ (z : ℕ). freeBefore os x ≤ freeBefore os z) e (to-more os x (y - x))
-
   pub to-all : (os : PlacesOf A) (m : ℕ) → length os ≤ m → freeBefore os m ≡ freeCount os
   to-all [] zero h = refl
   to-all [] (suc m) h = refl
@@ -57,16 +49,6 @@ module _ {A : Type 0} where
   to-all (some p ∷ os) zero h = absurd (omega arith)
   to-all (none ∷ os) (suc m) h = ap suc (to-all os m (omega arith))
   to-all (some p ∷ os) (suc m) h = to-all os m (omega arith)
-
-  -- no place below m is free with k free ones before it
-  pub few-before : (os : PlacesOf A) (k m : ℕ) → ((x : ℕ) → x < m → leftFree os k x ≡ false) → freeBefore os m ≤ k
-  few-before os k zero f = omega arith
-  few-before os k (suc m) f = byT (freePlace os m)
-      (λ t. let lt : freeBefore os m < k = leb-false k (freeBefore os m)
-      (is-false (λ z. clash (both-i t z) (f m (omega arith)))) in
-      let one : one (freePlace os m) ≡ 1 = rw t in omega (arith, to-suc os m))
-      (λ t. let none : one (freePlace os m) ≡ 0 = rw t in
-      omega (arith, to-suc os m, few-before os k m (λ x l. f x (omega arith))))
 
   pub next-none : (os : PlacesOf A) (m : ℕ) → m < length os → getD os m none ≡ none →
       (freeBefore os (suc m) ≡ suc (freeBefore os m)) × (freeAt os (freeBefore os m) ≡ m)

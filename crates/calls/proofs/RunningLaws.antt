@@ -8,7 +8,7 @@ use lib.ListN.{length, length-append}
 use Rattle.blocks.proofs.BoolLaws.{byT}
 use Rattle.model.specs.declared.Entry.{Entry}
 use Rattle.layout.specs.WellFormed.{WellFormed, Prescribed}
-use Rattle.freemap.specs.FreeMap.{FreeMap}
+use Rattle.freenodes.specs.FreeNodes.{FreeMap}
 use Rattle.decode.proofs.PrescribedWords.{count-is}
 use Rattle.decode.proofs.DecodeLaws.{unique}
 use Rattle.words.specs.Bytes.{writeFrom, overwrite}

@@ -5,7 +5,7 @@ use mathlib.Core.List.{List}
 use lib.ListN.{length}
 use Rattle.layout.specs.Places.{render}
 use Rattle.layout.specs.WellFormed.{WellFormed}
-use Rattle.freemap.specs.FreeMap.{FreeMap}
+use Rattle.freenodes.specs.FreeNodes.{FreeMap}
 use Rattle.words.specs.Bytes.{overwrite}
 use Rattle.batch.specs.declared.Command.{Command}
 use Rattle.batch.specs.Batch.{Parsed, Parsed.commands, restAt}

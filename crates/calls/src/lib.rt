@@ -18,7 +18,7 @@ ghost use mathlib.Core.List.{List};
 ghost use Prim.Native.Nat.{_+_, _≤_};
 ghost use lib.ListN.{length};
 ghost use Rattle.layout.specs.WellFormed.{WellFormed};
-ghost use Rattle.freemap.specs.FreeMap.{FreeMap};
+ghost use Rattle.freenodes.specs.FreeNodes.{FreeMap};
 ghost use Rattle.batch.specs.Batch.{restAt, counted, parse};
 ghost use Rattle.batch.specs.Batch;
 ghost use Rattle.batch.specs.Reply.{replyBytes};

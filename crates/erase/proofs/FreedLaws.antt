@@ -23,9 +23,10 @@ use Rattle.layout.proofs.FillLaws.{length-cleared, cleared-before, cleared-afte
 use Rattle.words.proofs.FillLaws.{filled-before, filled-after, filled-in}
 use Rattle.layout.proofs.FieldLaws.{at-shift}
 use Rattle.marks.proofs.RemarkLaws.{formed-remark}
-use Rattle.freemap.specs.FreeMap.{freeIn, put, MapOf, FreeMap}
+use Rattle.freemap.specs.FreeMap.{put, MapOf}
+use Rattle.freenodes.specs.FreeNodes.{freeIn, FreeMap}
 use Rattle.freemap.proofs.MapLaws.{map-as}
-use Rattle.freemap.proofs.FollowLaws.{free-same, free-given}
+use Rattle.freenodes.proofs.FollowLaws.{free-same, free-given}
 use Rattle.erase.specs.Freed.{Gone, Outside, Freed, Raised, Unlinked, Sheds}
 use Rattle.layout.proofs.RenderWordLaws.{pool-anchor, pool-node}
 

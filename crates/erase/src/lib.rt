@@ -38,7 +38,7 @@ ghost use Rattle.layout.specs.Places.{Places, numberIn, prune, render};
 ghost use Rattle.words.specs.Fill.{filled};
 ghost use Rattle.layout.specs.WellFormed.{WellFormed, num};
 ghost use Rattle.lookup.specs.Views.{Holds};
-ghost use Rattle.freemap.specs.FreeMap.{FreeMap};
+ghost use Rattle.freenodes.specs.FreeNodes.{FreeMap};
 ghost use Rattle.erase.specs.Freed.{Freed, Raised, Unlinked, Sheds};
 ghost use Rattle.erase.specs.Tall.{Tall, Tower, Headed, Dropped};
 ghost use Rattle.erase.specs.Leaving.{Unmarked, Cut, Cutting, Leaves, Erasing};

@@ -20,7 +20,7 @@ use Rattle.tree.specs.Tree.{nodes, needed}
 use Rattle.marks.proofs.RemarkLaws.{new-nodes-remark, places-remark, places-then-remark}
 use Rattle.layout.specs.Places.{Places, newPlaces, prune, freeCount, render}
 use Rattle.layout.specs.WellFormed.{WellFormed}
-use Rattle.freemap.specs.FreeMap.{FreeMap}
+use Rattle.freenodes.specs.FreeNodes.{FreeMap}
 use Rattle.layout.proofs.PlacesLaws.{free-places}
 use Rattle.layout.proofs.StayLaws.{same-places, places-prune}
 use Rattle.lookup.specs.Load.{load, loaded, depth}
@@ -29,7 +29,7 @@ use Rattle.store.specs.declared.Stored.{Stored}
 use Rattle.store.specs.declared.Stored.the-variants.{Done, Short, Taken}
 use Rattle.store.specs.Stored.{Holding, Stores, Reserves, taken, tried}
 use Rattle.store.proofs.AfterLaws.{after-done}
-use Rattle.freemap.proofs.FollowLaws.{map-stays}
+use Rattle.freenodes.proofs.FollowLaws.{map-stays}
 use Rattle.erase.proofs.FreedLaws.{map-remark}
 use Rattle.batch.specs.declared.Command.{Command}
 use Rattle.batch.specs.declared.Command.the-variants.{Store, Load, Erase, Mark, Unmark, Find, Reserve}

@@ -39,7 +39,7 @@ ghost use Rattle.blocks.specs.Choice.{pick};
 ghost use Rattle.model.specs.Model.{reservedWord, matchedMark, covering, covered, remark};
 ghost use Rattle.layout.specs.Places.{render};
 ghost use Rattle.layout.specs.WellFormed.{WellFormed};
-ghost use Rattle.freemap.specs.FreeMap.{FreeMap};
+ghost use Rattle.freenodes.specs.FreeNodes.{FreeMap};
 ghost use Rattle.execute.specs.Execute.{finding};
 ghost use Rattle.commands.specs.Replies.{coveredReply};
 ghost use Rattle.execute.specs.Contracts.{loadedReply, reservedReply, asStored, putting, putOf, noPut};

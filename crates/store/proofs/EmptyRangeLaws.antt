@@ -28,7 +28,8 @@ use Rattle.layout.specs.WellFormed.{WellFormed}
 use Rattle.layout.proofs.NewNumberLaws.{number-none}
 use Rattle.layout.proofs.NumberLaws.{in-standing}
 use Rattle.layout.proofs.RenderLaws.{render-is}
-use Rattle.freemap.specs.FreeMap.{MapOf, FreeMap}
+use Rattle.freemap.specs.FreeMap.{MapOf}
+use Rattle.freenodes.specs.FreeNodes.{FreeMap}
 use Rattle.freemap.proofs.MapLaws.{map-as}
 use Rattle.plan.specs.Plan.{freePlace, NewStore}
 use Rattle.plan.proofs.AfterStoreLaws.{Lies, lies, on-path, in-run, off, rooms, tops, has-path, stays, new-valid}

@@ -28,7 +28,7 @@ use Rattle.layout.specs.Places.{Places, numberIn, newPlaces, render}
 use Rattle.layout.specs.WellFormed.{WellFormed}
 use Rattle.layout.proofs.RenderWordLaws.{pool-length}
 use Rattle.lookup.proofs.StepLaws.{in-nonempty}
-use Rattle.freemap.specs.FreeMap.{FreeMap}
+use Rattle.freenodes.specs.FreeNodes.{FreeMap}
 use Rattle.plan.proofs.AfterStoreLaws.{lows, path-zero, has-path, zero-apart, has-zero}
 use Rattle.plan.proofs.WalkLaws.{head-zero}
 use Rattle.write.specs.Writes.{width, offset, linked, entered, ones, pathCounts, grownCounts, extended}

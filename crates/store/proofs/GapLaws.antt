@@ -38,7 +38,8 @@ use Rattle.layout.proofs.RenderWordLaws.{slot-node, pool-length, pool-anchor, p
 use Rattle.layout.proofs.FieldLaws.{field-shift, field-owner, field-slot}
 use Rattle.lookup.specs.Views.{AtNode}
 use Rattle.lookup.proofs.WordLaws.{slot-at}
-use Rattle.freemap.specs.FreeMap.{MapOf, FreeMap}
+use Rattle.freemap.specs.FreeMap.{MapOf}
+use Rattle.freenodes.specs.FreeNodes.{FreeMap}
 use Rattle.plan.specs.Plan.{Drawn, Walked, before, freeAt, leftFree, NewStore}
 use Rattle.plan.proofs.AfterStoreLaws.{lows, tops, has-path}
 use Rattle.plan.proofs.MapNumbers.{map-places, left-new, drawn-none}

@@ -16,7 +16,8 @@ use Rattle.layout.specs.Places.{Places, hasNode, keepIf, freeCount, allocate, n
 use Rattle.layout.specs.WellFormed.{WellFormed}
 use Rattle.layout.proofs.NewNumberLaws.{new-stays}
 use Rattle.layout.proofs.PlacesLaws.{placed-new}
-use Rattle.freemap.specs.FreeMap.{MapOf, FreeMap}
+use Rattle.freemap.specs.FreeMap.{MapOf}
+use Rattle.freenodes.specs.FreeNodes.{FreeMap}
 use Rattle.freemap.proofs.MapLaws.{map-as}
 use Rattle.plan.specs.Plan.{freePlace}
 use Rattle.plan.proofs.FreeNumbers.{size-is}

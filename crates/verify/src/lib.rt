@@ -14,7 +14,8 @@ use scan::head_ok;
 use scan::nodes_ok;
 use words::fill;
 ghost use mathlib.Core.Path.{_≡_};
-ghost use Rattle.freemap.specs.FreeMap.{BlankMap, FreeMap};
+ghost use Rattle.freemap.specs.FreeMap.{BlankMap};
+ghost use Rattle.freenodes.specs.FreeNodes.{FreeMap};
 ghost use Rattle.verify.specs.Answers.{Counts, checkAnswer, initAnswer, initWords};
 
 // The number of nodes, or 0 if the length is not that of a pool.

@@ -6,7 +6,7 @@
 // the tier of the slots that hold the entry; h, top: the tier of the head before and after; path, chain: the numbers of
 // the nodes over the index and over index 0, by tier; a: a node; o, c: the first of its slots, and how many; f: a filled
 // count.
-use freemap::release;
+use freenodes::release;
 use layout::HEAD_WORD;
 use layout::SLOT_BITS;
 use layout::SLOTS;
@@ -36,7 +36,8 @@ ghost use lib.Dec.{ltb};
 ghost use lib.ListN.{getD, length};
 ghost use Rattle.tree.specs.Tree.{slots, slotBits, topTier};
 ghost use Rattle.layout.specs.Words.{poolWords, lastPlace, filledPlace, markPlace};
-ghost use Rattle.freemap.specs.FreeMap.{mapNodes, Sound, Follows};
+ghost use Rattle.freemap.specs.FreeMap.{mapNodes, Sound};
+ghost use Rattle.freenodes.specs.FreeNodes.{Follows};
 ghost use Rattle.plan.specs.Plan.{Storable};
 ghost use Rattle.write.specs.Writes;
 ghost use Rattle.write.specs.Writes.{Laid};

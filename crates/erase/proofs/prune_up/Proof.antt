@@ -8,8 +8,8 @@ use lib.ListN.{length, getD}
 use Rattle.tree.specs.Tree.{slots, topTier}
 use Rattle.layout.specs.Words.{maxNodes, lastPlace, countWord}
 use Rattle.layout.specs.WellFormed.{WellFormed}
-use Rattle.freemap.specs.FreeMap.{FreeMap}
-use Rattle.freemap.proofs.MapLaws.{free-sound}
+use Rattle.freenodes.specs.FreeNodes.{FreeMap}
+use Rattle.freenodes.proofs.BuildLaws.{free-sound}
 use Rattle.erase.specs.Leaving.{Cut, Cutting}
 use Rattle.erase.proofs.LeavingLaws.{cut-fits, cut-empty, cut-filled, cut-done, cut-top, cut-next, over-fits, over-counted}
 use Rattle.erase.proofs.FreedLaws.{freed-sheds, unlinked-sheds, sheds-given}

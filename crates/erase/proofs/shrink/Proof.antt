@@ -10,8 +10,8 @@ use borrow.Author.Tests.{not-true, not-false}
 use Rattle.model.specs.declared.Entry.{Entry}
 use Rattle.layout.specs.Words.{maxNodes, countWord}
 use Rattle.layout.specs.Places.{Places}
-use Rattle.freemap.specs.FreeMap.{FreeMap}
-use Rattle.freemap.proofs.MapLaws.{free-sound}
+use Rattle.freenodes.specs.FreeNodes.{FreeMap}
+use Rattle.freenodes.proofs.BuildLaws.{free-sound}
 use Rattle.erase.specs.Tall.{Tall, Tower}
 use Rattle.erase.proofs.LowerLaws.{under-fits, tall-flat, top-child, top-empty, top-held, top-sibling}
 use Rattle.erase.proofs.FreedLaws.{sheds-given, sheds-kept}

@@ -4,7 +4,7 @@ use Rattle.batch.specs.declared.Command.the-variants.{Store}
 use Rattle.blocks.proofs.BoolLaws.{byT, not-true, not-false}
 use Rattle.execute.proofs.ReplyLaws.{leaves, store-order, store-index, store-word, store-formed, store-mapped, stores, reserves}
 use Rattle.execute.proofs.ReplyLaws.{put-store, put-reserve, put-order, put-index, put-word, put-enters, put-storable}
-use Rattle.freemap.proofs.FollowLaws.{map-stays}
+use Rattle.freenodes.proofs.FollowLaws.{map-stays}
 use Rattle.execute.proofs.ReplyLaws.{words-stay}
 use borrow.Author.Needs.{needs}
 use Rattle.execute.proofs.run_store.Statement.{statement}

@@ -5,7 +5,7 @@ use mathlib.Core.Bool.{true}
 use native.Mathlib.Omega.{arith}
 use lib.ListN.{length, getD, length-set}
 use borrow.Author.Needs.{needs}
-use Rattle.tree.specs.Tree.{slots}
+use Rattle.words.specs.Bits.{wordBits}
 use Rattle.freemap.specs.FreeMap.{mapNodes, mapCount}
 use Rattle.freemap.proofs.MapLaws.{flip-not-zero, in-map, put-same, count-kept, count-fits, length-kept, given-map}
 use Rattle.freemap.proofs.give.Statement.{statement}
@@ -36,7 +36,7 @@ returns c = let z = c .before .before .before in
 raise-word-requires : tie.Need-raise-word-requires
 raise-word-requires c κs = let t = c .before .before .before in let z = begun t in let p = z .pre in let e = t .set-bit .ensures in (
   (e .long ∙ p .0 .is .long, omega (arith, p .1), flip-not-zero (z .args .m) e),
-  e .rest (mapNodes + z .args .m / slots) (λ q. omega (arith, p .1)) ∙ p .0 .is .tops (z .args .m / slots) (omega (arith, p .1)),
+  e .rest (mapNodes + z .args .m / wordBits) (λ q. omega (arith, p .1)) ∙ p .0 .is .tops (z .args .m / wordBits) (omega (arith, p .1)),
 )
 
 add-map : tie.Need-add-map

@@ -4,7 +4,7 @@ use mathlib.Core.Path.{_≡_, sym, _∙_}
 use native.Mathlib.Omega.{arith}
 use lib.ListN.{length, getD, length-set}
 use borrow.Author.Needs.{needs}
-use Rattle.tree.specs.Tree.{slots}
+use Rattle.words.specs.Bits.{wordBits}
 use Rattle.freemap.specs.FreeMap.{mapNodes, mapCount}
 use Rattle.freemap.proofs.MapLaws.{word-on, count-kept, count-some, length-kept, taken-map}
 use Rattle.freemap.proofs.take.Statement.{statement}
@@ -31,7 +31,7 @@ kept c = let z = begun (cleared c) in let M = z .pre .0 .is in (
 lower-word-requires : tie.Need-lower-word-requires
 lower-word-requires c κs = let t = c .before .before .before in let z = begun t in let p = z .pre in let e = t .clear-bit .ensures in (
   (e .long ∙ p .0 .is .long, omega (arith, p .1 .0)),
-  e .rest (mapNodes + z .args .m / slots) (λ q. omega (arith, p .1 .0)) ∙ word-on (p .0 .is) (z .args .m) (p .1 .0) (p .1 .1),
+  e .rest (mapNodes + z .args .m / wordBits) (λ q. omega (arith, p .1 .0)) ∙ word-on (p .0 .is) (z .args .m) (p .1 .0) (p .1 .1),
 )
 
 sub-map : tie.Need-sub-map

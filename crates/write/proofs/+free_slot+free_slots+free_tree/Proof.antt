@@ -28,13 +28,13 @@ use Rattle.write.proofs.+free_slot+free_slots+free_tree.Lts-free_slots 
 use Rattle.write.proofs.free_tree.Reads as free-tree
 use Rattle.write.proofs.free_tree.Kinds as free-tree-kinds
 use Rattle.write.proofs.+free_slot+free_slots+free_tree.Lts-free_tree as free-tree-lts
-use Rattle.freemap.proofs.release.Reads as release-reads
+use Rattle.freenodes.proofs.release.Reads as release-reads
 use Rattle.layout.proofs.read_slot.Reads as read-slot-reads
 use Rattle.layout.proofs.slot_word.Reads as slot-word-reads
 use Rattle.write.proofs.+free_slot+free_slots+free_tree.{statement}
 use Rattle.write.proofs.+free_slot+free_slots+free_tree.Tie.{close}
-use Rattle.freemap.specs.FreeMap.{Follows}
-use Rattle.freemap.proofs.FollowLaws.{follows-same, follows-then, follows-sound}
+use Rattle.freenodes.specs.FreeNodes.{Follows}
+use Rattle.freenodes.proofs.FollowLaws.{follows-same, follows-then, follows-sound}
 
 module _ (f : List ℕ → ℕ → List ℕ) (top : ℕ) (ws : List ℕ) (w : ℕ) {r : Slot} (e : r ≡ slotOf w) where
   -- nothing is freed

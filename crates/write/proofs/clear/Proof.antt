@@ -2,7 +2,7 @@
 use native.Mathlib.Omega.{arith}
 use borrow.Author.Tests.{lt-ltb, le-ltb}
 use borrow.Author.Needs.{needs}
-use Rattle.freemap.proofs.FollowLaws.{follows-then, follows-sound}
+use Rattle.freenodes.proofs.FollowLaws.{follows-then, follows-sound}
 use Rattle.write.proofs.clear.Statement.{statement}
 use Rattle.write.proofs.clear.Tie as tie
 

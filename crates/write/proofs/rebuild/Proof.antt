@@ -10,7 +10,7 @@ use Rattle.tree.specs.Tree.{slotBits}
 use Rattle.layout.specs.Words.{filledPlace}
 use Rattle.write.specs.declared.Seat.{Seat}
 use Rattle.write.specs.Writes.{seatOf, filledThen, cleared, givenWay, linked, topMarked, entered, foldAll, rebuilt}
-use Rattle.freemap.specs.FreeMap.{Follows}
+use Rattle.freenodes.specs.FreeNodes.{Follows}
 use Rattle.write.proofs.rebuild.Statement.{statement}
 use Rattle.write.proofs.rebuild.Tie as tie
 

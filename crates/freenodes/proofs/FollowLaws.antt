@@ -12,8 +12,9 @@ use Rattle.blocks.proofs.BoolLaws.{byT, clash, either-no, both-yes}
 use Rattle.layout.specs.Words.{countWord, shiftPlace, lastPlace}
 use Rattle.layout.specs.Fill.{cleared}
 use Rattle.layout.proofs.FillLaws.{cleared-before, cleared-after, cleared-in}
-use Rattle.freemap.specs.FreeMap.{freeIn, freedBy, put, MapOf, Sound, FreeMap, Follows}
+use Rattle.freemap.specs.FreeMap.{put, MapOf, Sound}
 use Rattle.freemap.proofs.MapLaws.{map-as}
+use Rattle.freenodes.specs.FreeNodes.{freeIn, freedBy, FreeMap, Follows}
 
 -- THE MAP OF A POOL as its words change
 pub map-stays : {ws ws′ ms : List ℕ} → ws′ ≡ ws → FreeMap ws ms → FreeMap ws′ ms

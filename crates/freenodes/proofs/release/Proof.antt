@@ -1,8 +1,8 @@
 -- `release`: the map follows the one node.
-use Rattle.freemap.proofs.FollowLaws.{follows-cleared}
+use Rattle.freenodes.proofs.FollowLaws.{follows-cleared}
 use borrow.Author.Needs.{needs}
-use Rattle.freemap.proofs.release.Statement.{statement}
-use Rattle.freemap.proofs.release.Tie as tie
+use Rattle.freenodes.proofs.release.Statement.{statement}
+use Rattle.freenodes.proofs.release.Tie as tie
 
 returns : tie.Need-returns
 returns c = let r = c .before .before in let g = r .before .before .before .before in let t = g .before in
