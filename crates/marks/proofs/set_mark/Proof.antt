@@ -52,6 +52,9 @@ start-from-else2 c = c .before .before .before .before .before .before .before .
 enum-told : tie.Need-enum-told
 enum-told c = search needs
 
+enum-told-2 : tie.Need-enum-told-2
+enum-told-2 c = search needs
+
 returns : tie.Need-returns
 returns c = let a = start-from-then1 c .args in let r = sym (c .before .is-reserved .ensures) ∙ c .if1 .taken in (
   (λ s. let (z, q) = at-head _ (c .before .before .before .before .before .locate .ensures s) (c .before .before .before .k .given .1) in
@@ -131,7 +134,7 @@ set-mark-spec =
     (tie.spec
     (λ c κs. search needs)
     enum-told
-    (λ c. search needs)
+    enum-told-2
     (λ c. search needs)
     (λ c κs. search needs)
     (λ c. search needs)
