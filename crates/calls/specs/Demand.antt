@@ -1,4 +1,8 @@
 -- Demand 3: the pool after a list of calls, and the model fed the same calls (R88 to R105).
+--
+-- the pool    Call; wordsAfter, wordsAfterAll: the words that calls leave
+-- the model   listAfter, listAfterAll: the plain list that calls leave
+-- the claim   Stands: words of a list; ShortExact: when room is short; Commanded: one command; AtCall: one call; Demand3: all of them
 use Prim.Native.Nat.{ℕ, _*_, _-_, _≤_, _<_}
 use mathlib.Core.Path.{_≡_}
 use mathlib.Core.Bool.{true, false}
