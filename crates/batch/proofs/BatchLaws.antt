@@ -5,13 +5,13 @@ use mathlib.Core.Logic.{_≢_}
 use mathlib.Core.Bool.{true, false}
 use mathlib.Core.List.{List}
 use native.Mathlib.Omega.{arith}
-use native.Mathlib.Nat.{add-zero}
 use lib.Dec.{eqb}
 use lib.ListN.{length, getD}
 use borrow.Author.Tests.{eqb-true, le-leb, lt-leb, eq-eqb, ne-eqb}
 use Rattle.blocks.specs.Choice.{pick}
 use Rattle.blocks.proofs.BoolLaws.{byT}
-use Rattle.batch.specs.Bytes.{numberAt}
+use Rattle.words.specs.Bytes.{numberAt}
+use Rattle.words.proofs.NumberLaws.{one-byte}
 use Rattle.batch.specs.Batch.{fieldBytes, headBytes, commandAt, isRecord, nextAt, readAt, Next, Bad, End, Command}
 
 -- the last tag that has fields
@@ -24,10 +24,6 @@ last-tag tag f a b c d e g =
 -- the fields of a known tag have room where those of the tag have
 pub room : {tag n : ℕ} (t at : ℕ) → tag ≡ t → at + fieldBytes tag ≤ n → at + fieldBytes t ≤ n
 room {tag} {n} t at e h = subst (λ (x : ℕ). at + fieldBytes x ≤ n) e h
-
--- the byte that the code reads as a number
-pub one-byte : (s : List ℕ) (at : ℕ) {tag : ℕ} → tag ≡ numberAt s at 1 → tag ≡ getD s at 0
-one-byte s at e = e ∙ omega arith ∙ ap (λ (k : ℕ). getD s k 0) (add-zero at)
 
 -- WHETHER A RECORD IS WHOLE, test by test as the code has them
 module _ (s : List ℕ) (at : ℕ) where

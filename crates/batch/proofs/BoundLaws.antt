@@ -1,14 +1,13 @@
 -- Bytes make numbers that fit, so the fields of a command that was read fit.
-use Prim.Native.Nat.{ℕ, zero, suc, _+_, _-_, _^_, _<_}
+use Prim.Native.Nat.{ℕ, zero, suc, _+_, _-_}
 use mathlib.Core.Path.{_≡_, refl, subst}
 use mathlib.Core.List.{List}
-use native.Mathlib.Omega.{arith}
-use native.Mathlib.Nat.{pow-suc}
-use lib.Dec.{ltb, eqb, lit<}
+use lib.Dec.{ltb, eqb}
 use lib.ListN.{length, getD}
 use Rattle.blocks.specs.Lists.{All, end, also}
 use Rattle.blocks.proofs.BoolLaws.{byT}
-use Rattle.batch.specs.Bytes.{numberAt}
+use Rattle.words.specs.Bytes.{Bytes}
+use Rattle.words.proofs.NumberLaws.{number-lt}
 use Rattle.batch.specs.Batch.{
   Command,
   maxBatch,
@@ -29,12 +28,8 @@ use Rattle.batch.specs.Batch.{
   restAt,
   parse,
 }
-use Rattle.batch.specs.Fits.{Bytes, Fits}
+use Rattle.batch.specs.Fits.{Fits}
 use Rattle.batch.proofs.ParseLaws.{was-read}
-
-pub number-lt : {s : List ℕ} → Bytes s → (at n : ℕ) → numberAt s at n < 256 ^ n
-number-lt b at zero = lit< tt
-number-lt b at (suc n) = rw pow-suc (omega (arith, number-lt b at n, b .small (at + n)))
 
 command-fits : {s : List ℕ} → Bytes s → (tag at : ℕ) → Fits (commandAt s tag at)
 command-fits {s} b tag at =

@@ -1,5 +1,5 @@
 -- A batch cut just after one of its commands is the batch of the commands up to there.
-use Prim.Native.Nat.{ℕ, zero, suc, _+_, _≤_}
+use Prim.Native.Nat.{ℕ, _+_, _≤_}
 use mathlib.Core.Path.{_≡_, refl, sym, ap, ap₂, _∙_}
 use mathlib.Core.Logic.{_≢_}
 use mathlib.Core.List.{List, [], _∷_, _++_}
@@ -11,7 +11,8 @@ use lib.Seq.{getD-take}
 use borrow.Author.Tests.{ltb-true, ltb-false}
 use Rattle.blocks.proofs.BoolLaws.{byT}
 use Rattle.blocks.specs.Choice.{pick}
-use Rattle.batch.specs.Bytes.{numberAt}
+use Rattle.words.specs.Bytes.{numberAt}
+use Rattle.words.proofs.NumberLaws.{number-cut, one-byte}
 use Rattle.batch.specs.Batch.{
   maxBatch,
   headBytes,
@@ -40,7 +41,7 @@ use Rattle.batch.specs.Batch.{
   restAt,
   parse,
 }
-use Rattle.batch.proofs.BatchLaws.{one-byte, skip-whole, read-end, read-next}
+use Rattle.batch.proofs.BatchLaws.{skip-whole, read-end, read-next}
 use Rattle.batch.proofs.ParseLaws.{
   WasRead,
   was-read,
@@ -60,38 +61,32 @@ module _ (s : List ℕ) (p : ℕ) (fits : p ≤ length s) where
   cut-length : length (take p s) ≡ p
   cut-length = simp length-take (omega arith)
 
-  -- numbers before the cut
-  number-cut : (at n : ℕ) → at + n ≤ p → numberAt (take p s) at n ≡ numberAt s at n
-  number-cut at zero h = refl
-  number-cut at (suc n) h =
-      rw (number-cut at n (omega arith), getD-take p s (at + n) 0 (omega arith))
-
   -- commands before the cut
   command-cut : (tag at : ℕ) → fieldBytes tag ≢ 0 → at + fieldBytes tag ≤ p →
       commandAt (take p s) tag at ≡ commandAt s tag at
   command-cut tag at f h =
       byT (eqb tag 1)
       (λ t. let h₁ : at + 17 ≤ p = rw t at h in
-      rw t (λ i. Store (number-cut at 8 (omega arith) i) (number-cut (at + 8) 1 (omega arith) i)
-      (number-cut (at + 9) 8 (omega arith) i)))
+      rw t (λ i. Store (number-cut s p fits at 8 (omega arith) i) (number-cut s p fits (at + 8) 1 (omega arith) i)
+      (number-cut s p fits (at + 9) 8 (omega arith) i)))
       (λ t. byT (eqb tag 2)
-      (λ u. let h₂ : at + 8 ≤ p = rw (t, u) at h in rw (t, u) (ap Load (number-cut at 8 (omega arith))))
+      (λ u. let h₂ : at + 8 ≤ p = rw (t, u) at h in rw (t, u) (ap Load (number-cut s p fits at 8 (omega arith))))
       (λ u. byT (eqb tag 3)
-      (λ v. let h₃ : at + 8 ≤ p = rw (t, u, v) at h in rw (t, u, v) (ap Erase (number-cut at 8 (omega arith))))
+      (λ v. let h₃ : at + 8 ≤ p = rw (t, u, v) at h in rw (t, u, v) (ap Erase (number-cut s p fits at 8 (omega arith))))
       (λ v. byT (eqb tag 4)
       (λ w. let h₄ : at + 9 ≤ p = rw (t, u, v, w) at h in
-      rw (t, u, v, w) (ap₂ Mark (number-cut at 8 (omega arith)) (number-cut (at + 8) 1 (omega arith))))
+      rw (t, u, v, w) (ap₂ Mark (number-cut s p fits at 8 (omega arith)) (number-cut s p fits (at + 8) 1 (omega arith))))
       (λ w. byT (eqb tag 5)
       (λ x. let h₅ : at + 9 ≤ p = rw (t, u, v, w, x) at h in
-      rw (t, u, v, w, x) (ap₂ Unmark (number-cut at 8 (omega arith)) (number-cut (at + 8) 1 (omega arith))))
+      rw (t, u, v, w, x) (ap₂ Unmark (number-cut s p fits at 8 (omega arith)) (number-cut s p fits (at + 8) 1 (omega arith))))
       (λ x. byT (eqb tag 6)
       (λ y. let h₆ : at + 19 ≤ p = rw (t, u, v, w, x, y) at h in
       rw (t, u, v, w, x, y)
-      (λ i. Find (number-cut at 8 (omega arith) i) (number-cut (at + 8) 8 (omega arith) i)
-      (number-cut (at + 16) 1 (omega arith) i) (number-cut (at + 17) 2 (omega arith) i)))
+      (λ i. Find (number-cut s p fits at 8 (omega arith) i) (number-cut s p fits (at + 8) 8 (omega arith) i)
+      (number-cut s p fits (at + 16) 1 (omega arith) i) (number-cut s p fits (at + 17) 2 (omega arith) i)))
       (λ y. byT (eqb tag 7)
       (λ z. let h₇ : at + 8 ≤ p = rw (t, u, v, w, x, y, z) at h in
-      rw (t, u, v, w, x, y) (ap Reserve (number-cut at 8 (omega arith))))
+      rw (t, u, v, w, x, y) (ap Reserve (number-cut s p fits at 8 (omega arith))))
       (λ z. absurd (f (rw (t, u, v, w, x, y, z))))))))))
 
   -- a record that ends before the cut is read the same
@@ -111,7 +106,7 @@ module _ (s : List ℕ) (p : ℕ) (fits : p ≤ length s) where
       ∙ sym (command-cut tag (at + headBytes) f (omega arith)) in
       let skipped : at + headBytes + fieldBytes tag ≡ pick (isRecord (take p s) at) (nextAt (take p s) at .at) 0 =
       skip-whole (take p s) at tag (fieldBytes tag) refl refl (rw cut-length (omega arith)) f
-      (number-cut (at + 1) 2 (omega arith) ∙ w .length-is ∙ sym z) (rw cut-length (omega arith)) in
+      (number-cut s p fits (at + 1) 2 (omega arith) ∙ w .length-is ∙ sym z) (rw cut-length (omega arith)) in
       let n : Next c (record { at = at + headBytes + fieldBytes tag }) ≡ readAt (take p s) at =
       read-next (take p s) at (rw cut-length (omega arith)) _ skipped (λ x. omega arith)
       (q ∙ ap (λ (x : ℕ). commandAt (take p s) x (at + headBytes)) (one-byte (take p s) at {tag = tag} refl)) in

@@ -1,6 +1,6 @@
 pub mod BatchLaws
 pub mod ParseLaws
-pub mod WriteLaws
+pub mod ReplyLaws
 pub mod BoundLaws
 pub mod CutLaws
 pub mod RecordLaws

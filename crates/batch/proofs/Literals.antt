@@ -4,24 +4,8 @@ use Prim.Native.Nat.{ℕ, _≤_, _<_}
 use mathlib.Core.Path.{_≡_, refl}
 use mathlib.Core.List.{List, [], _∷_}
 use lib.ListN.{length}
-use Rattle.batch.specs.Batch.{
-  Command,
-  Store,
-  Load,
-  Erase,
-  Mark,
-  Unmark,
-  Find,
-  Reserve,
-  Parsed,
-  Parsed.commands,
-  Parsed.refused,
-  readAt,
-  parseFrom,
-  restAt,
-  parse,
-}
-use Rattle.batch.specs.Reply.{Reply, replyBytes, encode}
+use Rattle.batch.specs.Batch.{Store, Load, Erase, Mark, Unmark, Find, Reserve, Parsed, Parsed.commands, Parsed.refused, readAt, parseFrom, restAt, parse}
+use Rattle.batch.specs.Reply.{replyBytes, encode}
 use Rattle.batch.proofs.ParseLaws.{parse-long, parse-rest}
 
 -- one record of each tag, every byte of the first one its own

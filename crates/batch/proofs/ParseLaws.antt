@@ -10,7 +10,7 @@ use lib.ListN.{length, getD}
 use borrow.Author.Tests.{leb-true, leb-false, eqb-true, eq-eqb, lt-ltb, le-ltb, lt-leb}
 use Rattle.blocks.specs.Choice.{both}
 use Rattle.blocks.proofs.BoolLaws.{byT, clash, both-l, both-r}
-use Rattle.batch.specs.Bytes.{numberAt}
+use Rattle.words.specs.Bytes.{numberAt}
 use Rattle.batch.specs.Batch.{
   maxBatch,
   headBytes,
@@ -38,7 +38,7 @@ use Rattle.batch.specs.Batch.{
   Refused,
   counted,
 }
-use Rattle.batch.proofs.BatchLaws.{one-byte}
+use Rattle.words.proofs.NumberLaws.{one-byte}
 
 -- a record that was read
 pub record WasRead (s : List ℕ) (at : ℕ) (c : Command) (k : Cursor) : Type 0 where

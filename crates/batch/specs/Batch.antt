@@ -5,7 +5,7 @@ use mathlib.Core.List.{List, [], _∷_}
 use lib.Dec.{leb, ltb, eqb}
 use lib.ListN.{length, getD}
 use Rattle.blocks.specs.Choice.{pick, both}
-use Rattle.batch.specs.Bytes.{numberAt}
+use Rattle.words.specs.Bytes.{numberAt}
 pub use Rattle.batch.specs.declared.Command.{Command}
 pub use Rattle.batch.specs.declared.Command.the-variants.{Store, Load, Erase, Mark, Unmark, Find, Reserve}
 pub use Rattle.batch.specs.declared.Cursor.{Cursor}

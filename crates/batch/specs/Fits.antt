@@ -1,11 +1,6 @@
--- Bytes, and commands whose fields are 64-bit numbers.
-use Prim.Native.Nat.{ℕ, _^_, _<_}
-use mathlib.Core.List.{List}
-use lib.ListN.{getD}
+-- Commands whose fields are 64-bit numbers.
+use Prim.Native.Nat.{_^_, _<_}
 use Rattle.batch.specs.Batch.{Command, Store, Load, Erase, Mark, Unmark, Find, Reserve}
-
-pub record Bytes (s : List ℕ) : Type 0 where
-  pub small : (i : ℕ) → getD s i 0 < 256
 
 -- the fields that a list or a reply can come to hold: the index and the word of a store, the last index and the budget
 -- of a find, the index of a reservation

@@ -1,4 +1,3 @@
-pub mod Bytes
 pub mod Batch
 pub mod Reply
 pub mod Fits

@@ -3,7 +3,7 @@ use Prim.Native.Nat.{ℕ}
 use mathlib.Core.List.{List, []}
 use Rattle.model.specs.declared.Entry.{Entry}
 use Rattle.model.specs.Model.{shown}
-use Rattle.batch.specs.Bytes.{bytesThen}
+use Rattle.words.specs.Bytes.{bytesThen}
 use Rattle.batch.specs.Batch.{Command, Store, Load, Erase, Mark, Unmark, Find, Reserve}
 pub use Rattle.batch.specs.declared.Reply.{Reply}
 

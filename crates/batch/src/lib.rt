@@ -2,17 +2,22 @@
 //
 // batch: the borrowed bytes; at: a place in them; a record is a tag byte, a length of two bytes and that many bytes of
 // fields; reply: the borrowed bytes of the replies.
+use words::number1;
+use words::number2;
+use words::number8;
+use words::put1;
+use words::put2;
+use words::put8;
 ghost use mathlib.Core.Path.{_≡_};
 ghost use mathlib.Core.Bool.{true};
 ghost use mathlib.Core.Logic.{_≢_};
-ghost use mathlib.Core.List.{[], _∷_};
-ghost use Prim.Native.Nat.{_+_, _*_, _<_, _≤_, _%_};
+ghost use Prim.Native.Nat.{_+_, _<_, _≤_};
 ghost use lib.ListN.{length};
-ghost use Rattle.batch.specs.Bytes.{numberAt, bytesThen, overwrite};
+ghost use Rattle.words.specs.Bytes.{numberAt, overwrite};
 ghost use Rattle.batch.specs.Batch.{fieldBytes, headBytes, commandAt, isRecord, nextAt, readAt, restAt, counted, parse};
 ghost use Rattle.batch.specs.declared.Read.the-variants.{Next};
 ghost use Rattle.blocks.specs.Choice.{pick};
-ghost use Rattle.batch.specs.Reply.{replyBytes, encode, replyTag};
+ghost use Rattle.batch.specs.Reply.{replyBytes, encode};
 
 // The longest batch, the bytes of a record before its fields, and the bytes of a reply.
 pub const MAX_BATCH: usize = 32768;
@@ -86,46 +91,6 @@ pub struct Reply {
     pub word: u64,
     pub marks: u64,
     pub count: u64,
-}
-
-fn wide(x: u8) -> u64
-    ensures { λ r. ⌜ (r ≡ x) × (r < 256) ⌝ }
-{
-    x as u64
-}
-
-fn number1(s: &[u8], at: usize) -> u64
-    requires { ⌜ at + 1 ≤ length (now s) ⌝ }
-    ensures { λ r. ⌜ (r ≡ numberAt (now (s .entry)) at 1) × (r < 256) ⌝ }
-{
-    wide(s[at + 0])
-}
-
-fn number2(s: &[u8], at: usize) -> u64
-    requires { ⌜ at + 2 ≤ length (now s) ⌝ }
-    ensures { λ r. ⌜ (r ≡ numberAt (now (s .entry)) at 2) × (r < 65536) ⌝ }
-{
-    let a = wide(s[at + 0]);
-    let b = wide(s[at + 1]);
-    a * 256 + b
-}
-
-fn number8(s: &[u8], at: usize) -> u64
-    requires { ⌜ at + 8 ≤ length (now s) ⌝ }
-    ensures { λ r. ⌜ r ≡ numberAt (now (s .entry)) at 8 ⌝ }
-{
-    if s.len() <= at {
-        return 0;
-    }
-    let a = wide(s[at + 0]);
-    let b = wide(s[at + 1]);
-    let c = wide(s[at + 2]);
-    let d = wide(s[at + 3]);
-    let e = wide(s[at + 4]);
-    let f = wide(s[at + 5]);
-    let g = wide(s[at + 6]);
-    let h = wide(s[at + 7]);
-    ((((((a * 256 + b) * 256 + c) * 256 + d) * 256 + e) * 256 + f) * 256 + g) * 256 + h
 }
 
 fn store_at(s: &[u8], at: usize) -> Command
@@ -319,39 +284,6 @@ pub fn count(batch: &[u8]) -> Counted
         return Counted::Refused(MAX_BATCH as u64);
     }
     count_records(batch)
-}
-
-pub fn put1(out: &mut [u8], at: usize, x: u64)
-    requires { ⌜ at + 1 ≤ length (now out) ⌝ }
-    ensures { λ _. ⌜ now (out .exit) ≡ overwrite (now (out .entry)) at (bytesThen 1 x []) ⌝ }
-{
-    out[at + 0] = (x / 1 % 256) as u8;
-}
-
-pub fn put2(out: &mut [u8], at: usize, x: u64)
-    requires { ⌜ at + 2 ≤ length (now out) ⌝ }
-    ensures { λ _. ⌜ now (out .exit) ≡ overwrite (now (out .entry)) at (bytesThen 2 x []) ⌝ }
-{
-    out[at + 0] = (x / 256 % 256) as u8;
-    out[at + 1] = (x / 1 % 256) as u8;
-}
-
-// The test is never met: it parts the eight bytes from those written before, and so the compiler writes them as one word.
-pub fn put8(out: &mut [u8], at: usize, x: u64)
-    requires { ⌜ at + 8 ≤ length (now out) ⌝ }
-    ensures { λ _. ⌜ now (out .exit) ≡ overwrite (now (out .entry)) at (bytesThen 8 x []) ⌝ }
-{
-    if out.len() <= at {
-        return;
-    }
-    out[at + 0] = (x / 72057594037927936 % 256) as u8;
-    out[at + 1] = (x / 281474976710656 % 256) as u8;
-    out[at + 2] = (x / 1099511627776 % 256) as u8;
-    out[at + 3] = (x / 4294967296 % 256) as u8;
-    out[at + 4] = (x / 16777216 % 256) as u8;
-    out[at + 5] = (x / 65536 % 256) as u8;
-    out[at + 6] = (x / 256 % 256) as u8;
-    out[at + 7] = (x / 1 % 256) as u8;
 }
 
 // The 24 bytes of a reply, from a place on.

@@ -1,8 +1,11 @@
 -- Laws of tests and choices. Tests stand as equations `b ≡ true`.
+use Prim.Native.Nat.{ℕ}
 use mathlib.Core.Path.{_≡_, refl, sym, subst, _∙_}
 use mathlib.Core.Bool.{Bool, true, false, not}
-use lib.Dec.{T}
+use lib.Dec.{T, eqb}
+use borrow.Author.Tests.{eqb-true, eqb-false}
 use Rattle.blocks.specs.Choice.{both, either}
+use Rattle.blocks.specs.Deciding.{Decides}
 
 pub clash : {b : Bool} → b ≡ true → b ≡ false → ⊥
 clash e d = subst T (sym e ∙ d) tt
@@ -76,3 +79,6 @@ not-true false e = refl
 pub not-false : (b : Bool) → not b ≡ false → b ≡ true
 not-false true e = refl
 not-false false e = sym e
+
+pub decide-eqb : {A : Type 0} (x y : ℕ) → (x ≡ y → A) → (A → x ≡ y) → Decides (eqb x y) A
+decide-eqb x y f g = (λ e. f (eqb-true x y e), λ e a. eqb-false x y e (g a))

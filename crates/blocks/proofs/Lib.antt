@@ -9,3 +9,7 @@ pub mod PlacingLaws
 pub mod PlaceNumberLaws
 pub mod LeastLaws
 pub mod TwoWordLaws
+pub mod Ascending
+pub mod TierLaws
+pub mod FreeNumberLaws
+pub mod RecordLaws

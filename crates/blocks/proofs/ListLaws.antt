@@ -6,10 +6,12 @@ use mathlib.Core.List.{List, [], _∷_, _++_}
 use mathlib.Core.Option.{none, some}
 use mathlib.Core.Logic.{_⊎_, inl, inr}
 use native.Mathlib.Omega.{arith}
+use lib.Dec.{eqb}
 use lib.ListN.{length, getD}
+use borrow.Author.Tests.{eqb-true, eq-eqb}
 use Rattle.blocks.specs.Choice.{both, either}
-use Rattle.blocks.specs.Lists.{any, keep, without, first, In, All, end, also, here, there, Distinct, d-end, d-more}
-use Rattle.blocks.proofs.BoolLaws.{clash, byT, either-swap, either-yes, is-false, either-e}
+use Rattle.blocks.specs.Lists.{any, equal, keep, without, first, In, All, end, also, here, there, Distinct, d-end, d-more}
+use Rattle.blocks.proofs.BoolLaws.{clash, byT, both-i, both-l, both-r, either-swap, either-yes, is-false, either-e}
 
 module _ {A : Type 0} where
   pub All-of : {P : A → Type 0} → ((x : A) → P x) → (l : List A) → All P l
@@ -169,3 +171,19 @@ pub getD-out : (xs : List ℕ) (i : ℕ) → length xs ≤ i → getD xs i 0 ≡
 getD-out [] i h = refl
 getD-out (x ∷ xs) zero h = absurd (omega arith)
 getD-out (x ∷ xs) (suc i) h = getD-out xs i (omega arith)
+
+-- THE TEST `equal` is equality
+pub equal-self : (xs : List ℕ) → equal xs xs ≡ true
+equal-self [] = refl
+equal-self (x ∷ xs) = both-i (eq-eqb x x refl) (equal-self xs)
+
+pub equal-is : {xs ys : List ℕ} → xs ≡ ys → equal xs ys ≡ true
+equal-is {xs} e = subst (λ (ys : List ℕ). equal xs ys ≡ true) e (equal-self xs)
+
+pub is-equal : (xs ys : List ℕ) → equal xs ys ≡ true → xs ≡ ys
+is-equal [] [] t = refl
+is-equal [] (y ∷ ys) t = absurd (clash t refl)
+is-equal (x ∷ xs) [] t = absurd (clash t refl)
+is-equal (x ∷ xs) (y ∷ ys) t =
+    let a : x ≡ y = eqb-true x y (both-l (eqb x y) _ t) in
+    let b : xs ≡ ys = is-equal xs ys (both-r (eqb x y) _ t) in cc

@@ -3,7 +3,8 @@ use Prim.Native.Nat.{ℕ, zero, suc}
 use mathlib.Core.Bool.{Bool, true, false}
 use mathlib.Core.List.{List, [], _∷_}
 use mathlib.Core.Option.{Option, none, some}
-use Rattle.blocks.specs.Choice.{pick, either}
+use lib.Dec.{eqb}
+use Rattle.blocks.specs.Choice.{pick, both, either}
 
 module _ {A : Type 0} (p : A → Bool) where
   -- some element passes
@@ -27,6 +28,13 @@ module _ {A : Type 0} (p : A → Bool) where
 abbrev pub nonempty {ℓ} : {A : Type ℓ} → List A → Bool
 nonempty [] = false
 nonempty (x ∷ l) = true
+
+-- the same numbers, and as many
+abbrev pub equal : List ℕ → List ℕ → Bool
+equal [] [] = true
+equal [] (y ∷ ys) = false
+equal (x ∷ xs) [] = false
+equal (x ∷ xs) (y ∷ ys) = both (eqb x y) (equal xs ys)
 
 -- f from, f (from + 1), .., n in all
 abbrev pub upTo {ℓ} : {A : Type ℓ} → (ℕ → A) → (from n : ℕ) → List A

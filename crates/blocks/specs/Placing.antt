@@ -1,11 +1,11 @@
 -- What stands at each number, and which numbers new things take: over any kind of thing that a test tells apart.
 -- (Nodes of a tree here, each at a number of the pool: layout/specs/Places.)
-use Prim.Native.Nat.{ℕ, suc}
+use Prim.Native.Nat.{ℕ, zero, suc}
 use mathlib.Core.Path.{_≡_}
 use mathlib.Core.Bool.{Bool, true, false, not}
 use mathlib.Core.List.{List, [], _∷_, map}
 use mathlib.Core.Option.{Option, none, some}
-use lib.Dec.{eqb}
+use lib.Dec.{leb, eqb}
 use lib.ListN.{length}
 use Rattle.blocks.specs.Choice.{pick, both}
 use Rattle.blocks.specs.Lists.{any, In, Distinct}
@@ -40,6 +40,32 @@ module _ {A : Type 0} where
 
   abbrev pub prune : (A → Bool) → PlacesOf A → PlacesOf A
   prune has os = map (keepIf has) os
+
+  -- the free number that has j free ones before it
+  abbrev pub freeAt : PlacesOf A → ℕ → ℕ
+  freeAt [] j = 0
+  freeAt (none ∷ os) zero = 0
+  freeAt (none ∷ os) (suc j) = suc (freeAt os j)
+  freeAt (some p ∷ os) j = suc (freeAt os j)
+
+  -- how many of the first m are free
+  abbrev pub freeBefore : PlacesOf A → ℕ → ℕ
+  freeBefore os zero = 0
+  freeBefore [] (suc m) = 0
+  freeBefore (none ∷ os) (suc m) = suc (freeBefore os m)
+  freeBefore (some p ∷ os) (suc m) = freeBefore os m
+
+  -- number m is free
+  abbrev pub freePlace : PlacesOf A → ℕ → Bool
+  freePlace [] m = false
+  freePlace (none ∷ os) zero = true
+  freePlace (some p ∷ os) zero = false
+  freePlace (none ∷ os) (suc m) = freePlace os m
+  freePlace (some p ∷ os) (suc m) = freePlace os m
+
+  -- and is none of the k lowest free ones
+  abbrev pub leftFree : PlacesOf A → ℕ → ℕ → Bool
+  leftFree os k m = both (freePlace os m) (leb k (freeBefore os m))
 
 -- by a test that tells things apart
 module _ {A : Type 0} (same : A → A → Bool) where

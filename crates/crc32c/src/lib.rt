@@ -39,7 +39,7 @@ fn wide(b: u8) -> u32
 }
 
 // The register after one byte.
-fn step(t: &[u32], c: u32, b: u8) -> u32
+fn byte_step(t: &[u32], c: u32, b: u8) -> u32
     requires { ⌜ Table (now t) ⌝ }
     ensures { λ r. ⌜ r ≡ byteStep c b ⌝ }
 {
@@ -57,7 +57,7 @@ fn by_bytes(t: &[u32], c: u32, s: &[u8], from: usize) -> u32
     let mut c = c;
     let mut i = from;
     while i < s.len() {
-        c = step(t, c, s[i]);
+        c = byte_step(t, c, s[i]);
         i += 1;
     }
     c

@@ -4,7 +4,7 @@ use mathlib.Core.Path.{_≡_, refl, sym, ap, _∙_, subst}
 use mathlib.Core.Logic.{inl, inr, _≢_}
 use mathlib.Core.Bool.{Bool, true, false}
 use mathlib.Core.List.{List, [], _∷_, _++_}
-use mathlib.Core.Option.{none, some}
+use mathlib.Core.Option.{some}
 use native.Mathlib.Omega.{arith}
 use native.Mathlib.Nat.{mul-le-mul-right, div-add-mod', div-mul-le-self, lt-div-mul-add, div-eq-of-eq-mul-left}
 use lib.Dec.{eqb, leb}
@@ -221,13 +221,6 @@ first-mem p (y ∷ ys) x e =
     byT (p y)
     (λ t. let q : y ≡ x = cc (rw t at e) in (inl q, ap p (sym q) ∙ t))
     (λ t. let r = first-mem p ys x (rw t at e) in (inr (r .0), r .1))
-
-pub first-no : (p : Entry → Bool) (xs : List Entry) → first p xs ≡ none → Every (λ x. p x ≡ false) xs
-first-no p [] e = tt
-first-no p (y ∷ ys) e =
-    byT (p y)
-    (λ t. absurd (let q : _≡_ {A = ℕ} 0 1 = cc (rw t at e) in omega arith))
-    (λ t. (t, first-no p ys (rw t at e)))
 
 -- two entries of a list that cover one index are one
 pub first-at : (i a c : ℕ) (xs : List Entry) (x : Entry) → Chain a xs c → Mem x xs → covers i x ≡ true →

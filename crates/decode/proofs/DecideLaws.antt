@@ -1,15 +1,15 @@
 -- The tests of `Decide` hold exactly where what they test does.
 use Prim.Native.Nat.{ℕ, _*_, _^_}
 use mathlib.Core.Path.{_≡_, refl, sym, ap, subst, _∙_}
-use mathlib.Core.Bool.{Bool, true, false}
+use mathlib.Core.Bool.{true}
 use mathlib.Core.List.{List, [], _∷_}
 use native.Mathlib.Omega.{arith}
 use lib.Dec.{leb, ltb, eqb, T}
 use lib.ListN.{length}
 use borrow.Author.Tests.{leb-true, ltb-true, eqb-true, le-leb, lt-ltb, eq-eqb}
-use Rattle.blocks.specs.Choice.{both}
 use Rattle.blocks.specs.Blocks.{block}
-use Rattle.blocks.proofs.BoolLaws.{clash, both-i, both-l, both-r, T-true}
+use Rattle.blocks.proofs.BoolLaws.{both-i, both-l, both-r, T-true}
+use Rattle.blocks.proofs.ListLaws.{equal-is, is-equal}
 use Rattle.blocks.proofs.PlaceNumberLaws as N
 use Rattle.model.specs.declared.Entry.{Entry}
 use Rattle.model.specs.Model.{wordOk, maxOrder, EntryOk, Sorted, done, more}
@@ -19,7 +19,7 @@ use Rattle.layout.specs.Words.{maxNodes, poolWords}
 use Rattle.layout.specs.Places.{Places, Placed, same, hasNode}
 use Rattle.layout.specs.Decode.{listOf, placesOf}
 use Rattle.layout.specs.WellFormed.{Sized, Prescribed}
-use Rattle.layout.specs.Decide.{nodeCount, isSized, isEntry, isSorted, isPlaced, equal, isWellFormed}
+use Rattle.layout.specs.Decide.{nodeCount, isSized, isEntry, isSorted, isPlaced, isWellFormed}
 use Rattle.layout.proofs.PlacesLaws.{same-is, same-refl}
 use Rattle.decode.proofs.DecodeLaws.{decode-list, decode-places}
 
@@ -89,21 +89,6 @@ is-placed n l os t = N.is-placed same same-is same-refl (hasNode l) (nodes l)
     (λ p t. in-nodes l (p .tier) (p .number) t) n os t
 
 -- THE WORDS
-equal-self : (xs : List ℕ) → equal xs xs ≡ true
-equal-self [] = refl
-equal-self (x ∷ xs) = both-i (eq-eqb x x refl) (equal-self xs)
-
-pub equal-is : {xs ys : List ℕ} → xs ≡ ys → equal xs ys ≡ true
-equal-is {xs} e = subst (λ (ys : List ℕ). equal xs ys ≡ true) e (equal-self xs)
-
-pub is-equal : (xs ys : List ℕ) → equal xs ys ≡ true → xs ≡ ys
-is-equal [] [] t = refl
-is-equal [] (y ∷ ys) t = absurd (clash t refl)
-is-equal (x ∷ xs) [] t = absurd (clash t refl)
-is-equal (x ∷ xs) (y ∷ ys) t =
-    let a : x ≡ y = eqb-true x y (both-l (eqb x y) _ t) in
-    let b : xs ≡ ys = is-equal xs ys (both-r (eqb x y) _ t) in cc
-
 -- the test passes exactly if some list and places prescribe the words, and then the decoded ones do
 pub well-formed-is : {n : ℕ} {l : List Entry} {os : Places} {ws : List ℕ} → Prescribed n l os ws →
     isWellFormed n ws ≡ true

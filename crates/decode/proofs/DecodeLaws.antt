@@ -11,11 +11,10 @@ use lib.Seq.{ext-getD}
 use borrow.Author.Tests.{ne-eqb}
 use Rattle.blocks.proofs.UpToLaws.{length-upTo, getD-upTo-or}
 use Rattle.model.specs.declared.Entry.{Entry}
-use Rattle.model.specs.Model.{Valid}
 use Rattle.tree.specs.Tree.{Node, height, tierOrder, slots}
 use Rattle.tree.specs.Slots.{Numbering}
 use Rattle.layout.specs.Words.{fieldAt, poolWords, shiftField, shiftPlace}
-use Rattle.layout.specs.Places.{render, Places, Placed, numberIn, wordAt}
+use Rattle.layout.specs.Places.{Places, numberIn, wordAt}
 use Rattle.layout.specs.Pool.{Pool, poolOf}
 use Rattle.layout.specs.Decode.{levelOf, blockOf, placeIn, topOf, listOf, placesOf}
 use Rattle.layout.specs.WellFormed.{Prescribed, WellFormed, Sized}
@@ -87,13 +86,6 @@ pub unique : {n n′ : ℕ} {l l′ : List Entry} {os os′ : Places} {ws : List
     Prescribed n′ l′ os′ ws → (l ≡ l′) × (os ≡ os′)
 unique S S′ = (sym (decode-list S) ∙ decode-list S′, sym (decode-places S) ∙ decode-places S′)
 
--- decoding after rendering
-pub round-trip : (n : ℕ) (l : List Entry) (os : Places) → Valid l → Placed n l os →
-    (listOf (render l os n) ≡ l) × (placesOf (render l os n) ≡ os)
-round-trip n l os v p =
-    let S : Prescribed n l os (render l os n) = record { valid = v; placed = p; words-are = refl } in
-    (decode-list S, decode-places S)
-
 -- A WELL-FORMED POOL
 module _ {ws : List ℕ} (s : WellFormed ws) where
   pub prescribed : Prescribed (s .n) (s .list) (s .places) ws
@@ -101,9 +93,6 @@ module _ {ws : List ℕ} (s : WellFormed ws) where
 
   pub well-formed-list : listOf ws ≡ s .list
   well-formed-list = decode-list prescribed
-
-  pub well-formed-places : placesOf ws ≡ s .places
-  well-formed-places = decode-places prescribed
 
   pub well-formed-sized : Sized (s .n) ws
   well-formed-sized = record {

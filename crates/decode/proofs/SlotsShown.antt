@@ -16,7 +16,7 @@ use native.Mathlib.Nat.{
   le-antisymm,
   le-of-eq,
 }
-use lib.Dec.{eqb, ltb, T, lit<}
+use lib.Dec.{eqb, ltb, lit<}
 use lib.Pow.{pow-pos, pow-mono, pow-lt}
 use borrow.Author.Tests.{eqb-true, eqb-false, eq-eqb, ne-eqb, ltb-true, ltb-false, lt-ltb, le-leb, lt-leb}
 use Rattle.blocks.proofs.BoolLaws.{byT}

@@ -28,8 +28,8 @@ use Rattle.erase.specs.Tall.{tallAt, Tall}
 use Rattle.erase.specs.Leaving.{Unmarked}
 use Rattle.erase.proofs.LowerLaws.{tall-none, slot-nil}
 use Rattle.tree.proofs.NodeListLaws.{has-tier}
-use Rattle.freemap.specs.FreeMap.{FreeMap}
-use Rattle.freemap.proofs.FollowLaws.{free-same}
+use Rattle.freenodes.specs.FreeNodes.{FreeMap}
+use Rattle.freenodes.proofs.FollowLaws.{free-same}
 use Rattle.layout.proofs.RenderWordLaws.{pool-length, pool-anchor, pool-node, place-of}
 use Rattle.model.proofs.WordLaws.{reserved-bare}
 

@@ -17,13 +17,16 @@ use Rattle.tree.specs.Tree.{slots, Node}
 use Rattle.layout.specs.Words.{poolWords, nodeEnd, headWord, countWord, fieldAt, shiftField, shiftPlace, ownerPlace, filledPlace, lastPlace, slotPlace}
 use Rattle.layout.specs.Places.{render}
 use Rattle.layout.specs.WellFormed.{WellFormed, num}
-use Rattle.layout.specs.Fill.{filled, cleared}
-use Rattle.layout.proofs.FillLaws.{filled-before, filled-after, filled-in, length-cleared, cleared-before, cleared-after, cleared-in}
+use Rattle.layout.specs.Fill.{cleared}
+use Rattle.words.specs.Fill.{filled}
+use Rattle.layout.proofs.FillLaws.{length-cleared, cleared-before, cleared-after, cleared-in}
+use Rattle.words.proofs.FillLaws.{filled-before, filled-after, filled-in}
 use Rattle.layout.proofs.FieldLaws.{at-shift}
 use Rattle.marks.proofs.RemarkLaws.{formed-remark}
-use Rattle.freemap.specs.FreeMap.{freeIn, put, MapOf, FreeMap}
+use Rattle.freemap.specs.FreeMap.{put, MapOf}
+use Rattle.freenodes.specs.FreeNodes.{freeIn, FreeMap}
 use Rattle.freemap.proofs.MapLaws.{map-as}
-use Rattle.freemap.proofs.FollowLaws.{free-same, free-given}
+use Rattle.freenodes.proofs.FollowLaws.{free-same, free-given}
 use Rattle.erase.specs.Freed.{Gone, Outside, Freed, Raised, Unlinked, Sheds}
 use Rattle.layout.proofs.RenderWordLaws.{pool-anchor, pool-node}
 

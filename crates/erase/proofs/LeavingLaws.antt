@@ -82,12 +82,6 @@ by-tells o f (inl z) a b = a z
 by-tells o f (inr z) a b = b z
 
 module _ (l : List Entry) (val : Valid l) (i : ℕ) (e : Entry) (q : covering l i ≡ some e) (lone : e .marks ≡ 0) where
-  abbrev l′ : List Entry
-  l′ = erase l i
-
-  K : ℕ
-  K = e .order
-
   is-clear : erase l i ≡ clear l i (e .order)
   is-clear = erase-clear i val q
 
@@ -245,12 +239,6 @@ module _ (l : List Entry) (val : Valid l) (i : ℕ) (e : Entry) (q : covering l 
 
 -- THE WAY UP
 module _ {ws₀ : List ℕ} (s : WellFormed ws₀) {i v n : ℕ} {ws : List ℕ} (c : Cut s i v n ws) where
-  abbrev L : List Entry
-  L = s .list
-
-  abbrev L′ : List Entry
-  L′ = erase (s .list) i
-
   abbrev N : Numbering
   N = num s
 
@@ -600,9 +588,6 @@ module _ {ws₀ : List ℕ} (s : WellFormed ws₀) {i v n : ℕ} {ws : List ℕ}
 -- THE RUN SET TO 0
 module _ {ws₀ : List ℕ} (s : WellFormed ws₀) {i v n o : ℕ} (h : Holds (s .list) (num s) i n v o)
     (un : Unmarked (s .list) i) where
-  E₀ : Entry
-  E₀ = h .entry
-
   bare₀ : h .entry .marks ≡ 0
   bare₀ = un (h .entry) (h .covering-is)
 

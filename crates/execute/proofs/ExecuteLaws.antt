@@ -38,7 +38,9 @@ use Rattle.batch.specs.declared.Command.{Command}
 use Rattle.batch.specs.declared.Command.the-variants.{Store, Load, Erase, Mark, Unmark, Find, Reserve}
 use Rattle.batch.specs.Reply.{replyTag}
 use Rattle.batch.specs.Fits.{Fits}
-use Rattle.execute.specs.Execute.{execute, short, refuse, replyOf, tooFewNodes, reserving, isTaken}
+use Rattle.execute.specs.Execute.{execute, short, tree}
+use Rattle.commands.specs.Commands.{refuse, replyOf, reserving}
+use Rattle.answers.specs.Answers.{tooFewNodes, isCovered}
 use Rattle.execute.specs.State.{State, Kept, next, states}
 use Rattle.tree.proofs.ReadLaws.{over-none}
 
@@ -113,7 +115,7 @@ module _ (n : ℕ) (l : List Entry) (v : Valid l) where
         enough = ltb-false _ _ d;
       })))))
 
-  reserved-keeps : (i : ℕ) → i < 2 ^ 64 → (o : Option Entry) → covering l i ≡ o → Keeps n l (reserving n 135 l i o .list)
+  reserved-keeps : (i : ℕ) → i < 2 ^ 64 → (o : Option Entry) → covering l i ≡ o → Keeps n l (reserving (tree n) 135 l i o .list)
   reserved-keeps i i< (some e) q = stays n v
   reserved-keeps i i< none q =
       byT (short n l (store l i 0 reservedWord)) (λ d. rw d (stays n v))
@@ -166,7 +168,7 @@ module _ (n : ℕ) (l : List Entry) (i k w : ℕ) (k≤ : k ≤ maxOrder) (al : 
 
 -- A RESERVATION: 15 where the index is covered, else exactly as a store
 module _ (n : ℕ) (l : List Entry) (i : ℕ) where
-  pub taken-15 : {e : Entry} → covering l i ≡ some e → execute n l (Reserve i) ≡ refuse l 135 isTaken
+  pub taken-15 : {e : Entry} → covering l i ≡ some e → execute n l (Reserve i) ≡ refuse l 135 isCovered
   unfolding execute
   taken-15 q = rw q
 

@@ -1,9 +1,9 @@
+pub mod EngineLaws
 pub mod ExecuteLaws
 pub mod ReplyLaws
 pub mod LocalLaws
 pub mod PartLaws
 pub mod Footprint
-pub mod BudgetLaws
 pub mod TableLaws
 pub mod ReplyFits
 pub mod Literals

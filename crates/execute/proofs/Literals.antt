@@ -1,16 +1,14 @@
 -- The part of the pool that a command may write (R39, R40), word by word in numbers: a wider one is not this one.
-use Prim.Native.Nat.{ℕ}
 use mathlib.Core.Path.{_≡_, refl}
-use mathlib.Core.List.{List, [], _∷_, _++_, map}
+use mathlib.Core.List.{[], _∷_, _++_, map}
 use mathlib.Core.Option.{none}
 use lib.ListN.{replicate}
 use Rattle.blocks.specs.Lists.{upTo}
 use Rattle.tree.specs.Tree.{tall, has, slotMark}
 use Rattle.tree.specs.Slots.{slot}
-use Rattle.batch.specs.declared.Command.{Command}
 use Rattle.batch.specs.declared.Command.the-variants.{Store, Load, Erase, Mark}
 use Rattle.execute.specs.Execute.{execute}
-use Rattle.execute.specs.State.{State, states}
+use Rattle.execute.specs.State.{states}
 use Rattle.execute.specs.Part.{partOf}
 
 -- case 3 in a pool of 5 nodes: the head is node 0, node 1 is over 0 to 63, node 2 over 64 to 127, the others are free. The words

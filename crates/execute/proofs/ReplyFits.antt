@@ -25,7 +25,8 @@ use Rattle.batch.specs.declared.Command.{Command}
 use Rattle.batch.specs.declared.Command.the-variants.{Store, Load, Erase, Mark, Unmark, Find, Reserve}
 use Rattle.batch.specs.Reply.{answered, answeredBy}
 use Rattle.batch.specs.Fits.{Fits}
-use Rattle.execute.specs.Execute.{execute, replyOf, finding, short, reserving}
+use Rattle.execute.specs.Execute.{execute, finding, short, tree}
+use Rattle.commands.specs.Commands.{replyOf, reserving}
 use Rattle.execute.specs.Widths.{FitsReply}
 use Rattle.execute.proofs.ExecuteLaws.{execute-keeps}
 
@@ -141,8 +142,8 @@ module _ (n : ℕ) (l : List Entry) (v : Valid l) where
   unfolding execute
   reserve-fits i i< = go (covering l i) refl (execute-keeps n l v (Reserve i) i< .valid)
     where
-      go : (o : Option Entry) → covering l i ≡ o → Valid (reserving n 135 l i (covering l i) .list) →
-          FitsReply (reserving n 135 l i (covering l i) .reply)
+      go : (o : Option Entry) → covering l i ≡ o → Valid (reserving (tree n) 135 l i (covering l i) .list) →
+          FitsReply (reserving (tree n) 135 l i (covering l i) .reply)
       go (some e) q u = rw q (bare 135 15 (omega arith) (omega arith))
       go none q u =
           byT (short n l (store l i 0 reservedWord)) (λ d. rw (q, d) (bare 135 11 (omega arith) (omega arith)))

@@ -12,22 +12,7 @@ use borrow.Author.Tests.{leb-true, leb-false, lt-ltb, le-ltb, le-leb, lt-leb, eq
 use Rattle.blocks.specs.Choice.{pick, either}
 use Rattle.blocks.proofs.BoolLaws.{byT, clash, is-false, either-e}
 use Rattle.model.specs.declared.Entry.{Entry}
-use Rattle.model.specs.Model.{
-  covering,
-  present,
-  covered,
-  storable,
-  enterable,
-  reserved,
-  reservedWord,
-  maxOrder,
-  aligned,
-  store,
-  erase,
-  remark,
-  markCount,
-  matchedMark,
-}
+use Rattle.model.specs.Model.{covering, present, covered, storable, enterable, reservedWord, maxOrder, aligned, store, erase, remark, markCount, matchedMark}
 use Rattle.model.specs.ByBlock as B
 use Rattle.model.proofs.AlignedLaws.{store-is}
 use Rattle.model.proofs.ValidLaws.{storable-enters}
@@ -35,7 +20,7 @@ use Rattle.tree.specs.Tree.{nodes, needed}
 use Rattle.marks.proofs.RemarkLaws.{new-nodes-remark, places-remark, places-then-remark}
 use Rattle.layout.specs.Places.{Places, newPlaces, prune, freeCount, render}
 use Rattle.layout.specs.WellFormed.{WellFormed}
-use Rattle.freemap.specs.FreeMap.{FreeMap}
+use Rattle.freenodes.specs.FreeNodes.{FreeMap}
 use Rattle.layout.proofs.PlacesLaws.{free-places}
 use Rattle.layout.proofs.StayLaws.{same-places, places-prune}
 use Rattle.lookup.specs.Load.{load, loaded, depth}
@@ -44,43 +29,18 @@ use Rattle.store.specs.declared.Stored.{Stored}
 use Rattle.store.specs.declared.Stored.the-variants.{Done, Short, Taken}
 use Rattle.store.specs.Stored.{Holding, Stores, Reserves, taken, tried}
 use Rattle.store.proofs.AfterLaws.{after-done}
-use Rattle.freemap.proofs.FollowLaws.{map-stays}
+use Rattle.freenodes.proofs.FollowLaws.{map-stays}
 use Rattle.erase.proofs.FreedLaws.{map-remark}
 use Rattle.batch.specs.declared.Command.{Command}
 use Rattle.batch.specs.declared.Command.the-variants.{Store, Load, Erase, Mark, Unmark, Find, Reserve}
 use Rattle.batch.specs.declared.Reply.{Reply}
 use Rattle.batch.specs.Reply.{answered}
-use Rattle.execute.specs.Execute.{
-  Executed,
-  execute,
-  leave,
-  refuse,
-  replyOf,
-  finding,
-  marking,
-  orderAbove,
-  notStorable,
-  notAligned,
-  markAbove,
-  firstAbove,
-  noBudget,
-  tooFewNodes,
-}
+use Rattle.execute.specs.Execute.{execute, finding}
+use Rattle.commands.specs.Commands.{Executed, leave, refuse, replyOf, marking}
+use Rattle.answers.specs.Answers.{badOrder, badEntry, notAligned, badMark, firstAboveLast, noBudget, tooFewNodes}
 use Rattle.execute.proofs.ExecuteLaws.{index-aligned, erase-new, short-11, enough-0, taken-15, reserve-11, reserve-0}
-use Rattle.execute.specs.Contracts.{
-  coveredReply,
-  loadedReply,
-  reservedReply,
-  putting,
-  Put,
-  putOf,
-  remarking,
-  replyTo,
-  wordsTo,
-  asStored,
-  Settles,
-  Executes,
-}
+use Rattle.execute.specs.Contracts.{loadedReply, reservedReply, putting, Put, putOf, remarking, replyTo, wordsTo, asStored, Settles, Executes}
+use Rattle.commands.specs.Replies.{coveredReply}
 
 -- REPLIES
 pub loaded-is : (t d : ℕ) (o : Option Entry) → loadedReply t (loaded d o) ≡ replyOf t d o
@@ -97,11 +57,11 @@ module _ (n : ℕ) (l : List Entry) where
   load-runs i = ap (leave l) (sym (loaded-is 130 (depth l i) (present (covering l i))))
 
   module _ (a z f k : ℕ) where
-    pub find-mark : anyMark < f → execute n l (Find a z f k) ≡ refuse l 134 markAbove
+    pub find-mark : anyMark < f → execute n l (Find a z f k) ≡ refuse l 134 badMark
     unfolding execute
     find-mark h = rw (lt-ltb anyMark f h)
 
-    pub find-first : f ≤ anyMark → z < a → execute n l (Find a z f k) ≡ refuse l 134 firstAbove
+    pub find-first : f ≤ anyMark → z < a → execute n l (Find a z f k) ≡ refuse l 134 firstAboveLast
     unfolding execute
     find-first h g = rw (le-ltb anyMark f h, lt-ltb z a g)
 
@@ -116,7 +76,7 @@ module _ (n : ℕ) (l : List Entry) where
 
   module _ (i m : ℕ) where
     pub remark-above : (on : Bool) → markCount ≤ m →
-        execute n l (remarking i m on) ≡ refuse l (pick on 132 133) markAbove
+        execute n l (remarking i m on) ≡ refuse l (pick on 132 133) badMark
     unfolding execute
     remark-above true h = rw (le-leb markCount m h)
     remark-above false h = rw (le-leb markCount m h)
@@ -193,7 +153,7 @@ erases s i r w = record {
 
 -- A STORE
 module _ (n : ℕ) (l : List Entry) (i k w : ℕ) where
-  pub store-order : maxOrder < k → execute n l (Store i k w) ≡ refuse l 129 orderAbove
+  pub store-order : maxOrder < k → execute n l (Store i k w) ≡ refuse l 129 badOrder
   unfolding execute
   store-order h = rw (lt-ltb maxOrder k h)
 
@@ -202,7 +162,7 @@ module _ (n : ℕ) (l : List Entry) (i k w : ℕ) where
   store-index h a = rw (le-ltb maxOrder k h, a)
 
   pub store-word : k ≤ maxOrder → aligned k i ≡ true → storable w ≡ false →
-      execute n l (Store i k w) ≡ refuse l 129 notStorable
+      execute n l (Store i k w) ≡ refuse l 129 badEntry
   unfolding execute
   store-word h a e = rw (le-ltb maxOrder k h, a, e)
 

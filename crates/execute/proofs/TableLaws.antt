@@ -43,7 +43,8 @@ use Rattle.lookup.specs.Load.{depth}
 use Rattle.lookup.specs.Find.{anyMark, find}
 use Rattle.batch.specs.declared.Command.{Command}
 use Rattle.batch.specs.declared.Command.the-variants.{Store, Load, Erase, Mark, Unmark, Find, Reserve}
-use Rattle.execute.specs.Execute.{Executed, execute, leave, replyOf, finding, marking, short}
+use Rattle.execute.specs.Execute.{execute, finding, short}
+use Rattle.commands.specs.Commands.{Executed, leave, replyOf, marking}
 use Rattle.batch.specs.declared.Reply.{Reply}
 use Rattle.batch.specs.Reply.{answered}
 use Rattle.execute.specs.Table.{CommandRow}
@@ -73,7 +74,7 @@ use Rattle.execute.specs.Table.CommandRow.{
   find-12,
   find-13,
 }
-use Rattle.execute.proofs.BudgetLaws.{Comes, matched, ended, paused, comes, matched-is, ended-is}
+use Rattle.lookup.proofs.BudgetLaws.{Comes, matched, ended, paused, comes, matched-is, ended-is}
 use Rattle.execute.proofs.ExecuteLaws.{short-11, enough-0, taken-15, index-aligned}
 use Rattle.execute.proofs.ExecuteLaws as X
 use Rattle.execute.proofs.ReplyLaws.{

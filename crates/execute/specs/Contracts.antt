@@ -5,8 +5,6 @@ use mathlib.Core.Bool.{Bool, true, false}
 use mathlib.Core.List.{List}
 use mathlib.Core.Option.{some}
 use Rattle.model.specs.declared.Entry.{Entry}
-use Rattle.model.specs.declared.Covered.{Covered}
-use Rattle.model.specs.declared.Covered.the-variants.{Nothing, By}
 use Rattle.model.specs.Model.{reservedWord, matchedMark, covering, covered, remark}
 use Rattle.layout.specs.Places.{render}
 use Rattle.layout.specs.WellFormed.{WellFormed}
@@ -16,16 +14,13 @@ use Rattle.batch.specs.declared.Command.{Command}
 use Rattle.batch.specs.declared.Command.the-variants.{Store, Load, Erase, Mark, Unmark, Find, Reserve}
 use Rattle.batch.specs.declared.Reply.{Reply}
 use Rattle.batch.specs.Reply.{answered, answeredBy}
+use Rattle.commands.specs.Replies.{coveredReply}
 use Rattle.store.specs.declared.Stored.{Stored}
 use Rattle.store.specs.declared.Stored.the-variants.{Done, Short, Taken}
 pub use Rattle.execute.specs.declared.Put.{Put}
-use Rattle.execute.specs.Execute.{absent, tooFewNodes, isTaken, execute}
+use Rattle.execute.specs.Execute.{execute}
+use Rattle.answers.specs.Answers.{absent, tooFewNodes, isCovered}
 use Rattle.execute.specs.State.{State, next}
-
--- the reply by what covers the index
-abbrev pub coveredReply : ℕ → Covered → Reply
-coveredReply t Nothing = answered t absent 0 0
-coveredReply t (By e) = answeredBy t e 0
 
 -- the reply by what a load finds
 abbrev pub loadedReply : ℕ → Loaded → Reply
@@ -36,7 +31,7 @@ loadedReply t (Present e d) = answeredBy t e d
 abbrev pub reservedReply : Stored → Reply
 reservedReply (Done e) = answeredBy 135 e 0
 reservedReply Short = answered 135 tooFewNodes 0 0
-reservedReply Taken = answered 135 isTaken 0 0
+reservedReply Taken = answered 135 isCovered 0 0
 
 -- a store, or a reservation
 abbrev pub putting : (i k w : ℕ) → Bool → Command

@@ -1,7 +1,7 @@
 -- The table of answers that stand in a reply (R73 to R81, R181, R205): what a command comes to, a row for every answer of every
 -- command. A row has its condition and the failure of those tested before it, so no two rows of a command hold at once.
--- Tags and answers stand in it as numbers, so that it holds `Execute` to them.
-use Prim.Native.Nat.{ℕ, _+_, _*_, _-_, _≤_, _<_}
+-- Tags and answers stand in it as numbers, so that it holds `Commands` and `Execute` to them.
+use Prim.Native.Nat.{ℕ, _-_, _≤_, _<_}
 use mathlib.Core.Path.{_≡_}
 use mathlib.Core.Logic.{_≢_}
 use mathlib.Core.Bool.{true, false}
@@ -22,29 +22,14 @@ use Rattle.model.specs.Model.{
   withMark,
   remark,
 }
-use Rattle.tree.specs.Tree.{slots, nodes, needed}
-use Rattle.lookup.specs.declared.Outcome.the-variants.{Paused}
+use Rattle.tree.specs.Tree.{nodes, needed}
 use Rattle.lookup.specs.Load.{depth}
-use Rattle.lookup.specs.Find.{anyMark, find, firstMatch}
-use Rattle.lookup.specs.Steps.{steps}
+use Rattle.lookup.specs.Find.{anyMark, firstMatch}
+use Rattle.lookup.specs.Steps.{stepsIn, PausesAt}
 use Rattle.batch.specs.declared.Command.{Command}
 use Rattle.batch.specs.declared.Command.the-variants.{Store, Load, Erase, Mark, Unmark, Find, Reserve}
 use Rattle.batch.specs.Reply.{answered, answeredBy}
-use Rattle.execute.specs.Execute.{Executed, leave, refuse}
-
--- R66: the budget that no find uses up, and the steps that a find takes with it: to its match, or to its end
-abbrev pub enough : List Entry → ℕ
-enough l = slots * length (nodes l) + 2
-
-abbrev pub stepsIn : List Entry → (first last filter : ℕ) → ℕ
-stepsIn l a z f = steps (find l a z f (enough l))
-
--- R65: where a find with budget k pauses. No entry matches that meets first .. y, for any y before that place
-pub record PausesAt (l : List Entry) (a z f k p : ℕ) : Type 0 where
-  pub by-steps : find l a z f k ≡ Paused p k
-  pub from-first : a ≤ p
-  pub to-last : p ≤ z
-  pub passed : (y : ℕ) → a ≤ y → y < p → firstMatch l a y f ≡ none
+use Rattle.commands.specs.Commands.{Executed, leave, refuse}
 
 -- n: the nodes of the pool; l: the list before the command
 pub data CommandRow (n : ℕ) (l : List Entry) : Command → Executed → Type 0 where

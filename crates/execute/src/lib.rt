@@ -1,66 +1,49 @@
 // One command of a batch on a pool: its reply, and the pool's words after it.
 //
 // pool: the borrowed words, well-formed; map: the map of its free nodes; tag: the reply's.
+use answers::ABSENT;
+use answers::BAD_ENTRY;
+use answers::BAD_MARK;
+use answers::BAD_ORDER;
+use answers::COVERED;
+use answers::ENDED;
+use answers::FIRST_ABOVE_LAST;
+use answers::NO_BUDGET;
+use answers::NOT_ALIGNED;
+use answers::PAUSED;
+use answers::TOO_FEW_NODES;
 use batch::Command;
 use batch::Reply;
-use layout::pow2;
+use commands::ERASE_REPLY;
+use commands::FIND_REPLY;
+use commands::LOAD_REPLY;
+use commands::MARK_REPLY;
+use commands::RESERVE_REPLY;
+use commands::STORE_REPLY;
+use commands::UNMARK_REPLY;
+use commands::answered;
+use commands::answered_by;
+use commands::covered_reply;
+use commands::is_aligned;
+use commands::is_enterable;
 use lookup::Loaded;
 use lookup::Outcome;
-use model::Covered;
 use model::Entry;
-use model::shown_word;
 use store::Stored;
 ghost use mathlib.Core.Path.{_≡_};
 ghost use mathlib.Core.Bool.{true, false};
 ghost use mathlib.Core.List.{List};
 ghost use mathlib.Core.Option.{some};
-ghost use Prim.Native.Nat.{ℕ, _≤_};
-ghost use Rattle.blocks.specs.Choice.{pick, either};
-ghost use Rattle.model.specs.Model.{storable, reservedWord, maxOrder, aligned, matchedMark, covering, covered, remark};
+ghost use Prim.Native.Nat.{ℕ};
+ghost use Rattle.blocks.specs.Choice.{pick};
+ghost use Rattle.model.specs.Model.{reservedWord, matchedMark, covering, covered, remark};
 ghost use Rattle.layout.specs.Places.{render};
 ghost use Rattle.layout.specs.WellFormed.{WellFormed};
-ghost use Rattle.freemap.specs.FreeMap.{FreeMap};
-ghost use Rattle.batch.specs.Reply.{answered, answeredBy};
+ghost use Rattle.freenodes.specs.FreeNodes.{FreeMap};
 ghost use Rattle.execute.specs.Execute.{finding};
-ghost use Rattle.execute.specs.Contracts.{coveredReply, loadedReply, reservedReply, asStored, putting, putOf, noPut};
+ghost use Rattle.commands.specs.Replies.{coveredReply};
+ghost use Rattle.execute.specs.Contracts.{loadedReply, reservedReply, asStored, putting, putOf, noPut};
 ghost use Rattle.execute.specs.Contracts.{remarking, replyTo, Settles, Executes};
-
-// The answers that stand in a reply, and the reply's tags.
-const ORDER_ABOVE: u64 = 5;
-
-const NOT_STORABLE: u64 = 6;
-
-const MARK_ABOVE: u64 = 7;
-
-const FIRST_ABOVE: u64 = 8;
-
-const NO_BUDGET: u64 = 9;
-
-const ABSENT: u64 = 10;
-
-const TOO_FEW_NODES: u64 = 11;
-
-const FIND_ENDED: u64 = 12;
-
-const FIND_PAUSED: u64 = 13;
-
-const NOT_ALIGNED: u64 = 14;
-
-const TAKEN: u64 = 15;
-
-const STORED: u64 = 129;
-
-const LOADED: u64 = 130;
-
-const ERASED: u64 = 131;
-
-const MARKED: u64 = 132;
-
-const UNMARKED: u64 = 133;
-
-const FOUND: u64 = 134;
-
-const RESERVED: u64 = 135;
 
 // The highest order of an entry, the number of marks, and the filter that takes any entry.
 const MAX_ORDER: u64 = 63;
@@ -81,52 +64,12 @@ struct Put {
     reserve: bool,
 }
 
-// An answer with an index and a count, all else 0.
-fn answered(tag: u64, answer: u64, index: u64, count: u64) -> Reply
-    ensures { λ r. ⌜ r ≡ answered tag answer index count ⌝ }
-{
-    Reply {
-        tag,
-        answer,
-        index,
-        order: 0,
-        word: 0,
-        marks: 0,
-        count,
-    }
-}
-
-// Done, with an entry or a reservation and a count.
-fn answered_by(tag: u64, e: Entry, count: u64) -> Reply
-    ensures { λ r. ⌜ r ≡ answeredBy tag e count ⌝ }
-{
-    let word = shown_word(e);
-    Reply {
-        tag,
-        answer: 0,
-        index: e.base,
-        order: e.order,
-        word,
-        marks: e.marks,
-        count,
-    }
-}
-
-fn covered_reply(tag: u64, c: Covered) -> Reply
-    ensures { λ r. ⌜ r ≡ coveredReply tag c ⌝ }
-{
-    match c {
-        Covered::Nothing => answered(tag, ABSENT, 0, 0),
-        Covered::By(e) => answered_by(tag, e, 0),
-    }
-}
-
 fn loaded_reply(x: Loaded) -> Reply
     ensures { λ r. ⌜ r ≡ loadedReply 130 x ⌝ }
 {
     match x {
-        Loaded::Absent(d) => answered(LOADED, ABSENT, 0, d),
-        Loaded::Present(e, d) => answered_by(LOADED, e, d),
+        Loaded::Absent(d) => answered(LOAD_REPLY, ABSENT, 0, d),
+        Loaded::Present(e, d) => answered_by(LOAD_REPLY, e, d),
     }
 }
 
@@ -134,9 +77,9 @@ fn found_reply(x: Outcome) -> Reply
     ensures { λ r. ⌜ r ≡ finding 134 x ⌝ }
 {
     match x {
-        Outcome::Found(e, n) => answered_by(FOUND, e, n),
-        Outcome::Ended(n) => answered(FOUND, FIND_ENDED, 0, n),
-        Outcome::Paused(p, n) => answered(FOUND, FIND_PAUSED, p, n),
+        Outcome::Found(e, n) => answered_by(FIND_REPLY, e, n),
+        Outcome::Ended(n) => answered(FIND_REPLY, ENDED, 0, n),
+        Outcome::Paused(p, n) => answered(FIND_REPLY, PAUSED, p, n),
     }
 }
 
@@ -145,38 +88,10 @@ fn reserved_reply(x: Stored) -> Reply
     ensures { λ r. ⌜ r ≡ reservedReply x ⌝ }
 {
     match x {
-        Stored::Done(e) => answered_by(RESERVED, e, 0),
-        Stored::Short => answered(RESERVED, TOO_FEW_NODES, 0, 0),
-        Stored::Taken => answered(RESERVED, TAKEN, 0, 0),
+        Stored::Done(e) => answered_by(RESERVE_REPLY, e, 0),
+        Stored::Short => answered(RESERVE_REPLY, TOO_FEW_NODES, 0, 0),
+        Stored::Taken => answered(RESERVE_REPLY, COVERED, 0, 0),
     }
-}
-
-// An entry's word (R6).
-fn is_storable(word: u64) -> bool
-    ensures { λ r. ⌜ r ≡ storable word ⌝ }
-{
-    if word == 0 {
-        return false;
-    }
-    word / 4 * 4 + 2 != word
-}
-
-// A store's word, or that of a reservation.
-fn is_enterable(word: u64, reserve: bool) -> bool
-    ensures { λ r. ⌜ r ≡ either reserve (storable word) ⌝ }
-{
-    if reserve {
-        return true;
-    }
-    is_storable(word)
-}
-
-// A store's index is a multiple of 2^order (R180).
-fn is_aligned(index: u64, order: u64) -> bool
-    requires { ⌜ order ≤ maxOrder ⌝ }
-    ensures { λ r. ⌜ r ≡ aligned order index ⌝ }
-{
-    index % pow2(order) == 0
 }
 
 fn run_load(pool: &[u64], index: u64) -> Reply
@@ -191,13 +106,13 @@ fn run_find(pool: &[u64], first: u64, last: u64, filter: u64, budget: u64) -> Re
     ensures { λ r. ⌜ ((s : WellFormed (now (pool .entry))) → r ≡ replyTo s (Command.Find first last filter budget)) ⌝ }
 {
     if filter > ANY_MARK {
-        return answered(FOUND, MARK_ABOVE, 0, 0);
+        return answered(FIND_REPLY, BAD_MARK, 0, 0);
     }
     if first > last {
-        return answered(FOUND, FIRST_ABOVE, 0, 0);
+        return answered(FIND_REPLY, FIRST_ABOVE_LAST, 0, 0);
     }
     if budget == 0 {
-        return answered(FOUND, NO_BUDGET, 0, 0);
+        return answered(FIND_REPLY, NO_BUDGET, 0, 0);
     }
     found_reply(lookup::find(pool, first, last, filter, budget))
 }
@@ -206,7 +121,7 @@ fn run_find(pool: &[u64], first: u64, last: u64, filter: u64, budget: u64) -> Re
 fn remarked_tag(on: bool) -> u64
     ensures { λ r. ⌜ r ≡ pick on 132 133 ⌝ }
 {
-    if on { MARKED } else { UNMARKED }
+    if on { MARK_REPLY } else { UNMARK_REPLY }
 }
 
 // A mark where the bit is on, an unmark where it is off.
@@ -217,7 +132,7 @@ fn run_remark(pool: &mut [u64], index: u64, mark: u64, on: bool) -> Reply
 {
     let tag = remarked_tag(on);
     if mark >= MARKS {
-        return answered(tag, MARK_ABOVE, 0, 0);
+        return answered(tag, BAD_MARK, 0, 0);
     }
     let c = marks::set_mark(pool, index, mark, on);
     covered_reply(tag, c)
@@ -230,7 +145,7 @@ fn run_erase(pool: &mut [u64], map: &mut [u64], index: u64) -> Reply
     ensures { λ _. ⌜ FreeMap (now (pool .exit)) (now (map .exit)) ⌝ }
 {
     let c = erase::erase(pool, map, index);
-    covered_reply(ERASED, c)
+    covered_reply(ERASE_REPLY, c)
 }
 
 // The reply to an unmark as the reply to a store that left the entry.
@@ -238,7 +153,7 @@ fn as_stored(r: Reply) -> Reply
     ensures { λ x. ⌜ x ≡ asStored r ⌝ }
 {
     Reply {
-        tag: STORED,
+        tag: STORE_REPLY,
         answer: r.answer,
         index: r.index,
         order: r.order,
@@ -261,7 +176,7 @@ fn unmatch(pool: &mut [u64], index: u64, e: Entry) -> Reply
         let r = run_remark(pool, index, MATCHED, false);
         return as_stored(r);
     }
-    answered_by(STORED, e, 0)
+    answered_by(STORE_REPLY, e, 0)
 }
 
 // The reply to a store by what it came to; only a reservation comes to the last.
@@ -271,8 +186,8 @@ fn stored_reply(pool: &mut [u64], index: u64, x: Stored) -> Reply
 {
     match x {
         Stored::Done(e) => unmatch(pool, index, e),
-        Stored::Short => answered(STORED, TOO_FEW_NODES, 0, 0),
-        Stored::Taken => answered(STORED, TOO_FEW_NODES, 0, 0),
+        Stored::Short => answered(STORE_REPLY, TOO_FEW_NODES, 0, 0),
+        Stored::Taken => answered(STORE_REPLY, TOO_FEW_NODES, 0, 0),
     }
 }
 
@@ -306,15 +221,15 @@ fn run_store(
     ensures { λ _. ⌜ FreeMap (now (pool .exit)) (now (map .exit)) ⌝ }
 {
     if order > MAX_ORDER {
-        return answered(STORED, ORDER_ABOVE, 0, 0);
+        return answered(STORE_REPLY, BAD_ORDER, 0, 0);
     }
     let aligned = is_aligned(index, order);
     let enterable = is_enterable(word, reserve);
     if !aligned {
-        return answered(STORED, NOT_ALIGNED, 0, 0);
+        return answered(STORE_REPLY, NOT_ALIGNED, 0, 0);
     }
     if !enterable {
-        return answered(STORED, NOT_STORABLE, 0, 0);
+        return answered(STORE_REPLY, BAD_ENTRY, 0, 0);
     }
     let outcome = store::store(pool, map, index, order, word);
     put_reply(pool, index, outcome, reserve)
@@ -367,7 +282,7 @@ fn as_put(c: Command) -> Put
 
 // For the commands that run_other is not called with.
 fn nothing() -> Reply {
-    answered(STORED, ORDER_ABOVE, 0, 0)
+    answered(STORE_REPLY, BAD_ORDER, 0, 0)
 }
 
 // Any command but a store and a reservation.

@@ -2,4 +2,4 @@ pub mod BitOneLaws
 pub mod CountLaws
 pub mod FlipLaws
 pub mod MapLaws
-pub mod FollowLaws
+pub mod DrawLaws

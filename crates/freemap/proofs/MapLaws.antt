@@ -7,14 +7,12 @@ use native.Mathlib.Omega.{arith}
 use lib.Dec.{eqb, ltb}
 use lib.ListN.{length, getD, set, replicate, length-set, length-replicate}
 use lib.Seq.{getD-set-same, getD-set-other}
-use borrow.Author.Tests.{eqb-true, eqb-false, eq-eqb, ne-eqb, ltb-true, ltb-false, lt-ltb, le-ltb}
-use Rattle.blocks.specs.Choice.{both}
+use borrow.Author.Tests.{eqb-true, eqb-false, eq-eqb, ne-eqb, ltb-true, ltb-false}
 use Rattle.blocks.specs.Blocks.{bit, NextBit}
-use Rattle.blocks.proofs.BoolLaws.{byT, iff}
-use Rattle.tree.specs.Tree.{slots}
-use Rattle.layout.specs.Words.{shiftPlace}
-use Rattle.freemap.specs.FreeMap.{mapNodes, mapTop, mapCount, mapWords, mapBit, oneIf, oneOver, freeTo, freeIn, put}
-use Rattle.freemap.specs.FreeMap.{BlankMap, MapOf, Sound, FreeMap, Lowest, Flips, Topped}
+use Rattle.blocks.proofs.BoolLaws.{byT}
+use Rattle.words.specs.Bits.{wordBits}
+use Rattle.freemap.specs.FreeMap.{mapNodes, mapTop, mapCount, mapWords, mapBit, oneIf, oneOver, put}
+use Rattle.freemap.specs.FreeMap.{BlankMap, MapOf, Lowest, Flips, Topped}
 use Rattle.freemap.proofs.BitOneLaws.{bit-zero, bits-zero}
 use Rattle.freemap.proofs.CountLaws.{count-none, count-same, count-put, count-le}
 
@@ -34,8 +32,8 @@ over-denies : (w : ℕ) → oneOver w ≡ 0 → w ≡ 0
 over-denies w e = byT (eqb w 0) (eqb-true _ _) (λ t. let q : oneOver w ≡ 1 = rw t in absurd (omega arith))
 
 -- a word with a set bit is not 0
-word-not-zero : (ms : List ℕ) (x : ℕ) → mapBit ms x ≡ 1 → getD ms (x / slots) 0 ≡ 0 → ⊥
-word-not-zero ms x e z = omega (arith, bit-zero (getD ms (x / slots) 0) (x % slots) z)
+word-not-zero : (ms : List ℕ) (x : ℕ) → mapBit ms x ≡ 1 → getD ms (x / wordBits) 0 ≡ 0 → ⊥
+word-not-zero ms x e z = omega (arith, bit-zero (getD ms (x / wordBits) 0) (x % wordBits) z)
 
 module _ {f : ℕ → Bool} {ms : List ℕ} (M : MapOf f ms) where
   -- tests that agree have the same map
@@ -64,60 +62,60 @@ module _ {f : ℕ → Bool} {ms : List ℕ} (M : MapOf f ms) where
       )))
 
   -- THE LOWEST NODE, by the second level
-  level : (q : ℕ) → q < mapTop → bit (q % slots) (getD ms (mapTop + q / slots) 0) ≡ oneOver (getD ms q 0)
+  level : (q : ℕ) → q < mapTop → bit (q % wordBits) (getD ms (mapTop + q / wordBits) 0) ≡ oneOver (getD ms q 0)
   level q lt =
-      let d : (mapNodes + q) / slots ≡ mapTop + q / slots = omega arith in
-      let e : (mapNodes + q) % slots ≡ q % slots = omega arith in
+      let d : (mapNodes + q) / wordBits ≡ mapTop + q / wordBits = omega arith in
+      let e : (mapNodes + q) % wordBits ≡ q % wordBits = omega arith in
       ap₂ (λ (i j : ℕ). bit i (getD ms j 0)) (sym e) (sym d) ∙ M .tops q lt
 
   -- no bit is set in word q, if the second level's bit is clear
-  word-clear : (q : ℕ) → q < mapTop → bit (q % slots) (getD ms (mapTop + q / slots) 0) ≡ 0 → (x : ℕ) → x / slots ≡ q →
+  word-clear : (q : ℕ) → q < mapTop → bit (q % wordBits) (getD ms (mapTop + q / wordBits) 0) ≡ 0 → (x : ℕ) → x / wordBits ≡ q →
       mapBit ms x ≡ 0
-  word-clear q lt z x e = bit-zero (getD ms (x / slots) 0) (x % slots)
+  word-clear q lt z x e = bit-zero (getD ms (x / wordBits) 0) (x % wordBits)
       (ap (λ (y : ℕ). getD ms y 0) e ∙ over-denies (getD ms q 0) (sym (level q lt) ∙ z))
 
   -- word j of the second level: the words of its clear bits up to t have no bit set
-  clear-words : (j t : ℕ) → mapTop + j < mapCount → NextBit slots (getD ms (mapTop + j) 0) 0 t → (x : ℕ) →
-      slots * j ≤ x / slots → x / slots < slots * j + t → mapBit ms x ≡ 0
+  clear-words : (j t : ℕ) → mapTop + j < mapCount → NextBit wordBits (getD ms (mapTop + j) 0) 0 t → (x : ℕ) →
+      wordBits * j ≤ x / wordBits → x / wordBits < wordBits * j + t → mapBit ms x ≡ 0
   clear-words j t lt nb x a b =
-      let d : x / slots / slots ≡ j = omega (arith, nb .most) in
-      let e : x / slots % slots < t = omega (arith, nb .most) in
-      word-clear (x / slots) (omega (arith, nb .most))
-      (ap (λ (y : ℕ). bit (x / slots % slots) (getD ms (mapTop + y) 0)) d ∙ nb .first (x / slots % slots) (omega arith) e)
+      let d : x / wordBits / wordBits ≡ j = omega (arith, nb .most) in
+      let e : x / wordBits % wordBits < t = omega (arith, nb .most) in
+      word-clear (x / wordBits) (omega (arith, nb .most))
+      (ap (λ (y : ℕ). bit (x / wordBits % wordBits) (getD ms (mapTop + y) 0)) d ∙ nb .first (x / wordBits % wordBits) (omega arith) e)
       x refl
 
-  pub pass-words : (j t : ℕ) → mapTop + j < mapCount → NextBit slots (getD ms (mapTop + j) 0) 0 t → slots ≤ t →
-      ((x : ℕ) → x < slots * (slots * j) → mapBit ms x ≡ 0) → (x : ℕ) → x < slots * (slots * (j + 1)) → mapBit ms x ≡ 0
-  pass-words j t lt nb all before x h = byT (ltb x (slots * (slots * j))) (λ y. before x (ltb-true _ _ y))
-      (λ y. let g : slots * (slots * j) ≤ x = ltb-false _ _ y in
+  pub pass-words : (j t : ℕ) → mapTop + j < mapCount → NextBit wordBits (getD ms (mapTop + j) 0) 0 t → wordBits ≤ t →
+      ((x : ℕ) → x < wordBits * (wordBits * j) → mapBit ms x ≡ 0) → (x : ℕ) → x < wordBits * (wordBits * (j + 1)) → mapBit ms x ≡ 0
+  pass-words j t lt nb all before x h = byT (ltb x (wordBits * (wordBits * j))) (λ y. before x (ltb-true _ _ y))
+      (λ y. let g : wordBits * (wordBits * j) ≤ x = ltb-false _ _ y in
       clear-words j t lt nb x (omega arith) (omega arith))
 
-  pub lowest-is : (j t r : ℕ) → mapTop + j < mapCount → t < slots → NextBit slots (getD ms (mapTop + j) 0) 0 t →
-      getD ms (slots * j + t) 0 < 2 ^ 64 → NextBit slots (getD ms (slots * j + t) 0) 0 r →
-      ((x : ℕ) → x < slots * (slots * j) → mapBit ms x ≡ 0) → Lowest ms (slots * (slots * j + t) + r)
+  pub lowest-is : (j t r : ℕ) → mapTop + j < mapCount → t < wordBits → NextBit wordBits (getD ms (mapTop + j) 0) 0 t →
+      getD ms (wordBits * j + t) 0 < 2 ^ 64 → NextBit wordBits (getD ms (wordBits * j + t) 0) 0 r →
+      ((x : ℕ) → x < wordBits * (wordBits * j) → mapBit ms x ≡ 0) → Lowest ms (wordBits * (wordBits * j + t) + r)
   lowest-is j t r lt some nb fits nr before =
-      let d : (slots * j + t) / slots ≡ j = omega arith in
-      let e : (slots * j + t) % slots ≡ t = omega arith in
-      let on : bit ((slots * j + t) % slots) (getD ms (mapTop + (slots * j + t) / slots) 0) ≡ 1 = rw (d, e) (nb .on some) in
-      let not-zero : getD ms (slots * j + t) 0 ≡ 0 → ⊥ = over-says (getD ms (slots * j + t) 0)
-      (sym (level (slots * j + t) (omega arith)) ∙ on) in
-      let small : r < slots = byT (ltb r slots) (ltb-true _ _)
-      (λ y. absurd (not-zero (bits-zero 64 (getD ms (slots * j + t) 0) fits
-      (λ i l. nr .first i (omega arith) (omega (arith, ltb-false r slots y)))))) in
-      let dr : (slots * (slots * j + t) + r) / slots ≡ slots * j + t = omega arith in
-      let er : (slots * (slots * j + t) + r) % slots ≡ r = omega arith in
+      let d : (wordBits * j + t) / wordBits ≡ j = omega arith in
+      let e : (wordBits * j + t) % wordBits ≡ t = omega arith in
+      let on : bit ((wordBits * j + t) % wordBits) (getD ms (mapTop + (wordBits * j + t) / wordBits) 0) ≡ 1 = rw (d, e) (nb .on some) in
+      let not-zero : getD ms (wordBits * j + t) 0 ≡ 0 → ⊥ = over-says (getD ms (wordBits * j + t) 0)
+      (sym (level (wordBits * j + t) (omega arith)) ∙ on) in
+      let small : r < wordBits = byT (ltb r wordBits) (ltb-true _ _)
+      (λ y. absurd (not-zero (bits-zero 64 (getD ms (wordBits * j + t) 0) fits
+      (λ i l. nr .first i (omega arith) (omega (arith, ltb-false r wordBits y)))))) in
+      let dr : (wordBits * (wordBits * j + t) + r) / wordBits ≡ wordBits * j + t = omega arith in
+      let er : (wordBits * (wordBits * j + t) + r) % wordBits ≡ r = omega arith in
       record {
         most = omega arith;
         on = λ _. rw (dr, er) (nr .on small);
-        first = λ x h. byT (ltb x (slots * (slots * j))) (λ y. before x (ltb-true _ _ y))
-            (λ y. let g : slots * (slots * j) ≤ x = ltb-false _ _ y in
-            byT (ltb (x / slots) (slots * j + t))
+        first = λ x h. byT (ltb x (wordBits * (wordBits * j))) (λ y. before x (ltb-true _ _ y))
+            (λ y. let g : wordBits * (wordBits * j) ≤ x = ltb-false _ _ y in
+            byT (ltb (x / wordBits) (wordBits * j + t))
             (λ z. clear-words j t lt nb x (omega arith) (ltb-true _ _ z))
-            (λ z. let same : x / slots ≡ slots * j + t = omega (arith, ltb-false (x / slots) (slots * j + t) z) in
-            ap (λ (q : ℕ). bit (x % slots) (getD ms q 0)) same ∙ nr .first (x % slots) (omega arith) (omega arith)));
+            (λ z. let same : x / wordBits ≡ wordBits * j + t = omega (arith, ltb-false (x / wordBits) (wordBits * j + t) z) in
+            ap (λ (q : ℕ). bit (x % wordBits) (getD ms q 0)) same ∙ nr .first (x % wordBits) (omega arith) (omega arith)));
       }
 
-  pub lowest-none : (j : ℕ) → mapCount ≤ mapTop + j → ((x : ℕ) → x < slots * (slots * j) → mapBit ms x ≡ 0) →
+  pub lowest-none : (j : ℕ) → mapCount ≤ mapTop + j → ((x : ℕ) → x < wordBits * (wordBits * j) → mapBit ms x ≡ 0) →
       Lowest ms mapNodes
   lowest-none j le z = record {
     most = omega arith;
@@ -127,12 +125,12 @@ module _ {f : ℕ → Bool} {ms : List ℕ} (M : MapOf f ms) where
 
   -- ONE NODE CHANGES: its bit, the second level's bit of its word, and the count
   module _ (m : ℕ) (lt : m < mapNodes) (b : Bool) {ms₁ ms₂ : List ℕ} (flip : Flips ms ms₁ m b)
-      (top : Topped ms₁ ms₂ (m / slots)) (c : ℕ) (count : c + oneIf (f m) ≡ getD ms mapCount 0 + oneIf b) where
+      (top : Topped ms₁ ms₂ (m / wordBits)) (c : ℕ) (count : c + oneIf (f m) ≡ getD ms mapCount 0 + oneIf b) where
     word : (j : ℕ) → (j ≡ mapCount → ⊥) → getD (set ms₂ mapCount c) j 0 ≡ getD ms₂ j 0
     word j ne = getD-set-other ms₂ mapCount j c 0 ne
 
     at-bit : (x : ℕ) → x < mapNodes + mapTop → mapBit (set ms₂ mapCount c) x ≡ mapBit ms₂ x
-    at-bit x h = ap (bit (x % slots)) (word (x / slots) (λ e. omega arith))
+    at-bit x h = ap (bit (x % wordBits)) (word (x / wordBits) (λ e. omega arith))
 
     node : (x : ℕ) → x < mapNodes → mapBit (set ms₂ mapCount c) x ≡ oneIf (put f m b x)
     node x h = at-bit x (omega arith) ∙ top .rest x (λ e. omega arith) ∙ byT (eqb x m)
@@ -141,15 +139,15 @@ module _ {f : ℕ → Bool} {ms : List ℕ} (M : MapOf f ms) where
 
     over : (j : ℕ) → j < mapTop → mapBit (set ms₂ mapCount c) (mapNodes + j) ≡
         oneOver (getD (set ms₂ mapCount c) j 0)
-    over j h = at-bit (mapNodes + j) (omega arith) ∙ (byT (eqb j (m / slots)) here there ∙ ap
+    over j h = at-bit (mapNodes + j) (omega arith) ∙ (byT (eqb j (m / wordBits)) here there ∙ ap
         (λ (w : ℕ). oneOver w) (sym (word j (λ e. omega arith))))
       where
-        here : eqb j (m / slots) ≡ true → mapBit ms₂ (mapNodes + j) ≡ oneOver (getD ms₂ j 0)
-        here t = let q : j ≡ m / slots = eqb-true _ _ t in rw q (top .top)
+        here : eqb j (m / wordBits) ≡ true → mapBit ms₂ (mapNodes + j) ≡ oneOver (getD ms₂ j 0)
+        here t = let q : j ≡ m / wordBits = eqb-true _ _ t in rw q (top .top)
 
-        there : eqb j (m / slots) ≡ false → mapBit ms₂ (mapNodes + j) ≡ oneOver (getD ms₂ j 0)
+        there : eqb j (m / wordBits) ≡ false → mapBit ms₂ (mapNodes + j) ≡ oneOver (getD ms₂ j 0)
         there t =
-            let ne : j ≡ m / slots → ⊥ = eqb-false _ _ t in
+            let ne : j ≡ m / wordBits → ⊥ = eqb-false _ _ t in
             let w : getD ms₂ j 0 ≡ getD ms j 0 = top .words j (λ e. omega arith) ∙ flip .words j ne in
             top .rest (mapNodes + j) (λ e. ne (omega arith)) ∙ (flip .rest (mapNodes + j) (λ e. omega arith) ∙
             (M .tops j h ∙ ap (λ (w : ℕ). oneOver w) (sym w)))
@@ -165,8 +163,8 @@ module _ {f : ℕ → Bool} {ms : List ℕ} (M : MapOf f ms) where
         }
 
   -- a node in the map: its word is not 0, and the count neither
-  pub word-on : (m : ℕ) → m < mapNodes → mapBit ms m ≡ 1 → mapBit ms (mapNodes + m / slots) ≡ 1
-  word-on m lt e = M .tops (m / slots) (omega arith) ∙ rw (ne-eqb (getD ms (m / slots) 0) 0 (word-not-zero ms m e))
+  pub word-on : (m : ℕ) → m < mapNodes → mapBit ms m ≡ 1 → mapBit ms (mapNodes + m / wordBits) ≡ 1
+  word-on m lt e = M .tops (m / wordBits) (omega arith) ∙ rw (ne-eqb (getD ms (m / wordBits) 0) 0 (word-not-zero ms m e))
 
   pub count-some : (m : ℕ) → m < mapNodes → mapBit ms m ≡ 1 → 1 ≤ getD ms mapCount 0
   count-some m lt e = let one : oneIf (f m) ≡ 1 = sym (M .bits m lt) ∙ e in
@@ -177,7 +175,7 @@ module _ {f : ℕ → Bool} {ms : List ℕ} (M : MapOf f ms) where
   count-fits = omega (arith, M .count-is, count-le f mapNodes)
 
   module _ (m : ℕ) (lt : m < mapNodes) {ms₁ ms₂ : List ℕ} {b : Bool} (flip : Flips ms ms₁ m b)
-      (top : Topped ms₁ ms₂ (m / slots)) where
+      (top : Topped ms₁ ms₂ (m / wordBits)) where
     pub count-kept : getD ms₂ mapCount 0 ≡ getD ms mapCount 0
     count-kept = top .words mapCount (λ e. omega arith) ∙ flip .words mapCount (λ e. omega arith)
 
@@ -185,14 +183,14 @@ module _ {f : ℕ → Bool} {ms : List ℕ} (M : MapOf f ms) where
     length-kept = top .long ∙ (flip .long ∙ M .long)
 
   pub given-map : (m : ℕ) → m < mapNodes → mapBit ms m ≡ 0 → {ms₁ ms₂ : List ℕ} → Flips ms ms₁ m true →
-      Topped ms₁ ms₂ (m / slots) → MapOf (put f m true) (set ms₂ mapCount (getD ms₂ mapCount 0 + 1))
+      Topped ms₁ ms₂ (m / wordBits) → MapOf (put f m true) (set ms₂ mapCount (getD ms₂ mapCount 0 + 1))
   given-map m lt e {ms₂ = ms₂} flip top =
       let z : oneIf (f m) ≡ 0 = sym (M .bits m lt) ∙ e in
       let one : oneIf true ≡ 1 = refl in
       changed m lt true flip top (getD ms₂ mapCount 0 + 1) (omega (arith, count-kept m lt flip top))
 
   pub taken-map : (m : ℕ) → m < mapNodes → mapBit ms m ≡ 1 → {ms₁ ms₂ : List ℕ} → Flips ms ms₁ m false →
-      Topped ms₁ ms₂ (m / slots) → MapOf (put f m false) (set ms₂ mapCount (getD ms₂ mapCount 0 - 1))
+      Topped ms₁ ms₂ (m / wordBits) → MapOf (put f m false) (set ms₂ mapCount (getD ms₂ mapCount 0 - 1))
   taken-map m lt e {ms₂ = ms₂} flip top =
       let z : oneIf (f m) ≡ 1 = sym (M .bits m lt) ∙ e in
       let none : oneIf false ≡ 0 = refl in
@@ -203,7 +201,7 @@ module _ {f : ℕ → Bool} {ms : List ℕ} (M : MapOf f ms) where
   put-same m b e = map-as (put f m b)
       (λ x l. byT (eqb x m) (λ t. let q : x ≡ m = eqb-true _ _ t in rw t (ap f q ∙ e)) (λ t. rw t))
 
-pub flip-not-zero : {ms ms₁ : List ℕ} (m : ℕ) → Flips ms ms₁ m true → getD ms₁ (m / slots) 0 ≡ 0 → ⊥
+pub flip-not-zero : {ms ms₁ : List ℕ} (m : ℕ) → Flips ms ms₁ m true → getD ms₁ (m / wordBits) 0 ≡ 0 → ⊥
 flip-not-zero {ms₁ = ms₁} m flip = word-not-zero ms₁ m (flip .at)
 
 -- the map of no node
@@ -211,8 +209,8 @@ pub map-none : (f : ℕ → Bool) (ms : List ℕ) → length ms ≡ mapWords →
     ((x : ℕ) → x < mapNodes → f x ≡ false) → MapOf f ms
 map-none f ms l z n = record {
   long = l;
-  bits = λ m lt. bit-zero (getD ms (m / slots) 0) (m % slots) (z (m / slots)) ∙ rw (n m lt);
-  tops = λ j lt. bit-zero (getD ms ((mapNodes + j) / slots) 0) ((mapNodes + j) % slots) (z ((mapNodes + j) / slots)) ∙ rw (eq-eqb _ _ (z j));
+  bits = λ m lt. bit-zero (getD ms (m / wordBits) 0) (m % wordBits) (z (m / wordBits)) ∙ rw (n m lt);
+  tops = λ j lt. bit-zero (getD ms ((mapNodes + j) / wordBits) 0) ((mapNodes + j) % wordBits) (z ((mapNodes + j) / wordBits)) ∙ rw (eq-eqb _ _ (z j));
   count-is = z mapCount ∙ sym (count-none f mapNodes n);
 }
 
@@ -224,23 +222,3 @@ zero-words (suc n) (suc j) = zero-words n j
 
 pub blank-map : BlankMap (replicate mapWords 0)
 blank-map = record { long = length-replicate {A = ℕ} mapWords 0; zeros = zero-words mapWords }
-
--- the map of a pool is a map
-pub free-sound : {ws ms : List ℕ} → FreeMap ws ms → Sound ms
-free-sound {ws} F = record { free = freeIn ws; is = F .is }
-
--- THE MAP OF A POOL, node by node
-pub build-start : (ws ms : List ℕ) → BlankMap ms → MapOf (freeTo 0 ws) ms
-build-start ws ms b = map-none (freeTo 0 ws) ms (b .long) (b .zeros) (λ x _. rw (le-ltb x 0 (omega arith)))
-
-pub build-step : (ws : List ℕ) {ms ms′ : List ℕ} (m w : ℕ) → w ≡ getD ws (shiftPlace m) 0 →
-    ((f : ℕ → Bool) → f m ≡ false → MapOf f ms → MapOf (put f m (eqb w 0)) ms′) → MapOf (freeTo m ws) ms →
-    MapOf (freeTo (m + 1) ws) ms′
-build-step ws m w e step M =
-    map-as (step (freeTo m ws) (rw (le-ltb m m (omega arith))) M) (freeTo (m + 1) ws)
-    (λ x _. byT (eqb x m)
-    (λ t. let q : x ≡ m = eqb-true _ _ t in rw (t, q, lt-ltb m (m + 1) (omega arith), e))
-    (λ t. let ne : x ≡ m → ⊥ = eqb-false _ _ t in
-    rw t (ap (λ (b : Bool). both b (eqb (getD ws (shiftPlace x) 0) 0)) (iff (ltb x m) (ltb x (m + 1))
-    (λ y. lt-ltb x (m + 1) (omega (arith, ltb-true x m y)))
-    (λ y. lt-ltb x m (omega (arith, ltb-true x (m + 1) y)))))))

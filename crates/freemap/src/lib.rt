@@ -1,28 +1,23 @@
-// A map of the free nodes of a pool: the lowest of them and how many they are in a bounded number of words, whatever the
-// pool's size. It goes from command to command beside the pool.
+// A map of free numbers: the lowest of them and how many they are in a bounded number of words, however many there are.
 //
 // map: its words, as specs/FreeMap has them; m: the number of a node; x: a bit of the map; k: one of its words.
-use layout::SLOTS;
-use layout::clear_node;
-use layout::next_marked;
-use layout::pow2;
-use layout::shift_of;
-ghost use Prim.Native.Nat.{ℕ, _+_, _*_, _/_, _<_};
+use words::WORD_BITS;
+use words::next_bit;
+use words::pow2;
+ghost use Prim.Native.Nat.{ℕ, _+_, _*_, _/_, _≤_, _<_};
 ghost use mathlib.Core.Path.{_≡_};
 ghost use mathlib.Core.Bool.{Bool, true, false, not};
 ghost use lib.Dec.{eqb};
 ghost use lib.ListN.{getD, length};
 ghost use Rattle.blocks.specs.Choice.{either};
-ghost use Rattle.tree.specs.Tree.{slots};
-ghost use Rattle.layout.specs.Words.{lastPlace};
-ghost use Rattle.layout.specs.Fill.{cleared};
+ghost use Rattle.words.specs.Bits.{wordBits};
 ghost use Rattle.freemap.specs.FreeMap.{mapNodes, mapTop, mapCount, mapWords, mapBit, oneOver, put};
-ghost use Rattle.freemap.specs.FreeMap.{MapOf, Sound, Follows, Lowest, Flips, Topped};
+ghost use Rattle.freemap.specs.FreeMap.{MapOf, Sound, Lowest, Flips, Topped, Draws};
 
 // The map's measures, as specs/FreeMap has them.
-pub const MAP_NODES: u64 = 16384;
+pub const MAP_NODES: u64 = 4 * WORD_BITS * WORD_BITS;
 
-const MAP_TOP: u64 = MAP_NODES / SLOTS;
+const MAP_TOP: u64 = MAP_NODES / WORD_BITS;
 
 const MAP_COUNT: usize = 260;
 
@@ -30,22 +25,22 @@ pub const MAP_WORDS: usize = 261;
 
 // Bit x, which is clear, is set.
 fn set_bit(map: &mut [u64], x: u64)
-    requires { ⌜ (x < slots * length (now map)) × (x < 2 * mapNodes) × (mapBit (now map) x ≡ 0) ⌝ }
+    requires { ⌜ (x < wordBits * length (now map)) × (x < 2 * mapNodes) × (mapBit (now map) x ≡ 0) ⌝ }
     ensures { λ _. ⌜ Flips (now (map .entry)) (now (map .exit)) x true ⌝ }
 {
-    let k = x / SLOTS;
+    let k = x / WORD_BITS;
     let w = map[k as usize];
-    map[k as usize] = w + pow2(x % SLOTS);
+    map[k as usize] = w + pow2(x % WORD_BITS);
 }
 
 // Bit x, which is set, is cleared.
 fn clear_bit(map: &mut [u64], x: u64)
-    requires { ⌜ (x < slots * length (now map)) × (x < 2 * mapNodes) × (mapBit (now map) x ≡ 1) ⌝ }
+    requires { ⌜ (x < wordBits * length (now map)) × (x < 2 * mapNodes) × (mapBit (now map) x ≡ 1) ⌝ }
     ensures { λ _. ⌜ Flips (now (map .entry)) (now (map .exit)) x false ⌝ }
 {
-    let k = x / SLOTS;
+    let k = x / WORD_BITS;
     let w = map[k as usize];
-    map[k as usize] = w - pow2(x % SLOTS);
+    map[k as usize] = w - pow2(x % WORD_BITS);
 }
 
 // Word k was w and is not 0 now: the second level says so.
@@ -84,11 +79,11 @@ pub fn lowest_free(map: &[u64]) -> u64
     ensures { λ r. ⌜ Lowest (now (map .entry)) r ⌝ }
 {
     let mut j = 0;
-    while j < MAP_TOP / SLOTS {
-        let t = next_marked(map[(MAP_TOP + j) as usize], 0);
-        if t < SLOTS {
-            let k = SLOTS * j + t;
-            return SLOTS * k + next_marked(map[k as usize], 0);
+    while j < MAP_TOP / WORD_BITS {
+        let t = next_bit(map[(MAP_TOP + j) as usize], 0);
+        if t < WORD_BITS {
+            let k = WORD_BITS * j + t;
+            return WORD_BITS * k + next_bit(map[k as usize], 0);
         }
         j = j + 1;
     }
@@ -102,7 +97,7 @@ pub fn take(map: &mut [u64], m: u64)
     ensures { λ _. ⌜ ((f : ℕ → Bool) → MapOf f (now (map .entry)) → MapOf (put f m false) (now (map .exit))) ⌝ }
 {
     clear_bit(map, m);
-    lower_word(map, m / SLOTS);
+    lower_word(map, m / WORD_BITS);
     map[MAP_COUNT] = map[MAP_COUNT] - 1;
 }
 
@@ -112,9 +107,9 @@ pub fn give(map: &mut [u64], m: u64)
     requires { ⌜ m < mapNodes ⌝ }
     ensures { λ _. ⌜ ((f : ℕ → Bool) → MapOf f (now (map .entry)) → MapOf (put f m true) (now (map .exit))) ⌝ }
 {
-    let k = m / SLOTS;
+    let k = m / WORD_BITS;
     let w = map[k as usize];
-    if (w >> (m % SLOTS)) % 2 == 1 {
+    if (w >> (m % WORD_BITS)) % 2 == 1 {
         return;
     }
     set_bit(map, m);
@@ -123,7 +118,7 @@ pub fn give(map: &mut [u64], m: u64)
 }
 
 // Node m, whose first word is w, is in the map from here on if it is in use now.
-fn give_used(map: &mut [u64], m: u64, w: u64)
+pub fn give_used(map: &mut [u64], m: u64, w: u64)
     requires { ⌜ Sound (now map) ⌝ }
     requires { ⌜ m < mapNodes ⌝ }
     ensures { λ _. ⌜ ((f : ℕ → Bool) → MapOf f (now (map .entry)) →
@@ -132,19 +127,6 @@ fn give_used(map: &mut [u64], m: u64, w: u64)
     if w != 0 {
         give(map, m);
     }
-}
-
-// Frees node n: all its words become 0, and it enters the map. A node that was free stays as it is, in the map or not: so
-// this holds of any words, and a caller need not know that it meets no node twice.
-pub fn release(pool: &mut [u64], map: &mut [u64], n: u64)
-    requires { do ⌜ lastPlace n < (← ⟦pool.len()⟧) ⌝ }
-    requires { ⌜ Sound (now map) ⌝ }
-    requires { ⌜ n < mapNodes ⌝ }
-    ensures { λ _. ⌜ now (pool .exit) ≡ cleared (now (pool .entry)) n ⌝ }
-    ensures { λ _. ⌜ Follows (now (pool .entry)) (now (pool .exit)) (now (map .entry)) (now (map .exit)) ⌝ }
-{
-    give_used(map, n, shift_of(pool, n));
-    clear_node(pool, n);
 }
 
 // Node m, whose first word is w, is in the map from here on if it is free.
@@ -156,4 +138,24 @@ pub fn enter(map: &mut [u64], m: u64, w: u64)
     if w == 0 {
         give(map, m);
     }
+}
+
+// Draws the lowest free numbers from the map, as many as needed; none if there are too few.
+pub fn draw(map: &mut [u64], nums: &mut [u64], need: u64) -> bool
+    requires { ⌜ Sound (now map) ⌝ }
+    requires { do ⌜ need ≤ (← ⟦nums.len()⟧) ⌝ }
+    ensures { λ r. ⌜ ((f : ℕ → Bool) → MapOf f (now (map .entry)) →
+        Draws f need (now (nums .exit)) (now (map .entry)) (now (map .exit)) r) ⌝ }
+{
+    if free_count(map) < need {
+        return false;
+    }
+    let mut cnt = 0;
+    while cnt < need {
+        let m = lowest_free(map);
+        take(map, m);
+        nums[cnt as usize] = m;
+        cnt = cnt + 1;
+    }
+    true
 }

@@ -4,11 +4,10 @@ use mathlib.Core.Path.{_≡_, refl, sym, ap, subst, _∙_}
 use mathlib.Core.Bool.{true, false, not}
 use mathlib.Core.List.{List}
 use native.Mathlib.Omega.{arith}
-use lib.Dec.{leb, ltb, eqb}
-use borrow.Author.Tests.{eqb-true, eqb-false, ltb-true, ltb-false, leb-true, leb-false, lt-ltb, le-ltb, le-leb, ne-eqb}
-use Rattle.blocks.specs.Choice.{both}
+use lib.Dec.{ltb, eqb}
+use borrow.Author.Tests.{eqb-true, eqb-false, ltb-true, ltb-false, lt-ltb, le-ltb, le-leb, ne-eqb}
 use Rattle.blocks.specs.Blocks.{bitsTo}
-use Rattle.blocks.proofs.BoolLaws.{byT, both-l, both-r, clash}
+use Rattle.blocks.proofs.BoolLaws.{byT}
 use Rattle.blocks.proofs.BitLaws.{bits-same}
 use Rattle.blocks.proofs.CountLaws.{count-same}
 use Rattle.model.specs.declared.Entry.{Entry}

@@ -6,8 +6,7 @@ use mathlib.Core.Bool.{true, false}
 use mathlib.Core.List.{List, [], _∷_, _++_}
 use mathlib.Core.Option.{none, some}
 use lib.ListN.{length, replicate}
-use Rattle.model.specs.declared.Entry.{Entry}
-use Rattle.tree.specs.Tree.{Node, tall, has, slotMark}
+use Rattle.tree.specs.Tree.{tall, has, slotMark}
 use Rattle.tree.specs.Slots.{slot}
 use Rattle.layout.specs.Words.{fieldOf}
 use Rattle.layout.specs.Places.{render}

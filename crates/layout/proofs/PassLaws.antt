@@ -1,6 +1,6 @@
--- Passes without early exits: an OR over words is 0 exactly if each of them is.
-use Prim.Native.Nat.{ℕ, _+_, _-_, _%_, _≤_, _<_, max}
-use mathlib.Core.Path.{_≡_, refl, sym, ap, _∙_, subst}
+-- Passes over a node without early exits.
+use Prim.Native.Nat.{ℕ, _+_, _-_, _%_, _≤_, max}
+use mathlib.Core.Path.{_≡_, refl, sym, subst}
 use mathlib.Core.Bool.{Bool, true}
 use mathlib.Core.Logic.{_≢_}
 use mathlib.Core.List.{List}
@@ -9,37 +9,12 @@ use lib.Dec.{eqb, ltb}
 use lib.Bits.{bitOr}
 use lib.ListN.{getD}
 use borrow.Author.Tests.{eqb-true, eqb-false, eq-eqb, ltb-true, ltb-false}
-use Rattle.blocks.proofs.BoolLaws.{byT}
-use Rattle.blocks.proofs.TwoWordLaws.{or-none, none-or, or-odd}
+use Rattle.blocks.proofs.BoolLaws.{byT, decide-eqb}
+use Rattle.blocks.proofs.TwoWordLaws.{or-odd}
 use Rattle.layout.specs.Words.{place, slotPlace, slotField, nodeWords}
 use Rattle.layout.specs.Pool.{poolOf, Free}
 use Rattle.layout.specs.Reading.{Decides, Internal, Blank, Vacant, Plain, NextFilled}
 use Rattle.layout.proofs.FreeLaws.{free-words, words-free}
-
-pub decide-eqb : {A : Type 0} (x y : ℕ) → (x ≡ y → A) → (A → x ≡ y) → Decides (eqb x y) A
-decide-eqb x y f g = (λ e. f (eqb-true x y e), λ e a. eqb-false x y e (g a))
-
--- MANY
--- x is the OR of f from a up to b
-pub record Ored (f : ℕ → ℕ) (a b x : ℕ) : Type 0 where
-  pub none : x ≡ 0 → (k : ℕ) → a ≤ k → k < b → f k ≡ 0
-  pub zero : ((k : ℕ) → a ≤ k → k < b → f k ≡ 0) → x ≡ 0
-
-pub ored-start : (f : ℕ → ℕ) (a b : ℕ) → b ≤ a → Ored f a b 0
-ored-start f a b h = record { none = λ e k p q. absurd (omega arith); zero = λ g. refl }
-
-pub ored-next : (f : ℕ → ℕ) (a b x y : ℕ) → Ored f a b x → a ≤ b → y ≡ f b → Ored f a (b + 1) (bitOr x y)
-ored-next f a b x y o h e =
-    record {
-      none = λ z k p q. let w = or-none x y z in
-          byT (eqb k b) (λ t. ap f (eqb-true k b t) ∙ sym e ∙ w .1)
-          (λ t. let d : k ≢ b = eqb-false k b t in o .none (w .0) k p (omega arith));
-      zero = λ g. none-or x y (o .zero (λ k p q. g k p (omega arith))) (e ∙ g b h (omega arith));
-    }
-
-pub ored-decides : (f : ℕ → ℕ) (a b x : ℕ) → Ored f a b x →
-    Decides (eqb x 0) ((k : ℕ) → a ≤ k → k < b → f k ≡ 0)
-ored-decides f a b x o = decide-eqb x 0 (o .none) (o .zero)
 
 -- A NODE
 module _ (ws : List ℕ) (n : ℕ) where

@@ -1,15 +1,13 @@
 -- The words that a list prescribes, one by one, and those of a well-formed pool.
-use Prim.Native.Nat.{ℕ, _-_, _/_, _%_, _<_}
+use Prim.Native.Nat.{ℕ, _<_}
 use mathlib.Core.Path.{_≡_, sym, ap, _∙_}
 use mathlib.Core.Bool.{true}
 use mathlib.Core.List.{List}
 use mathlib.Core.Option.{Option, none, some}
 use native.Mathlib.Omega.{arith}
-use native.Mathlib.Nat.{zero-add}
 use lib.ListN.{length, getD}
-use borrow.Author.Tests.{lt-ltb, le-ltb}
 use Rattle.blocks.specs.Lists.{any}
-use Rattle.blocks.proofs.UpToLaws.{length-upTo, getD-upTo}
+use Rattle.blocks.proofs.RecordLaws as L
 use Rattle.model.specs.declared.Entry.{Entry}
 use Rattle.model.specs.Model.{within, marksOf}
 use Rattle.tree.specs.Tree.{has, height, Node, tierOrder}
@@ -28,6 +26,7 @@ use Rattle.layout.specs.Words.{
 }
 use Rattle.layout.specs.Places.{Places, numberIn, wordAt, render}
 use Rattle.layout.specs.WellFormed.{WellFormed, num}
+use Rattle.layout.proofs.RenderLaws.{fieldsAt}
 use Rattle.layout.proofs.NumberLaws.{in-standing, number-of}
 use Rattle.layout.proofs.NewNumberLaws.{stands-at}
 
@@ -39,20 +38,17 @@ slot-node s ν u c t = rw t
 -- the words of a list under places, one by one
 module _ (l : List Entry) (os : Places) (n : ℕ) where
   pub render-long : length (render l os n) ≡ poolWords n
-  render-long = length-upTo (wordAt l os n) 0 (poolWords n)
+  render-long = L.render-long anchorWords nodeWords (omega arith) (anchorWord l (numberIn os) n) (fieldsAt l os n) n
 
   pub render-word : (p : ℕ) → p < poolWords n → getD (render l os n) p 0 ≡ wordAt l os n p
-  render-word p h = getD-upTo (wordAt l os n) 0 (poolWords n) p h ∙ ap (wordAt l os n) (zero-add p)
+  render-word = L.render-word anchorWords nodeWords (omega arith) (anchorWord l (numberIn os) n) (fieldsAt l os n) n
 
   pub render-anchor : (p : ℕ) → p < anchorWords → getD (render l os n) p 0 ≡ anchorWord l (numberIn os) n p
-  render-anchor p h = render-word p (omega arith) ∙ rw (lt-ltb p anchorWords h)
+  render-anchor = L.render-anchor anchorWords nodeWords (omega arith) (anchorWord l (numberIn os) n) (fieldsAt l os n) n
 
   pub render-node : (m f : ℕ) → m < n → IsField f → getD (render l os n) (place m f) 0 ≡ fieldAt l (numberIn os)
       (getD os m none) f
-  render-node m f a b =
-      let d : (place m f - anchorWords) / nodeWords ≡ m = omega arith in
-      let r : (place m f - anchorWords) % nodeWords ≡ f = omega arith in
-      render-word (place m f) (omega arith) ∙ rw (le-ltb (place m f) anchorWords (omega arith), d, r)
+  render-node = L.render-record anchorWords nodeWords (omega arith) (anchorWord l (numberIn os) n) (fieldsAt l os n) n
 
 -- THE WORDS OF A WELL-FORMED POOL
 module _ {ws : List ℕ} (s : WellFormed ws) where

@@ -1,25 +1,22 @@
 -- What the word of a slot says, and the view of a block through it: empty, a reservation, an entry, a sibling, a node.
-use Prim.Native.Nat.{ℕ, _*_, _-_, _/_, _%_, _^_, _≤_, _<_}
+use Prim.Native.Nat.{ℕ, _*_, _-_, _/_, _%_, _≤_, _<_}
 use mathlib.Core.Path.{_≡_, refl, ap, _∙_}
-use mathlib.Core.Bool.{true, false}
 use mathlib.Core.List.{List}
-use mathlib.Core.Option.{none, some}
 use native.Mathlib.Omega.{arith}
 use native.Mathlib.Nat.{le-refl}
 use lib.Dec.{ltb, eqb}
 use borrow.Author.Tests.{eqb-true, eqb-false, ltb-true, lt-ltb, le-ltb, eq-eqb, ne-eqb}
 use Rattle.blocks.specs.Choice.{both}
-use Rattle.blocks.specs.Lists.{any, All}
+use Rattle.blocks.specs.Lists.{All}
 use Rattle.blocks.specs.Blocks.{block}
 use Rattle.blocks.proofs.BoolLaws.{byT}
 use Rattle.model.specs.declared.Entry.{Entry}
-use Rattle.model.specs.Model.{EntryOk, storable, reservedWord, covering, within}
+use Rattle.model.specs.Model.{EntryOk, reservedWord}
 use Rattle.model.proofs.WordLaws.{by-word, storable-kind}
 use Rattle.tree.specs.Slots.{slot, nodeWord, siblingWord, Numbering, nodeOffset}
 use Rattle.tree.proofs.ReadLaws.{Seen, nothing, lower, entry, sibling, see}
 use Rattle.tree.specs.Tree.{slots, tierOrder}
 use Rattle.layout.specs.Pool.{slotOf, siblingBit}
-use Rattle.layout.specs.declared.Slot.{Slot}
 use Rattle.layout.specs.declared.Slot.the-variants.{Empty, Reserved, Held, Sibling, Child}
 pub use Rattle.layout.specs.View.{View, v-empty, v-child, v-reserved, v-held, v-sibling}
 

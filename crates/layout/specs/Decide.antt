@@ -1,10 +1,11 @@
 -- Well-formedness as a test that computes: the list and the places are read off the words, and every word compared.
 use Prim.Native.Nat.{ℕ, _+_, _*_, _-_, _/_, _^_}
-use mathlib.Core.Bool.{Bool, true, false}
+use mathlib.Core.Bool.{Bool, true}
 use mathlib.Core.List.{List, [], _∷_}
 use lib.Dec.{leb, ltb, eqb}
 use lib.ListN.{length}
 use Rattle.blocks.specs.Choice.{both}
+use Rattle.blocks.specs.Lists.{equal}
 use Rattle.blocks.specs.Placing as P
 use Rattle.blocks.specs.Blocks.{block}
 use Rattle.model.specs.declared.Entry.{Entry}
@@ -38,12 +39,6 @@ isSorted n (e ∷ l) = both (leb n (e .base)) (both (isEntry e) (isSorted (e .ba
 -- `Placed`, as a test: each node that stands is one of the tree's, none stands twice, and none is missing
 abbrev pub isPlaced : ℕ → List Entry → Places → Bool
 isPlaced n l os = P.isPlaced same n (length (nodes l)) (hasNode l) os
-
-abbrev pub equal : List ℕ → List ℕ → Bool
-equal [] [] = true
-equal [] (y ∷ ys) = false
-equal (x ∷ xs) [] = false
-equal (x ∷ xs) (y ∷ ys) = both (eqb x y) (equal xs ys)
 
 -- the words of a pool of n nodes are those that the list read off them prescribes, at the places read off them
 unfoldable pub isWellFormed : ℕ → List ℕ → Bool

@@ -1,5 +1,5 @@
 -- Which node stands at each number, which numbers new nodes take, and the words of a pool under such places.
-use Prim.Native.Nat.{ℕ, _-_, _/_, _%_}
+use Prim.Native.Nat.{ℕ}
 use mathlib.Core.Bool.{Bool}
 use mathlib.Core.List.{List}
 use mathlib.Core.Option.{Option, none}
@@ -12,7 +12,7 @@ pub use Rattle.blocks.specs.Placing.{standing, freeCount, allocate}
 use Rattle.model.specs.declared.Entry.{Entry}
 use Rattle.tree.specs.Tree.{has, Node, newNodes}
 use Rattle.tree.specs.Slots.{Numbering}
-use Rattle.layout.specs.Words.{anchorWords, nodeWords, poolWords, fieldAt, anchorWord}
+use Rattle.layout.specs.Words.{anchorWords, poolWords, nodeOf, fieldIn, fieldAt, anchorWord}
 
 -- what stands at each node number: a node of the tree, or a free one (document 01: blank)
 abbrev pub Places : Type 0
@@ -51,7 +51,7 @@ newPlaces l l′ os = prune l′ (allocate os (newNodes l l′))
 abbrev pub wordAt : List Entry → Places → ℕ → ℕ → ℕ
 wordAt l os n i =
     pick (ltb i anchorWords) (anchorWord l (numberIn os) n i)
-    (fieldAt l (numberIn os) (getD os ((i - anchorWords) / nodeWords) none) ((i - anchorWords) % nodeWords))
+    (fieldAt l (numberIn os) (getD os (nodeOf i) none) (fieldIn i))
 
 -- all words that the list prescribes, with its nodes at these places among n
 abbrev pub render : List Entry → Places → ℕ → List ℕ

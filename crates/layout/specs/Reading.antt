@@ -1,14 +1,10 @@
 -- What the functions that read a node promise.
 use Prim.Native.Nat.{ℕ, _%_, _≤_, _<_}
 use mathlib.Core.Path.{_≡_}
-use mathlib.Core.Bool.{Bool, true, false}
 use mathlib.Core.List.{List}
 use lib.ListN.{getD}
+pub use Rattle.blocks.specs.Deciding.{Decides}
 use Rattle.layout.specs.Words.{place, slotPlace}
-
--- what a test's answer says of a fact
-abbrev pub Decides : Bool → Type 0 → Type 0
-Decides r A = (r ≡ true → A) × (r ≡ false → A → ⊥)
 
 -- the word is that of a sibling slot, of a reservation or of a node
 abbrev pub Internal : ℕ → Type 0

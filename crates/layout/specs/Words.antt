@@ -1,5 +1,10 @@
 -- The words of the pool (R27 to R30): the layout's constants, and each word of the anchor and of a node. Here alone
 -- stands which field of a node is which; other crates use the places by name, and the laws of layout/proofs/FieldLaws.
+--
+-- the pool    anchorWords, nodeWords, maxNodes, poolWords; place: field f of node n; nodeOf, fieldIn: back from a place
+-- the anchor  countWord, headWord, marksWord, spareWord
+-- a node      shiftField, ownerField, filledField, markField, slotField; shiftPlace, ownerPlace, ..: the same as places
+-- its words   shiftWord, ownerWord, filledOf; fieldOf: field f from these, the marks and the slots
 use Prim.Native.Nat.{ℕ, suc, _+_, _*_, _-_, _/_, _%_, _<_}
 use mathlib.Core.Bool.{Bool, not}
 use mathlib.Core.List.{List}
@@ -22,7 +27,7 @@ nodeWords = 70
 abbrev pub maxNodes : ℕ
 maxNodes = 16384
 
--- the words of a pool of n nodes, which is also where node n begins
+-- the words of a pool of n nodes, which is also where node n begins; words in records: blocks/specs/Records
 abbrev pub poolWords : ℕ → ℕ
 poolWords n = anchorWords + nodeWords * n
 

@@ -2,6 +2,8 @@
 //
 // pool: the borrowed words; n, m: numbers of nodes; f: a field of a node; o: the offset of a slot in its node;
 // tier: the tier of a block (64^tier indices).
+use words::fill;
+use words::next_bit;
 ghost use mathlib.Core.Path.{_≡_};
 ghost use Prim.Native.Nat.{_+_, _*_, _%_, _<_, _≤_, _^_};
 ghost use lib.Dec.{eqb};
@@ -13,7 +15,8 @@ ghost use Rattle.layout.specs.Words.{nodeWords, shiftPlace, ownerPlace, 
 ghost use Rattle.layout.specs.Words.{shiftWord, ownerWord};
 ghost use Rattle.layout.specs.Pool.{slotOf, siblingBit, poolOf, Free};
 ghost use Rattle.layout.specs.Reading.{Decides, Internal, Blank, Vacant, Plain, NextFilled};
-ghost use Rattle.layout.specs.Fill.{filled, cleared};
+ghost use Rattle.words.specs.Fill.{filled};
+ghost use Rattle.layout.specs.Fill.{cleared};
 
 // The layout's constants, as specs/Words has them.
 pub const ANCHOR_WORDS: u64 = 4;
@@ -64,15 +67,6 @@ pub enum Slot {
     Held,
     Sibling(u64),
     Child(u64),
-}
-
-// 2 to the power j.
-pub fn pow2(j: u64) -> u64
-    requires { ⌜ j < 64 ⌝ }
-    ensures { λ r. ⌜ r ≡ 2 ^ j ⌝ }
-{
-    let k = j;
-    1u64 << k
 }
 
 // The block of a tier that holds index i.
@@ -167,18 +161,6 @@ pub fn put_slot(pool: &mut [u64], n: u64, o: u64, x: u64)
     pool[(ANCHOR_WORDS + NODE_WORDS * n + (SLOT_FIELD + o)) as usize] = x;
 }
 
-// x at place a and the next, n in all.
-pub fn fill(pool: &mut [u64], a: u64, x: u64, n: u64)
-    requires { do ⌜ a + n ≤ (← ⟦pool.len()⟧) ⌝ }
-    ensures { λ _. ⌜ now (pool .exit) ≡ filled (now (pool .entry)) a x n ⌝ }
-{
-    let mut t = 0;
-    while t < n {
-        pool[(a + t) as usize] = x;
-        t = t + 1;
-    }
-}
-
 // x in the slots of node n from o on, c in all.
 pub fn fill_slots(pool: &mut [u64], n: u64, o: u64, x: u64, c: u64)
     requires { do ⌜ slotPlace n o + c ≤ (← ⟦pool.len()⟧) ⌝ }
@@ -270,12 +252,7 @@ pub fn next_marked(w: u64, o: u64) -> u64
     requires { ⌜ o < slots ⌝ }
     ensures { λ r. ⌜ NextBit slots w o r ⌝ }
 {
-    let x = w >> o;
-    let t = u64::trailing_zeros(x) as u64;
-    if SLOTS - o <= t {
-        return SLOTS;
-    }
-    o + t
+    next_bit(w, o)
 }
 
 // THE SLOTS OF A NODE

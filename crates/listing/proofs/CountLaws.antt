@@ -1,23 +1,22 @@
 -- A pool has few entries: each takes a slot of a node, or is the head.
 use Prim.Native.Nat.{ℕ, suc, _+_, _*_, _-_, _/_, _^_, _≤_, _<_, max}
-use mathlib.Core.Path.{_≡_, refl, sym, ap, _∙_}
-use mathlib.Core.Bool.{true, false}
-use mathlib.Core.List.{List, [], _∷_}
+use mathlib.Core.Path.{_≡_, refl, ap, _∙_}
+use mathlib.Core.Bool.{true}
+use mathlib.Core.List.{List}
 use native.Mathlib.Omega.{arith}
-use lib.Dec.{ltb, eqb}
+use lib.Dec.{eqb}
 use lib.ListN.{length}
 use borrow.Author.Tests.{eqb-true, eqb-false, lt-ltb, eq-eqb}
-use Rattle.blocks.specs.Choice.{both}
-use Rattle.blocks.specs.Lists.{In, here, there, any}
+use Rattle.blocks.specs.Lists.{In, here, there}
 use Rattle.blocks.specs.Blocks.{block}
 use Rattle.blocks.proofs.BoolLaws.{byT}
 use Rattle.blocks.proofs.ListLaws.{All-map, look, in-any}
 use Rattle.blocks.proofs.BlockLaws.{pow-pos, block-at}
 use Rattle.model.specs.declared.Entry.{Entry}
-use Rattle.model.specs.Model.{EntryOk, Sorted, done, more, Valid, within}
+use Rattle.model.specs.Model.{Sorted, done, more, Valid, within}
 use Rattle.model.proofs.ValidLaws.{sorted-ok}
-use Rattle.tree.specs.Tree.{slotBits, slots, tierOrder, height, has, fits, nodes}
-use Rattle.tree.proofs.HeightLaws.{Low, height-fits, fits-order, fits-base}
+use Rattle.tree.specs.Tree.{slotBits, slots, tierOrder, height, has, fits}
+use Rattle.tree.proofs.HeightLaws.{height-fits, fits-order, fits-base}
 use Rattle.tree.proofs.NodeListLaws.{has-in}
 use Rattle.layout.specs.Words.{maxNodes}
 use Rattle.layout.specs.WellFormed.{WellFormed}

@@ -1,34 +1,17 @@
 -- Laws of entries written one after the other.
-use Prim.Native.Nat.{ℕ, zero, suc, _+_, _*_, _/_, _≤_, _<_}
+use Prim.Native.Nat.{ℕ, suc, _+_, _*_, _/_, _≤_, _<_}
 use mathlib.Core.Path.{_≡_, refl, sym, ap, _∙_}
 use mathlib.Core.Bool.{true, false}
 use mathlib.Core.List.{List, [], _∷_, _++_}
 use native.Mathlib.Omega.{arith}
 use native.Mathlib.Nat.{add-zero}
-use lib.Dec.{leb, ltb}
 use lib.ListN.{length, drop, length-append}
-use borrow.Author.Tests.{lt-ltb, le-ltb, le-leb, lt-leb, leb-true, leb-false}
-use Rattle.blocks.specs.Choice.{pick}
-use Rattle.blocks.proofs.BoolLaws.{byT}
+use borrow.Author.Tests.{lt-ltb, le-ltb, le-leb, lt-leb}
 use Rattle.model.specs.declared.Entry.{Entry}
 use Rattle.model.specs.Model.{meets, shown}
-use Rattle.batch.specs.Bytes.{writeFrom, overwrite}
-use Rattle.batch.proofs.WriteLaws.{written, overwrite-append, overwrite-all}
-use Rattle.batch.specs.Bytes.{bytesThen}
-use Rattle.listing.specs.Listing.{
-  Listed,
-  Short,
-  Done,
-  listedTag,
-  listedLength,
-  entryBytes,
-  encodeEntry,
-  listed,
-  listing,
-  fits,
-  outcome,
-  filledWith,
-}
+use Rattle.words.specs.Bytes.{writeFrom, overwrite, bytesThen}
+use Rattle.words.proofs.WriteLaws.{written, overwrite-append, overwrite-all}
+use Rattle.listing.specs.Listing.{Short, Done, listedTag, listedLength, entryBytes, encodeEntry, listed, listing, fits, outcome, filledWith}
 use Rattle.listing.specs.Visits.{putAt, emit, Emits}
 
 -- the six numbers of an entry, one after the other

@@ -1,11 +1,10 @@
 -- The listing is in index order, has each entry once, and has exactly those whose run meets the range (R143); no field of theirs is
 -- cut (R144).
 use Prim.Native.Nat.{ℕ, _+_, _^_, _≤_, _<_, max}
-use mathlib.Core.List.{List, [], _∷_}
+use mathlib.Core.List.{List}
 use native.Mathlib.Omega.{arith}
 use lib.Dec.{leb, ltb}
 use borrow.Author.Tests.{leb-true, ltb-true}
-use Rattle.blocks.specs.Choice.{both}
 use Rattle.blocks.specs.Lists.{In, All, Distinct, d-end, d-more}
 use Rattle.blocks.proofs.BoolLaws.{byT, both-l, both-r}
 use Rattle.blocks.proofs.BlockLaws.{pow-pos}

@@ -4,7 +4,7 @@ use mathlib.Core.Path.{_≡_, refl}
 use mathlib.Core.List.{[], _∷_}
 use lib.ListN.{replicate}
 use Rattle.model.specs.declared.Entry.{Entry}
-use Rattle.listing.specs.Listing.{Listed, Short, Done, listing, outcome}
+use Rattle.listing.specs.Listing.{Short, Done, listing, outcome}
 
 -- an entry, every byte of its fields its own, and a reservation
 pub listing-in-bytes :

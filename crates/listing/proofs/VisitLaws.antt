@@ -6,22 +6,22 @@ use mathlib.Core.List.{List, [], _∷_, _++_, append-nil}
 use mathlib.Core.Option.{none, some}
 use native.Mathlib.Omega.{arith}
 use native.Mathlib.Nat.{mul-suc, mul-comm, mul-assoc, add-mul, mul-le-mul-right}
-use lib.Dec.{leb, ltb, eqb}
+use lib.Dec.{leb, ltb}
 use lib.ListN.{length}
-use borrow.Author.Tests.{ltb-true, ltb-false, eqb-true, lt-ltb, eq-eqb, le-leb}
+use borrow.Author.Tests.{ltb-true, ltb-false, lt-ltb, eq-eqb, le-leb}
 use Rattle.blocks.specs.Choice.{both}
-use Rattle.blocks.specs.Lists.{All, In, here, there, any, keep, nonempty}
+use Rattle.blocks.specs.Lists.{In, there, any}
 use Rattle.blocks.specs.Blocks.{block}
-use Rattle.blocks.proofs.BoolLaws.{byT, clash, both-l, both-r}
+use Rattle.blocks.proofs.BoolLaws.{byT, clash, both-l}
 use Rattle.blocks.proofs.BlockLaws.{pow-add, pow-pos, block-at, block-hi}
-use Rattle.blocks.proofs.ListLaws.{All-map, look, each, in-any, any-in, first-no, first-yes}
+use Rattle.blocks.proofs.ListLaws.{All-map, look, each, in-any, any-in, first-no, first-yes, keep-none}
 use Rattle.model.specs.declared.Entry.{Entry}
-use Rattle.model.specs.Model.{EntryOk, Valid, within, covers, covering, meets}
+use Rattle.model.specs.Model.{maxOrder, EntryOk, Valid, within, covers, covering, meets}
 use Rattle.model.proofs.RangeLaws.{covers-run}
 use Rattle.model.proofs.ValidLaws.{block-in, covers-i, covers-self, sorted-ok, unique}
 use Rattle.tree.specs.Slots.{Numbering}
 use Rattle.tree.specs.Tree.{slotBits, slots, tierOrder, topTier, height, fits}
-use Rattle.tree.proofs.HeightLaws.{Low, height-fits, fits-base}
+use Rattle.tree.proofs.HeightLaws.{height-fits, fits-base}
 use Rattle.tree.proofs.NodeListLaws.{has-in, has-le}
 use Rattle.tree.proofs.SlotLaws.{tier-up}
 use Rattle.layout.specs.WellFormed.{WellFormed, num}
@@ -36,19 +36,8 @@ use Rattle.lookup.specs.Find.{headed}
 use Rattle.lookup.proofs.StandLaws.{low-aligned, covers-high, stands-base, end-fits}
 use Rattle.listing.specs.Listing.{listed}
 use Rattle.listing.specs.Visits.{between, Emits, Ready}
-use Rattle.listing.proofs.BetweenLaws.{
-  keep-all,
-  keep-none,
-  keep-one,
-  between-in,
-  between-none,
-  between-one,
-  before-no,
-  listed-join,
-  listed-past,
-  below-join,
-  keep-length,
-}
+use Rattle.listing.proofs.BetweenLaws.{keep-all, keep-one, keep-length, between-in, between-none, between-one}
+use Rattle.listing.proofs.BetweenLaws.{before-no, listed-join, listed-past, below-join}
 use Rattle.listing.proofs.EmitLaws.{emits-none, emits-then}
 use Rattle.listing.proofs.CountLaws.{entries-few}
 
@@ -297,7 +286,7 @@ module _ {ws : List ℕ} (s : WellFormed ws) (v c p : ℕ) {n : ℕ} (h : p ≡ 
     pub at-node : AtNode (s .list) (num s) v (c / slots) n
     pub stands : Stands (s .list) v c entry
     pub small : c * 2 ^ tierOrder v < 2 ^ 64
-    pub order-le : entry .order ≤ 63
+    pub order-le : entry .order ≤ maxOrder
     pub ends : entry .base + 2 ^ entry .order ≤ 2 ^ 64
 
   pub seen-entry : k ≡ Shows c → Starting
@@ -350,7 +339,7 @@ module _ {ws : List ℕ} (s : WellFormed ws) {k : Entered} (w : Enters (s .list)
       let (z, h, cov, o, b) = entered-head-entry w e q in
       lone-list (s .valid) (first-yes (covers 0) (each (s .list) (λ x m. m)) cov .1) (λ x m. flat-entry s z m)
 
-  pub head-fits : (e : Entry) → k ≡ HeadEntry e → (e .order ≤ 63) × (e .base + 2 ^ e .order ≤ 2 ^ 64)
+  pub head-fits : (e : Entry) → k ≡ HeadEntry e → (e .order ≤ maxOrder) × (e .base + 2 ^ e .order ≤ 2 ^ 64)
   head-fits e q =
       let (z, h, cov, o, b) = entered-head-entry w e q in
       (omega arith, rw (o, b) (omega arith))

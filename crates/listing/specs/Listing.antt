@@ -8,7 +8,7 @@ use Rattle.blocks.specs.Choice.{pick}
 use Rattle.blocks.specs.Lists.{keep}
 use Rattle.model.specs.declared.Entry.{Entry}
 use Rattle.model.specs.Model.{shown, meets}
-use Rattle.batch.specs.Bytes.{bytesThen}
+use Rattle.words.specs.Bytes.{bytesThen}
 pub use Rattle.listing.specs.declared.Listed.{Listed}
 pub use Rattle.listing.specs.declared.Listed.the-variants.{Short, Done}
 

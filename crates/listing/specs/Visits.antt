@@ -1,14 +1,13 @@
 -- What the visits of nodes and slots promise each other.
 use Prim.Native.Nat.{ℕ, suc, _+_, _*_, _≤_}
 use mathlib.Core.Path.{_≡_}
-use mathlib.Core.Bool.{Bool}
 use mathlib.Core.List.{List, [], _∷_}
 use lib.Dec.{leb, ltb}
 use lib.ListN.{length}
 use Rattle.blocks.specs.Choice.{pick, both}
 use Rattle.blocks.specs.Lists.{keep}
 use Rattle.model.specs.declared.Entry.{Entry}
-use Rattle.batch.specs.Bytes.{overwrite}
+use Rattle.words.specs.Bytes.{overwrite}
 use Rattle.tree.specs.Slots.{Numbering}
 use Rattle.lookup.specs.Views.{AtNode}
 use Rattle.listing.specs.Listing.{entryBytes, encodeEntry}

@@ -3,13 +3,9 @@
 //
 // pool: the borrowed words, well-formed; n, m: numbers of nodes; v: the tier of a node's slots; b: the number of a node's
 // block; c: a slot by the number of its block; buffer: the borrowed bytes; k: the entries listed so far.
-use batch::put1;
-use batch::put2;
-use batch::put8;
 use layout::SLOT_BITS;
 use layout::SLOTS;
 use layout::block_of;
-use layout::pow2;
 use lookup::Entered;
 use lookup::Sight;
 use lookup::enter;
@@ -17,6 +13,10 @@ use lookup::entry_at;
 use lookup::look;
 use model::Entry;
 use model::shown_word;
+use words::pow2;
+use words::put1;
+use words::put2;
+use words::put8;
 ghost use Prim.Native.Nat.{_+_, _*_, _/_, suc, _≤_, _<_, _^_};
 ghost use mathlib.Core.Path.{_≡_};
 ghost use mathlib.Core.List.{[], _∷_};
@@ -25,7 +25,7 @@ ghost use Rattle.blocks.specs.Blocks.{block};
 ghost use Rattle.model.specs.Model.{maxOrder};
 ghost use Rattle.tree.specs.Tree.{slots, tierOrder, topTier};
 ghost use Rattle.layout.specs.WellFormed.{WellFormed, num};
-ghost use Rattle.batch.specs.Bytes.{overwrite};
+ghost use Rattle.words.specs.Bytes.{overwrite};
 ghost use Rattle.listing.specs.Listing.{entryBytes, encodeEntry, listed, outcome, filledWith};
 ghost use Rattle.listing.specs.Visits.{between, Emits, Ready};
 

@@ -2,13 +2,13 @@
 -- the laws of the latter, and of marks, are laws of it.
 use Prim.Native.Nat.{ℕ, _+_, _*_, _%_, _^_, _<_, _≤_}
 use mathlib.Core.Path.{_≡_, refl, sym, ap, ap₂, subst, _∙_}
-use mathlib.Core.Bool.{Bool, true, false, not}
+use mathlib.Core.Bool.{Bool, true, false}
 use mathlib.Core.List.{List, [], _∷_, map}
 use native.Mathlib.Omega.{arith}
 use native.Mathlib.Nat.{div-add-mod', mul-mod-left, zero-div, zero-mul}
 use lib.Dec.{leb, eqb}
 use borrow.Author.Tests.{leb-true, ltb-true, le-leb, lt-ltb, eqb-true, eq-eqb, ne-eqb}
-use Rattle.blocks.specs.Choice.{pick, both}
+use Rattle.blocks.specs.Choice.{pick}
 use Rattle.blocks.specs.Lists.{any, All, end, also}
 use Rattle.blocks.specs.Blocks.{block, setBit}
 use Rattle.blocks.proofs.BoolLaws.{both-l, both-r, byT, iff, is-false}

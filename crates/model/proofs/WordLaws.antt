@@ -1,15 +1,15 @@
 -- What the word of an entry or of a reservation can be.
 use Prim.Native.Nat.{ℕ, _%_, _^_}
-use mathlib.Core.Path.{_≡_, refl, sym, ap, subst, _∙_}
-use mathlib.Core.Bool.{Bool, true, false, not}
+use mathlib.Core.Path.{_≡_, ap, subst, _∙_}
+use mathlib.Core.Bool.{true, false, not}
 use mathlib.Core.Option.{Option, none, some}
 use native.Mathlib.Omega.{arith}
 use native.Mathlib.Nat.{zero-div}
 use lib.Dec.{eqb, T}
-use borrow.Author.Tests.{eqb-true, eqb-false, eq-eqb}
-use Rattle.blocks.specs.Choice.{both, either}
+use borrow.Author.Tests.{eqb-true, eqb-false}
+use Rattle.blocks.specs.Choice.{both}
 use Rattle.blocks.specs.Blocks.{bit}
-use Rattle.blocks.proofs.BoolLaws.{clash, byT, both-l, both-r, either-e, not-true, T-true}
+use Rattle.blocks.proofs.BoolLaws.{byT, both-l, both-r, either-e, not-true, T-true}
 use Rattle.model.specs.declared.Entry.{Entry}
 use Rattle.model.specs.Model.{storable, reservedWord, reserved, wordOk, present}
 

@@ -1,4 +1,9 @@
 -- The model (document 01: the plain list): entries, and what store, erase and mark make of them (R6 to R15).
+--
+-- an entry    storable, reserved, enterable: its word; aligned: its index; covers, meets: its range; EntryOk: that it is one
+-- the list    Sorted, Valid; covering: the entry over an index; present: the same, but for reservations; starts, within; marksOf
+-- store       clear, newEntry, keptMarks: what gives way and what is kept; storeNew, withWord: a new entry, an old one's word; store
+-- the rest    erase, remark
 use Prim.Native.Nat.{ℕ, _+_, _*_, _%_, _^_, _≤_, _<_}
 use mathlib.Core.Path.{_≡_}
 use mathlib.Core.Bool.{Bool, false, not}

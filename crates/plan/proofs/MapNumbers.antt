@@ -1,194 +1,61 @@
--- Free numbers by a map of the free nodes: the lowest ones are drawn from it one by one.
-use Prim.Native.Nat.{ℕ, zero, suc, _+_, _-_, _≤_, _<_}
-use mathlib.Core.Path.{_≡_, refl, sym, ap, subst, _∙_}
-use mathlib.Core.Bool.{Bool, true, false}
-use mathlib.Core.List.{List, [], _∷_}
-use mathlib.Core.Option.{none, some}
+-- Free numbers of a pool by the map of its free nodes.
+use Prim.Native.Nat.{ℕ, zero, suc, _≤_, _<_}
+use mathlib.Core.Path.{_≡_, sym, ap, _∙_}
+use mathlib.Core.Bool.{Bool}
+use mathlib.Core.List.{List}
 use native.Mathlib.Omega.{arith}
 use lib.Dec.{ltb, leb, eqb}
-use lib.ListN.{length, getD, set}
-use lib.Seq.{getD-set-same, getD-set-other}
-use borrow.Author.Tests.{eqb-true, eqb-false, ltb-true, ltb-false, lt-ltb, leb-true, leb-false, le-leb, lt-leb}
+use lib.ListN.{length, getD}
+use borrow.Author.Tests.{eqb-true, eqb-false, ltb-true, lt-ltb}
 use Rattle.blocks.specs.Choice.{both}
-use Rattle.blocks.proofs.BoolLaws.{byT, iff, clash, is-false, both-i, both-l, both-r, both-no, both-yes}
+use Rattle.blocks.proofs.BoolLaws.{byT, iff, both-i, both-l, both-r}
 use Rattle.tree.specs.Tree.{Node}
 use Rattle.layout.specs.Words.{countWord, shiftPlace}
 use Rattle.layout.specs.Places.{Places, freeCount, allocate}
 use Rattle.layout.specs.WellFormed.{WellFormed}
 use Rattle.layout.proofs.RenderWordLaws.{pool-anchor}
-use Rattle.freemap.specs.FreeMap.{
-  mapNodes,
-  mapCount,
-  mapBit,
-  oneIf,
-  tally,
-  freeIn,
-  put,
-  MapOf,
-  Sound,
-  FreeMap,
-  Lowest,
-}
-use Rattle.freemap.proofs.CountLaws.{count-zero, count-suc, count-put}
-use Rattle.freemap.proofs.MapLaws.{map-as, in-map, not-in-map}
-use Rattle.plan.specs.Plan.{freeAt, freeTo, freePlace, leftFree, Drawn, Draws}
-use Rattle.plan.proofs.FreeNumbers.{next-none, free-zero, zero-free, size-is}
-
--- FREE PLACES
-pub place-is : (os : Places) (m : ℕ) → freePlace os m ≡ true → (m < length os) × (getD os m none ≡ none)
-place-is [] m t = absurd (clash t refl)
-place-is (none ∷ os) zero t = (omega arith, refl)
-place-is (some p ∷ os) zero t = absurd (clash t refl)
-place-is (none ∷ os) (suc m) t = let (a, b) = place-is os m t in (omega arith, b)
-place-is (some p ∷ os) (suc m) t = let (a, b) = place-is os m t in (omega arith, b)
-
-pub is-place : (os : Places) (m : ℕ) → m < length os → getD os m none ≡ none → freePlace os m ≡ true
-is-place [] m h e = absurd (omega arith)
-is-place (none ∷ os) zero h e = refl
-is-place (some p ∷ os) zero h e = let z : _≡_ {A = ℕ} 0 1 = cc in absurd (omega arith)
-is-place (none ∷ os) (suc m) h e = is-place os m (omega arith) e
-is-place (some p ∷ os) (suc m) h e = is-place os m (omega arith) e
+use Rattle.freemap.specs.FreeMap as F
+use Rattle.freemap.specs.FreeMap.{mapNodes, mapCount, tally, MapOf}
+use Rattle.freemap.proofs.CountLaws.{count-zero, count-suc}
+use Rattle.freemap.proofs.MapLaws.{map-as}
+use Rattle.freemap.proofs.DrawLaws as D
+use Rattle.freenodes.specs.FreeNodes.{freeIn, FreeMap}
+use Rattle.plan.specs.Plan.{freeAt, freeBefore, freePlace, leftFree, Drawn, Draws}
+use Rattle.blocks.proofs.FreeNumberLaws.{place-is, is-place, to-suc, to-all, next-none, left-new-at}
+use Rattle.plan.proofs.FreeNumbers.{free-zero, zero-free, size-is}
 
 -- COUNTING
-to-suc : (os : Places) (m : ℕ) → freeTo os (suc m) ≡ freeTo os m + oneIf (freePlace os m)
-to-suc [] zero = refl
-to-suc [] (suc m) = refl
-to-suc (none ∷ os) zero = refl
-to-suc (some p ∷ os) zero = refl
-to-suc (none ∷ os) (suc m) = omega (arith, to-suc os m)
-to-suc (some p ∷ os) (suc m) = to-suc os m
-
-to-more : (os : Places) (x d : ℕ) → freeTo os x ≤ freeTo os (x + d)
-to-more os x zero = let e : x + 0 ≡ x = omega arith in rw e (omega arith)
-to-more os x (suc d) = let e : x + suc d ≡ suc (x + d) = omega arith in rw e (omega (arith, to-suc os (x + d), to-more os x d))
-
-to-mono : (os : Places) (x y : ℕ) → x ≤ y → freeTo os x ≤ freeTo os y
-to-mono os x y h = let e : x + (y - x) ≡ y = omega arith in
-    subst (λ (z : ℕ). freeTo os x ≤ freeTo os z) e (to-more os x (y - x))
-
-to-all : (os : Places) (m : ℕ) → length os ≤ m → freeTo os m ≡ freeCount os
-to-all [] zero h = refl
-to-all [] (suc m) h = refl
-to-all (none ∷ os) zero h = absurd (omega arith)
-to-all (some p ∷ os) zero h = absurd (omega arith)
-to-all (none ∷ os) (suc m) h = ap suc (to-all os m (omega arith))
-to-all (some p ∷ os) (suc m) h = to-all os m (omega arith)
-
-to-count : (os : Places) (m : ℕ) → tally (freePlace os) m ≡ freeTo os m
+to-count : (os : Places) (m : ℕ) → tally (freePlace os) m ≡ freeBefore os m
 to-count os zero = count-zero (freePlace os)
 to-count os (suc m) = omega (arith, count-suc (freePlace os) m, to-count os m, to-suc os m)
 
 pub count-free : (os : Places) {ms : List ℕ} → length os ≤ mapNodes → MapOf (freePlace os) ms → getD ms mapCount 0 ≡ freeCount os
 count-free os h M = M .count-is ∙ (to-count os mapNodes ∙ to-all os mapNodes h)
 
--- no place below m is free with k free ones before it
-few-before : (os : Places) (k m : ℕ) → ((x : ℕ) → x < m → leftFree os k x ≡ false) → freeTo os m ≤ k
-few-before os k zero f = omega arith
-few-before os k (suc m) f = byT (freePlace os m)
-    (λ t. let lt : freeTo os m < k = leb-false k (freeTo os m)
-    (is-false (λ z. clash (both-i t z) (f m (omega arith)))) in
-    let one : oneIf (freePlace os m) ≡ 1 = rw t in omega (arith, to-suc os m))
-    (λ t. let none : oneIf (freePlace os m) ≡ 0 = rw t in
-    omega (arith, to-suc os m, few-before os k m (λ x l. f x (omega arith))))
-
--- ONE NUMBER DRAWN: the lowest in the map
-module _ (os : Places) (k : ℕ) (nums ms : List ℕ) (D : Drawn os k nums ms) (r : ℕ) (low : Lowest ms r) (lt : r < mapNodes) where
-  below : (x : ℕ) → x < r → leftFree os k x ≡ false
-  below x h = not-in-map (D .left) x (omega arith) (low .first x h)
-
-  here : leftFree os k r ≡ true
-  here = in-map (D .left) r lt (low .on lt)
-
-  is-free : freePlace os r ≡ true
-  is-free = both-l (freePlace os r) (leb k (freeTo os r)) here
-
-  before-it : freeTo os r ≡ k
-  before-it = omega (
-    arith,
-    leb-true k (freeTo os r) (both-r (freePlace os r) (leb k (freeTo os r)) here),
-    few-before os k r below,
-  )
-
-  number-is : freeAt os k ≡ r
-  number-is = let (a, b) = place-is os r is-free in ap (freeAt os) (sym before-it) ∙ next-none os r a b .1
-
-  left-is : (x : ℕ) → x < mapNodes → put (leftFree os k) r false x ≡ leftFree os (k + 1) x
-  left-is x h = byT (eqb x r)
-      (λ t. let q : x ≡ r = eqb-true _ _ t in
-      rw (t, q, lt-leb (k + 1) (freeTo os r) (omega (arith, before-it))) (sym (both-no (freePlace os r))))
-      (λ t. let ne : x ≡ r → ⊥ = eqb-false _ _ t in
-      rw t (iff (leftFree os k x) (leftFree os (k + 1) x) (more ne)
-      (λ y. both-i (both-l (freePlace os x) (leb (k + 1) (freeTo os x)) y)
-      (le-leb k (freeTo os x) (omega (
-        arith,
-        leb-true (k + 1) (freeTo os x)
-            (both-r (freePlace os x) (leb (k + 1) (freeTo os x)) y),
-      ))))))
-    where
-      more : (x ≡ r → ⊥) → leftFree os k x ≡ true → leftFree os (k + 1) x ≡ true
-      more ne y = byT (ltb x r) (λ z. absurd (clash y (below x (ltb-true _ _ z))))
-          (λ z. let one : oneIf (freePlace os r) ≡ 1 = rw is-free in
-          let g : r < x = omega (arith, ltb-false x r z) in
-          both-i (both-l (freePlace os x) (leb k (freeTo os x)) y) (le-leb (k + 1) (freeTo os x)
-          (omega (arith, to-mono os (suc r) x g, to-suc os r, before-it))))
-
-  pub drawn-next : (ms′ : List ℕ) → ((f : ℕ → Bool) → MapOf f ms → MapOf (put f r false) ms′) → k < length nums →
-      Drawn os (k + 1) (set nums k r) ms′
-  drawn-next ms′ took room = record {
-    numbers = λ j l. byT (eqb j k)
-        (λ t. let q : j ≡ k = eqb-true _ _ t in rw q (getD-set-same nums k r 0 room ∙ sym number-is))
-        (λ t. let ne : j ≡ k → ⊥ = eqb-false _ _ t in getD-set-other nums k j r 0 ne ∙ D .numbers j (omega arith));
-    left = map-as (took (leftFree os k) (D .left)) (leftFree os (k + 1)) left-is;
+-- NUMBERS DRAWN are those that new nodes take
+module _ (os : Places) (k : ℕ) (nums ms : List ℕ) where
+  pub drawn-places : F.Drawn (freePlace os) k nums ms → Drawn os k nums ms
+  drawn-places d = record {
+    numbers = λ j l. let (a, b) = place-is os (getD nums j 0) (d .is-free j l) in
+        sym (ap (freeAt os) (sym (d .before j l) ∙ to-count os (getD nums j 0)) ∙ next-none os (getD nums j 0) a b .1);
+    left = map-as (d .left) (leftFree os k)
+        (λ x _. ap (λ (c : ℕ). both (freePlace os x) (leb k c)) (to-count os x));
   }
 
 pub drawn-none : (os : Places) (nums ms : List ℕ) → MapOf (freePlace os) ms → Drawn os 0 nums ms
-drawn-none os nums ms M = record {
-  numbers = λ j l. absurd (omega arith);
-  left = map-as M (leftFree os 0) (λ x _. sym (rw (le-leb 0 (freeTo os x) (omega arith)) (both-yes (freePlace os x))));
-}
-
--- a number taken is one less in the count
-pub took-count : {ms ms′ : List ℕ} (S : Sound ms) (m : ℕ) → m < mapNodes → mapBit ms m ≡ 1 →
-    ((f : ℕ → Bool) → MapOf f ms → MapOf (put f m false) ms′) → getD ms′ mapCount 0 + 1 ≡ getD ms mapCount 0
-took-count S m lt on took =
-    let one : oneIf (S .free m) ≡ 1 = sym (S .is .bits m lt) ∙ on in
-    let none : oneIf false ≡ 0 = refl in
-    omega (arith, took (S .free) (S .is) .count-is, S .is .count-is, count-put (S .free) m false mapNodes lt)
+drawn-none os nums ms M = drawn-places os 0 nums ms (D.drawn-none (freePlace os) nums ms M)
 
 -- what drawing comes to
-module _ (os : Places) (need : ℕ) (nums ms : List ℕ) (h : length os ≤ mapNodes) (M : MapOf (freePlace os) ms) where
-  pub draws-none : getD ms mapCount 0 < need → Draws os need nums ms ms false
-  draws-none lt = record {
-    enough = λ z. absurd (clash z refl);
-    drawn = λ z. absurd (clash z refl);
-    short = λ z. omega (arith, count-free os h M);
-    same = λ z. refl;
-  }
-
-  pub draws-all : (ms′ : List ℕ) → need ≤ getD ms mapCount 0 → Drawn os need nums ms′ → Draws os need nums ms ms′ true
-  draws-all ms′ le d = record {
-    enough = λ z. omega (arith, count-free os h M);
-    drawn = λ z. d;
-    short = λ z. absurd (clash refl z);
-    same = λ z. absurd (clash refl z);
-  }
+pub draws-places : (os : Places) (need : ℕ) (nums ms ms′ : List ℕ) (r : Bool) → length os ≤ mapNodes →
+    MapOf (freePlace os) ms → F.Draws (freePlace os) need nums ms ms′ r → Draws os need nums ms ms′ r
+draws-places os need nums ms ms′ r h M d = record {
+  enough = λ z. omega (arith, d .enough z, count-free os h M);
+  drawn = λ z. drawn-places os need nums ms′ (d .drawn z);
+  short = λ z. omega (arith, d .short z, count-free os h M);
+  same = d .same;
+}
 
 -- WHAT IS LEFT when as many new nodes have their numbers
-left-new-at : (os : Places) (ps : List Node) (m : ℕ) → leftFree os (length ps) m ≡ freePlace (allocate os ps) m
-left-new-at [] ps m = refl
-left-new-at (some q ∷ os) ps zero = refl
-left-new-at (some q ∷ os) ps (suc m) = left-new-at os ps m
-left-new-at (none ∷ os) [] zero = le-leb 0 0 (omega arith)
-left-new-at (none ∷ os) [] (suc m) =
-    ap (both (freePlace os m)) (le-leb 0 (suc (freeTo os m)) (omega arith) ∙ sym (le-leb 0 (freeTo os m) (omega arith))) ∙
-    left-new-at os [] m
-left-new-at (none ∷ os) (p ∷ ps) zero = lt-leb (suc (length ps)) 0 (omega arith)
-left-new-at (none ∷ os) (p ∷ ps) (suc m) =
-    ap (both (freePlace os m)) (iff (leb (suc (length ps)) (suc (freeTo os m))) (leb (length ps) (freeTo os m))
-    (λ t. le-leb (length ps) (freeTo os m) (omega (arith, leb-true (suc (length ps)) (suc (freeTo os m)) t)))
-    (λ t. le-leb (suc (length ps)) (suc (freeTo os m)) (omega (arith, leb-true (length ps) (freeTo os m) t)))) ∙
-    left-new-at os ps m
-
 pub left-new : (os : Places) (ps : List Node) (ms : List ℕ) → MapOf (leftFree os (length ps)) ms →
     MapOf (freePlace (allocate os ps)) ms
 left-new os ps ms M = map-as M (freePlace (allocate os ps)) (λ m _. left-new-at os ps m)

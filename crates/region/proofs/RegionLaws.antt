@@ -10,11 +10,12 @@ use lib.ListN.{length, getD}
 use lib.Seq.{ext-getD}
 use borrow.Author.Tests.{eqb-true, eqb-false, eq-eqb}
 use Rattle.blocks.specs.Choice.{pick}
+use Rattle.blocks.specs.Lists.{equal}
 use Rattle.blocks.proofs.BoolLaws.{clash, byT, is-false, either-e, either-yes}
+use Rattle.blocks.proofs.ListLaws.{equal-self, is-equal}
 use Rattle.crc32c.specs.Crc.{crc32c}
-use Rattle.region.specs.Region.{Comparison, Nothing, Matched, Different, equal, anyEmpty, compare, number, compared}
+use Rattle.region.specs.Region.{Comparison, Nothing, Matched, Different, anyEmpty, compare, number, compared}
 use Rattle.region.specs.Claims.{Match, AnyEmpty}
-use Rattle.region.proofs.SpreadLaws.{equal-is, equal-self}
 
 -- ---- what the code decides
 
@@ -35,7 +36,7 @@ module _ (old new : List ℕ) where
     not-equal g = none-empty ∙ ap (λ (q : Bool). pick q Matched Different) g
 
     pub lengths-differ : (length old ≡ length new → ⊥) → compare old new ≡ Different
-    lengths-differ d = not-equal (is-false (λ t. d (ap length (equal-is old new t))))
+    lengths-differ d = not-equal (is-false (λ t. d (ap length (is-equal old new t))))
 
 -- ---- the answers are three
 
@@ -86,7 +87,7 @@ matched-exactly old new = (
   λ e. byT (anyEmpty old new) (λ x. absurd (apart (sym (some-empty old new x) ∙ e) (λ z. omega arith))) (λ g.
       byT (equal old new)
       (λ t.
-      let q : old ≡ new = equal-is old new t in
+      let q : old ≡ new = is-equal old new t in
       record {
         old-some = old-long old new g;
         new-some = new-long old new g;

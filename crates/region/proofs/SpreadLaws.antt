@@ -1,7 +1,6 @@
 -- The bits that the loop gathers are 0 exactly if the bytes so far are equal. Assumes nothing.
 use mathlib.Core.Path.{_≡_, refl, sym, ap, ap₂, _∙_}
-use mathlib.Core.Bool.{true}
-use mathlib.Core.List.{List, [], _∷_}
+use mathlib.Core.List.{List}
 use Prim.Native.Nat.{ℕ, zero, suc, _<_}
 use native.Mathlib.Nat.{not-suc-le-zero}
 use native.Mathlib.Omega.{arith}
@@ -10,9 +9,10 @@ use lib.Bits.{bitXor, bitOr, or-add-and, and-le-l, and-le-r, xor-self}
 use lib.ListN.{length, getD}
 use lib.Seq.{ext-getD}
 use borrow.Author.Tests.{eqb-true, eqb-false, eq-eqb}
-use Rattle.blocks.proofs.BoolLaws.{clash, byT, iff, both-l, both-r}
+use Rattle.blocks.proofs.BoolLaws.{byT, iff}
+use Rattle.blocks.specs.Lists.{equal}
+use Rattle.blocks.proofs.ListLaws.{equal-self, is-equal}
 use Rattle.crc32c.proofs.XorLaws.{xor-twice}
-use Rattle.region.specs.Region.{equal}
 use Rattle.region.specs.Spread.{spread}
 
 -- ---- bits
@@ -25,19 +25,6 @@ or-none-r a b e = omega (arith, or-add-and a b, and-le-l a b, and-le-r a b)
 
 xor-none : (a b : ℕ) → bitXor a b ≡ 0 → a ≡ b
 xor-none a b e = sym (xor-twice a b) ∙ ap (λ (x : ℕ). bitXor x b) e
-
--- ---- the test is equality
-
-pub equal-is : (a b : List ℕ) → equal a b ≡ true → a ≡ b
-equal-is [] [] t = refl
-equal-is [] (y ∷ ys) t = absurd (clash t refl)
-equal-is (x ∷ xs) [] t = absurd (clash t refl)
-equal-is (x ∷ xs) (y ∷ ys) t =
-    ap₂ (λ (z : ℕ) (zs : List ℕ). z ∷ zs) (eqb-true x y (both-l (eqb x y) (equal xs ys) t)) (equal-is xs ys (both-r (eqb x y) (equal xs ys) t))
-
-pub equal-self : (a : List ℕ) → equal a a ≡ true
-equal-self [] = refl
-equal-self (x ∷ xs) = rw (eq-eqb x x refl) (equal-self xs)
 
 -- ---- the loop
 
@@ -58,4 +45,4 @@ pub spread-equal : (a b : List ℕ) → length a ≡ length b → eqb (spread a 
 spread-equal a b e =
     iff (eqb (spread a b (length a)) 0) (equal a b)
     (λ t. rw (ext-getD 0 a b e (spread-none a b (length a) (eqb-true (spread a b (length a)) 0 t))) (equal-self b))
-    (λ t. rw (sym (equal-is a b t)) (eq-eqb (spread a a (length a)) 0 (spread-same a (length a))))
+    (λ t. rw (sym (is-equal a b t)) (eq-eqb (spread a a (length a)) 0 (spread-same a (length a))))

@@ -1,21 +1,15 @@
 -- Whether a new region holds what the old one held, and the number of that for a host (R165 to R169). Assumes nothing: these are definitions.
-use mathlib.Core.Bool.{Bool, true, false}
-use mathlib.Core.List.{List, [], _∷_}
+use mathlib.Core.Bool.{Bool}
+use mathlib.Core.List.{List}
 use Prim.Native.Nat.{ℕ}
 use lib.Dec.{eqb}
 use lib.ListN.{length}
-use Rattle.blocks.specs.Choice.{pick, both, either}
+use Rattle.blocks.specs.Choice.{pick, either}
+use Rattle.blocks.specs.Lists.{equal}
 use Rattle.crc32c.specs.Crc.{crc32c}
 pub use Rattle.region.specs.declared.Comparison.{Comparison}
 pub use Rattle.region.specs.declared.Comparison.the-variants.{Nothing, Matched, Different}
 pub use Rattle.region.specs.declared.Compared.{Compared}
-
--- the same number of bytes, and the same bytes
-abbrev pub equal : List ℕ → List ℕ → Bool
-equal [] [] = true
-equal [] (y ∷ ys) = false
-equal (x ∷ xs) [] = false
-equal (x ∷ xs) (y ∷ ys) = both (eqb x y) (equal xs ys)
 
 -- R165: a region without a byte, old or new, leaves nothing to compare
 abbrev pub anyEmpty : (old new : List ℕ) → Bool

@@ -1,7 +1,8 @@
 // Whether a new region holds what the old one held (R165 to R169).
 ghost use mathlib.Core.Path.{_≡_};
 ghost use lib.ListN.{length};
-ghost use Rattle.region.specs.Region.{equal, anyEmpty, compare, number, compared};
+ghost use Rattle.blocks.specs.Lists.{equal};
+ghost use Rattle.region.specs.Region.{anyEmpty, compare, number, compared};
 
 pub enum Comparison {
     Nothing,

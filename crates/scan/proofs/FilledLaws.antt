@@ -8,15 +8,20 @@ use lib.Dec.{eqb, ltb}
 use lib.Bits.{bitAnd}
 use borrow.Author.Tests.{eqb-true, eq-eqb, ltb-true, ltb-false}
 use Rattle.blocks.specs.Choice.{pick}
-use Rattle.blocks.specs.Blocks.{bit}
-use Rattle.blocks.proofs.BoolLaws.{byT}
+use Rattle.blocks.specs.Blocks.{bit, NextBit}
+use Rattle.blocks.proofs.BoolLaws.{byT, decide-eqb}
 use Rattle.tree.specs.Tree.{slots}
-use Rattle.layout.specs.Pool.{Pool}
+use Rattle.layout.specs.Pool.{Pool, slotAt}
 use Rattle.layout.specs.Reading.{Decides}
 use Rattle.scan.specs.Passes.{fillBit, FilledFrom, Filled, NoLoose}
-use Rattle.layout.proofs.PassLaws.{decide-eqb}
 use Rattle.decode.proofs.CoverLaws.{bit-suc}
-use Rattle.scan.proofs.WordLaws.{join-low, join-high, among-clear, clear-among}
+use Rattle.steps.proofs.WordLaws.{join-low, join-high, among-clear, clear-among}
+use Rattle.layout.specs.declared.Slot.{Slot}
+use Rattle.layout.specs.declared.Slot.the-variants.{Empty}
+use Rattle.layout.proofs.SaysLaws.{said}
+use Rattle.local.specs.Local.{SlotOk, SlotsOk}
+use Rattle.steps.specs.Steps.{AllMarks}
+use Rattle.steps.proofs.StepLaws.{Gone, empty-not-held}
 
 -- SIXTEEN SLOTS
 pub zero-one : (w r : ℕ) → r ≡ pick (eqb w 0) 1 0 → r ≤ 1
@@ -110,3 +115,26 @@ module _ (P : Pool) (n : ℕ) where
       decide-eqb (bitAnd (2 ^ 64 - 1 - f) m) 0
       (λ e j lt z. among-clear f m h e j lt (o j lt ∙ empty-bit j z))
       (λ g. clear-among f m h fm (λ j lt b. g j lt (bit-empty f o j lt b)))
+
+-- FROM ONE FILLED SLOT TO THE NEXT
+module _ (P : Pool) (n v : ℕ) where
+  -- where f has the filled slots, and m the marks
+  module _ (f m : ℕ) (fill : Filled P n f) (am : AllMarks P n m) where
+    pub gap-clear : SlotsOk P n v → (j : ℕ) → j < slots → bit j f ≡ 0 → bit j m ≡ 0
+    gap-clear s j lt b = am .cleared j
+        (subst (λ (κ : Slot). SlotOk P n v j κ) (said (P .slot n j) Empty (bit-empty P n f fill j lt b)) (s j lt))
+
+    pub gone-past : (j o : ℕ) → Gone P n v j → ((i : ℕ) → i < slots → bit i f ≡ 0 → bit i m ≡ 0) → NextBit slots f j o → Gone P n v o
+    gone-past j o g clear x = record {
+      inside = x .most;
+      ok = λ k lt. byT (ltb k j) (λ t. g .ok k (ltb-true k j t))
+          (λ t. let a : j ≤ k = ltb-false k j t in
+          subst (λ (κ : Slot). SlotOk P n v k κ) (sym (empty-at k a lt))
+          (am .clear k (clear k (omega (arith, x .most)) (x .first k a lt))));
+      past = λ q lt held. byT (ltb q j)
+          (λ t. omega (arith, g .past q (ltb-true q j t) held, x .past))
+          (λ t. absurd (empty-not-held P n v q (empty-at q (ltb-false q j t) lt) held));
+    }
+      where
+        empty-at : (k : ℕ) → j ≤ k → k < o → slotAt P n k ≡ Empty
+        empty-at k a lt = said (P .slot n k) Empty (bit-empty P n f fill k (omega (arith, x .most)) (x .first k a lt))

@@ -11,19 +11,20 @@ use lib.Bits.{bitAnd, bitOr, or-lt, or-add-and, and-le-l, and-le-r, and-shr}
 use borrow.Author.Tests.{eqb-true, eqb-false, eq-eqb, ne-eqb, ltb-true, ltb-false}
 use Rattle.blocks.specs.Choice.{pick}
 use Rattle.blocks.specs.Blocks.{bit, countTo, NextBit}
-use Rattle.blocks.proofs.BoolLaws.{byT, clash}
+use Rattle.blocks.proofs.BoolLaws.{byT, clash, decide-eqb}
 use Rattle.blocks.proofs.CountLaws.{count-le, count-none, count-all, count-split, count-zero}
 use Rattle.blocks.proofs.TwoWordLaws.{or-bit, and-odd}
 use Rattle.tree.specs.Tree.{slots}
 use Rattle.layout.specs.Words.{slotPlace, filledOf}
 use Rattle.layout.specs.Pool.{Pool, poolOf}
 use Rattle.layout.specs.Reading.{Decides, Internal, Plain}
-use Rattle.layout.proofs.PassLaws.{decide-eqb}
-use Rattle.scan.specs.Local.{SlotsOk, UsedFrom}
-use Rattle.scan.specs.Passes.{AllMarks, fillBit, Filled, filledTo, Lowest, OddTo, PlainFilled, NoLoose, Stepped, SlotsFilled}
-use Rattle.scan.proofs.PassLaws.{used-of, unused-of}
+use Rattle.local.specs.Local.{SlotsOk, UsedFrom}
+use Rattle.steps.specs.Steps.{AllMarks, filledTo, Stepped, SlotsFilled}
+use Rattle.scan.specs.Passes.{fillBit, Filled, LowestBit, OddTo, PlainFilled, NoLoose}
+use Rattle.scan.proofs.UsedLaws.{used-of, unused-of}
 use Rattle.scan.proofs.FilledLaws.{bit-empty}
-use Rattle.scan.proofs.StepLaws.{Gone, gone-start, gone-on, gone-past}
+use Rattle.steps.proofs.StepLaws.{Gone, gone-start, gone-on}
+use Rattle.scan.proofs.FilledLaws.{gone-past}
 
 -- all have it
 count-full : (f : ℕ → Bool) (m : ℕ) → countTo f m ≡ m → (j : ℕ) → j < m → f j ≡ true
@@ -47,7 +48,7 @@ pub odd-all : (P : Pool) (n o : ℕ) → slots ≤ o → OddTo P n o → OddTo P
 odd-all P n o h f k lt = f k (omega arith)
 
 -- THE LOWEST BIT OF A WORD
-pub lowest-zero : (w : ℕ) → w ≡ 0 → Lowest w 0
+pub lowest-zero : (w : ℕ) → w ≡ 0 → LowestBit w 0
 lowest-zero w e = record {
   most = omega arith;
   none = λ z. refl;
@@ -56,7 +57,7 @@ lowest-zero w e = record {
   plain = λ z. refl;
 }
 
-pub lowest-of : (w : ℕ) → w < 2 ^ 64 → w ≢ 0 → Lowest w (bitAnd w (2 ^ 64 - 1 - w + 1))
+pub lowest-of : (w : ℕ) → w < 2 ^ 64 → w ≢ 0 → LowestBit w (bitAnd w (2 ^ 64 - 1 - w + 1))
 lowest-of w f z = record {
   most = omega (arith, l, r);
   none = λ e. absurd (z e);
@@ -100,7 +101,7 @@ lowest-of w f z = record {
     min-r x y e = omega arith
 
 -- 1 for a word that is not 0
-filled-one : (w u : ℕ) → Lowest w u → (u + 9223372036854775807) / 2 ^ 63 ≡ pick (not (eqb w 0)) 1 0
+filled-one : (w u : ℕ) → LowestBit w u → (u + 9223372036854775807) / 2 ^ 63 ≡ pick (not (eqb w 0)) 1 0
 filled-one w u o =
     byT (eqb w 0)
     (λ t. rw t (omega (arith, o .none (eqb-true w 0 t))))
@@ -134,7 +135,7 @@ module _ (ws : List ℕ) (n : ℕ) where
     few = omega arith;
   }
 
-  pub passed-next : (a o y c w u : ℕ) → Passed a o y c → w ≡ getD ws (slotPlace n o) 0 → Lowest w u →
+  pub passed-next : (a o y c w u : ℕ) → Passed a o y c → w ≡ getD ws (slotPlace n o) 0 → LowestBit w u →
       Passed a (o + 1) (bitOr y u) (c + (u + 9223372036854775807) / 2 ^ 63)
   passed-next a o y c w u g e low =
       let b : bit 1 (bitOr y u) ≡ max (bit 1 y) (bit 1 u) = or-bit y u 1 in

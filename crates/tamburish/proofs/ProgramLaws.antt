@@ -5,10 +5,11 @@ use mathlib.Core.List.{List, [], _∷_}
 use native.Mathlib.Omega.{arith}
 use lib.ListN.{length, drop, set}
 use borrow.Author.Tests.{lt-ltb, le-ltb}
-use Rattle.xapool.specs.declared.Result.{Result}
-use Rattle.xapool.specs.Calls.{Called, badRecord, refuseCall, run}
-use Rattle.xapool.specs.Demand.{Call.init, wordsAfter}
-use Rattle.xapool.specs.Refusal.{
+use Rattle.calls.specs.Calls.{Called, refuseCall, run}
+use Rattle.answers.specs.declared.Result.{Result}
+use Rattle.answers.specs.Answers.{badBatch}
+use Rattle.calls.specs.Demand.{Call.init, wordsAfter}
+use Rattle.calls.specs.Refusal.{
   CallRow,
   CallRow.row-1,
   CallRow.row-2,
@@ -16,7 +17,7 @@ use Rattle.xapool.specs.Refusal.{
   CallRow.row-4,
   CallRow.row-0,
 }
-use Rattle.xapool.proofs.RefusalLaws.{call-row}
+use Rattle.calls.proofs.RefusalLaws.{call-row}
 use Rattle.tamburish.specs.Program.{maxInput, ran, refusalSize, refusalOver, sizeFor, spaceFor, size, space}
 
 -- six bytes set one by one
@@ -76,12 +77,12 @@ unfolding ran
 ran-is ws ws₁ bs rs h e = rw (le-ltb maxInput (length bs) h) (ap (λ (w : List ℕ). run w bs rs) e)
 
 -- a batch that is too long
-ran-long : (ws bs rs : List ℕ) → maxInput < length bs → refuseCall ws rs badRecord maxInput ≡ ran ws bs rs
+ran-long : (ws bs rs : List ℕ) → maxInput < length bs → refuseCall ws rs badBatch maxInput ≡ ran ws bs rs
 unfolding ran
 ran-long ws bs rs h = rw (lt-ltb maxInput (length bs) h)
 
 pub long : (ws bs rs : List ℕ) → maxInput < length bs → refusalSize ≤ length rs → {r : ℕ} {rs′ : List ℕ} → r ≡ refusalSize →
-    rs′ ≡ refusalOver badRecord maxInput rs → Responds ws bs rs r ws rs′
+    rs′ ≡ refusalOver badBatch maxInput rs → Responds ws bs rs r ws rs′
 long ws bs rs h room {r} e g = (
   e ∙ ap size (ran-long ws bs rs h),
   (omega arith, (g ∙ ap space (ran-long ws bs rs h), ap (λ (c : Called). c .words) (ran-long ws bs rs h))),

@@ -1,7 +1,6 @@
 -- What the program writes, by the bytes that it read alone (R3, R56, R230): with a pool of 40 nodes and 17,856 bytes for replies.
-use Prim.Native.Nat.{ℕ, zero, suc, _+_, _*_, _-_, _/_, _≤_, _<_}
+use Prim.Native.Nat.{ℕ, zero, suc, _+_, _*_, _-_, _≤_, _<_}
 use mathlib.Core.Path.{_≡_, refl, sym, ap, subst, _∙_}
-use mathlib.Core.Bool.{Bool, true, false}
 use mathlib.Core.Logic.{_≢_}
 use mathlib.Core.List.{List, [], _∷_, _++_}
 use native.Mathlib.Omega.{arith}
@@ -9,10 +8,8 @@ use lib.Dec.{ltb, eqb}
 use lib.ListN.{length, getD, take, drop}
 use borrow.Author.Tests.{lt-ltb, le-ltb, ltb-true, ltb-false}
 use Rattle.blocks.proofs.BoolLaws.{byT}
-use Rattle.model.specs.declared.Entry.{Entry}
 use Rattle.layout.specs.Words.{poolWords}
-use Rattle.layout.specs.Decide.{nodeCount, isSized}
-use Rattle.verify.specs.Answers.{initAnswer, initWords}
+use Rattle.verify.specs.Answers.{initWords}
 use Rattle.batch.specs.declared.Command.{Command}
 use Rattle.batch.specs.declared.Cursor.{Cursor}
 use Rattle.batch.specs.declared.Read.{Read}
@@ -32,12 +29,13 @@ use Rattle.batch.specs.Batch.{
   parse,
 }
 use Rattle.batch.specs.Reply.{replyBytes}
-use Rattle.batch.proofs.ParseLaws.{WasRead, was-read, Whole, whole, Onward, next-after, not-refused, parse-long, parse-rest}
-use Rattle.xapool.specs.Calls.{Called, badRecord, refuseCall, replies, run, runParsed}
-use Rattle.xapool.specs.Demand.{Call.init, wordsAfter, Starts.fresh}
+use Rattle.batch.proofs.ParseLaws.{WasRead, was-read, whole, Onward, next-after, not-refused, parse-long, parse-rest}
+use Rattle.calls.specs.Calls.{refuseCall, replies, run, runParsed}
+use Rattle.answers.specs.Answers.{badBatch}
+use Rattle.calls.specs.Demand.{Starts.fresh}
 use Rattle.decode.proofs.DecodeLaws.{decode-list}
-use Rattle.xapool.proofs.DemandLaws.{run-as, Started, started}
-use Rattle.xapool.proofs.RunningLaws.{replies-length}
+use Rattle.calls.proofs.DemandLaws.{run-as, Started, started}
+use Rattle.calls.proofs.RunningLaws.{replies-length}
 use Rattle.tamburish.specs.Program.{
   maxInput,
   ran,
@@ -126,7 +124,7 @@ module _ (ws bs rs : List ℕ) (pool : length ws ≡ poolWords programNodes) (ou
   by-parse : (q : Parsed) → parse bs ≡ q → length bs ≤ maxInput →
       take (size (runParsed programNodes (initWords ws) rs q)) (space (runParsed programNodes (initWords ws) rs q)) ≡ writtenFor q
   unfolding refusalOver
-  by-parse (Parsed.refused at) e h = take-first (refusalBytes badRecord at) (drop refusalSize rs) 6 refl
+  by-parse (Parsed.refused at) e h = take-first (refusalBytes badBatch at) (drop refusalSize rs) 6 refl
   by-parse (Parsed.commands cs) e h =
       let f : 11 * length cs ≤ length bs = few bs cs e in
       let r : replyBytes * length cs ≤ length rs = omega arith in
@@ -138,7 +136,7 @@ module _ (ws bs rs : List ℕ) (pool : length ws ≡ poolWords programNodes) (ou
   unfolding ran
   ran-is h = rw (le-ltb maxInput (length bs) h)
 
-  ran-long : maxInput < length bs → ran ws bs rs ≡ refuseCall ws rs badRecord maxInput
+  ran-long : maxInput < length bs → ran ws bs rs ≡ refuseCall ws rs badBatch maxInput
   unfolding ran
   ran-long h = rw (lt-ltb maxInput (length bs) h)
 
@@ -148,7 +146,7 @@ module _ (ws bs rs : List ℕ) (pool : length ws ≡ poolWords programNodes) (ou
   program-writes =
       byT (ltb maxInput (length bs))
       (λ t. let e = ran-long (ltb-true _ _ t) in
-      rw (t, e) (take-first (refusalBytes badRecord maxInput) (drop refusalSize rs) 6 refl))
+      rw (t, e) (take-first (refusalBytes badBatch maxInput) (drop refusalSize rs) 6 refl))
       (λ t. let h : length bs ≤ maxInput = ltb-false _ _ t in
       let e = ran-is h in
       rw (t, e, runs) (by-parse (parse bs) refl h))

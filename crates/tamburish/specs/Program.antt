@@ -5,8 +5,9 @@ use lib.Dec.{ltb}
 use lib.ListN.{length, drop}
 use Rattle.blocks.specs.Choice.{pick}
 use Rattle.batch.specs.Batch.{Parsed, Parsed.commands, Parsed.refused, parse}
-use Rattle.xapool.specs.Calls.{Called, badRecord, refuseCall, replies, run}
-use Rattle.xapool.specs.Demand.{Call.init, wordsAfter}
+use Rattle.calls.specs.Calls.{Called, refuseCall, replies, run}
+use Rattle.answers.specs.Answers.{badBatch}
+use Rattle.calls.specs.Demand.{Call.init, wordsAfter}
 
 -- R230: the longest batch that the program takes
 abbrev pub maxInput : ℕ
@@ -14,7 +15,7 @@ maxInput = 8192
 
 -- the call: a batch that is too long is refused; else the pool is initialised, then the batch runs
 unfoldable pub ran : (pool batch reply : List ℕ) → Called
-ran ws bs rs = pick (ltb maxInput (length bs)) (refuseCall ws rs badRecord maxInput) (run (wordsAfter ws init) bs rs)
+ran ws bs rs = pick (ltb maxInput (length bs)) (refuseCall ws rs badBatch maxInput) (run (wordsAfter ws init) bs rs)
 
 abbrev pub refusalSize : ℕ
 refusalSize = 6
@@ -58,9 +59,9 @@ outputBytes = 17856
 -- the replies of the model on a pool of 40 nodes, from an empty list on
 
 abbrev pub writtenFor : Parsed → List ℕ
-writtenFor (refused at) = refusalBytes badRecord at
+writtenFor (refused at) = refusalBytes badBatch at
 writtenFor (commands cs) = replies programNodes [] cs
 
 -- R56, R230
 abbrev pub written : List ℕ → List ℕ
-written bs = pick (ltb maxInput (length bs)) (refusalBytes badRecord maxInput) (writtenFor (parse bs))
+written bs = pick (ltb maxInput (length bs)) (refusalBytes badBatch maxInput) (writtenFor (parse bs))

@@ -1,5 +1,7 @@
 // The program: a pool of 40 nodes just initialised, one batch from standard input, its replies to standard output. A
 // refused call is one record of six bytes: tag 255, length 3, the answer, and the place in two bytes (R56).
+use answers::BAD_BATCH;
+use answers::DONE;
 ghost use Prim.Native.Nat.{_≤_};
 ghost use mathlib.Core.Path.{_≡_};
 ghost use lib.ListN.{length, take};
@@ -18,8 +20,6 @@ const OUTPUT_BYTES: usize = 17856;
 const REPLY_BYTES: u64 = 24;
 
 const REFUSAL_BYTES: usize = 6;
-
-const BAD_RECORD: u64 = 3;
 
 // The record of a refused call.
 fn refusal(reply: &mut [u8], answer: u64, place: u64) -> usize
@@ -45,13 +45,13 @@ fn respond(pool: &mut [u64], batch: &[u8], reply: &mut [u8]) -> usize
     ensures { λ _. ⌜ now (pool .exit) ≡ ran (now (pool .entry)) (now (batch .entry)) (now (reply .entry)) .words ⌝ }
 {
     if batch.len() > MAX_INPUT {
-        return refusal(reply, BAD_RECORD, MAX_INPUT as u64);
+        return refusal(reply, BAD_BATCH, MAX_INPUT as u64);
     }
-    xapool::xapool_init(pool);
-    let result = xapool::xapool_run(pool, batch, reply);
+    calls::init(pool);
+    let result = calls::run(pool, batch, reply);
     let answer = result.answer;
     let number = result.number;
-    if answer != 0 {
+    if answer != DONE {
         return refusal(reply, answer, number);
     }
     (REPLY_BYTES * number) as usize

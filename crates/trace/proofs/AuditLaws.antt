@@ -14,7 +14,8 @@ use Rattle.tree.specs.Tree.{tall, has, slotMark}
 use Rattle.tree.specs.Slots.{slot}
 use Rattle.batch.specs.declared.Command.{Command}
 use Rattle.batch.specs.declared.Command.the-variants.{Store, Load, Erase, Mark, Unmark, Find, Reserve}
-use Rattle.execute.specs.Execute.{Executed, execute}
+use Rattle.execute.specs.Execute.{execute}
+use Rattle.commands.specs.Commands.{Executed}
 use Rattle.trace.specs.Trace.{Step.ran, did, same, stands, matched, enters, names, marks, unmarks}
 use Rattle.trace.specs.Audit.{sourced, accounted, vouched, withdrawn, matching, stored, copy}
 use Rattle.trace.proofs.RecordLaws.{Alike, alike}

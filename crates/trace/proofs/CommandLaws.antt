@@ -43,7 +43,8 @@ use Rattle.tree.proofs.RelabelLaws.{mapO, covering-map}
 use Rattle.lookup.specs.Find.{anyMark}
 use Rattle.batch.specs.declared.Command.{Command}
 use Rattle.batch.specs.declared.Command.the-variants.{Store, Load, Erase, Mark, Unmark, Find, Reserve}
-use Rattle.execute.specs.Execute.{execute, short, replyOf}
+use Rattle.execute.specs.Execute.{execute, short}
+use Rattle.commands.specs.Commands.{replyOf}
 use Rattle.trace.specs.Trace.{
   Step,
   Step.cleared,

@@ -15,7 +15,7 @@ use Rattle.model.specs.declared.Entry.{Entry}
 use Rattle.model.specs.Model.{EntryOk, Valid, covers, startsIn, meets}
 use Rattle.model.proofs.ValidLaws.{covers-i, covers-lo, covers-hi, sorted-ok}
 use Rattle.batch.specs.declared.Command.the-variants.{Store, Load, Erase, Mark, Unmark, Find, Reserve}
-use Rattle.xapool.specs.Demand.{Call, Bytewise, Starts}
+use Rattle.calls.specs.Demand.{Call, Bytewise, Starts}
 use Rattle.trace.specs.Trace.{
   Step,
   Step.cleared,

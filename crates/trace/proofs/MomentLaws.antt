@@ -12,12 +12,12 @@ use Rattle.blocks.specs.Lists.{All, end, also}
 use Rattle.blocks.proofs.BoolLaws.{byT}
 use Rattle.blocks.proofs.ListLaws.{getD-out}
 use Rattle.model.specs.declared.Entry.{Entry}
-use Rattle.batch.specs.Fits.{Bytes}
+use Rattle.words.specs.Bytes.{Bytes}
 use Rattle.batch.specs.declared.Command.{Command}
 use Rattle.batch.specs.Batch.{Parsed, Parsed.commands, Parsed.refused, parse}
 use Rattle.batch.specs.Reply.{replyBytes}
 use Rattle.batch.proofs.CutLaws.{cut}
-use Rattle.xapool.specs.Demand.{
+use Rattle.calls.specs.Demand.{
   Call,
   Call.init,
   Call.check,
@@ -28,7 +28,7 @@ use Rattle.xapool.specs.Demand.{
   Stands,
   Starts,
 }
-use Rattle.xapool.proofs.ClaimLaws.{demand-3-whole}
+use Rattle.calls.proofs.ClaimLaws.{demand-3-whole}
 use Rattle.trace.specs.Trace.{
   Step,
   Step.cleared,

@@ -14,12 +14,12 @@ use Rattle.model.specs.Model.{matchedMark, meets, hasMark}
 use Rattle.decode.proofs.DecodeLaws.{decode-list}
 use Rattle.verify.proofs.AnswerLaws.{prescribed-0}
 use Rattle.listing.specs.Listing.{listed, fits}
-use Rattle.xapool.specs.Calls.{Evidence, listOver}
-use Rattle.xapool.specs.Calls as C
-use Rattle.xapool.specs.Demand.{Call, wordsAfterAll, listAfterAll, Bytewise, Stands, Starts}
-use Rattle.xapool.proofs.DemandLaws.{Started, started, sized}
-use Rattle.xapool.proofs.ListCallLaws.{list-checked}
-use Rattle.xapool.proofs.ClaimLaws.{demand-3-whole}
+use Rattle.calls.specs.Calls.{Listing, listOver}
+use Rattle.calls.specs.Calls as C
+use Rattle.calls.specs.Demand.{Call, wordsAfterAll, listAfterAll, Bytewise, Stands, Starts}
+use Rattle.calls.proofs.DemandLaws.{Started, started, sized}
+use Rattle.calls.proofs.ListCallLaws.{list-checked}
+use Rattle.calls.proofs.ClaimLaws.{demand-3-whole}
 use Rattle.trace.specs.Trace.{same, stands, matched, Shown}
 use Rattle.trace.proofs.ConverseLaws.{self}
 use Rattle.trace.proofs.SourceLaws.{traced}
@@ -44,7 +44,7 @@ module _ {n : ℕ} {l : List Entry} {ws : List ℕ} (st : Starts n l ws) {cs : L
 
   pub shown : C.list (wordsAfterAll ws cs) first last buffer .result .answer ≡ 0 →
       Shown n l cs buffer (C.list (wordsAfterAll ws cs) first last buffer)
-  shown t = go (sym (ap (λ (x : Evidence). x .result .answer) of-model) ∙ t)
+  shown t = go (sym (ap (λ (x : Listing). x .result .answer) of-model) ∙ t)
     where
       go : listOver (listAfterAll n l cs) first last buffer .result .answer ≡ 0 →
           Shown n l cs buffer (C.list (wordsAfterAll ws cs) first last buffer)
@@ -53,8 +53,8 @@ module _ {n : ℕ} {l : List Entry} {ws : List ℕ} (st : Starts n l ws) {cs : L
           (λ u. byT (fits (listed (listAfterAll n l cs) first last) buffer)
           (λ f. record {
             entries = listed (listAfterAll n l cs) first last;
-            number = ap (λ (x : Evidence). x .result .number) of-model ∙ rw (u, f);
-            bytes = ap (λ (x : Evidence). x .buffer) of-model ∙ rw (u, f);
+            number = ap (λ (x : Listing). x .result .number) of-model ∙ rw (u, f);
+            bytes = ap (λ (x : Listing). x .buffer) of-model ∙ rw (u, f);
             origins = All-map (λ e h. traced st b e (in-list (h .1)))
                 (All-keep (meets first last) (each (listAfterAll n l cs) (λ e m. m)));
             confirmed = All-map (λ e h t. matched-by st b e (marked-in-list (h .1) t))

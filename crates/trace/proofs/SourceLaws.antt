@@ -15,7 +15,7 @@ use Rattle.layout.specs.Decide.{nodeCount}
 use Rattle.verify.specs.Answers.{initAnswer}
 use Rattle.batch.specs.declared.Command.{Command}
 use Rattle.batch.specs.declared.Command.the-variants.{Store, Load, Erase, Mark, Unmark, Find, Reserve}
-use Rattle.xapool.specs.Demand.{Call, listAfterAll, Bytewise, Starts, Starts.fresh}
+use Rattle.calls.specs.Demand.{Call, listAfterAll, Bytewise, Starts, Starts.fresh}
 use Rattle.trace.specs.Trace.{
   Step,
   Step.cleared,

@@ -16,8 +16,8 @@ use Rattle.batch.specs.Reply.{replyBytes}
 use Rattle.batch.proofs.BoundLaws.{AllFit, parse-fits}
 use Rattle.execute.specs.Execute.{execute}
 use Rattle.execute.proofs.Footprint.{refused-leaves}
-use Rattle.xapool.specs.Calls.{Called, run, runParsed}
-use Rattle.xapool.specs.Demand.{
+use Rattle.calls.specs.Calls.{Called, run, runParsed}
+use Rattle.calls.specs.Demand.{
   Call,
   Call.init,
   Call.check,
@@ -32,8 +32,8 @@ use Rattle.xapool.specs.Demand.{
   Stands,
   Starts,
 }
-use Rattle.xapool.proofs.DemandLaws.{Started, started, run-as}
-use Rattle.xapool.proofs.ClaimLaws.{demand-3-whole}
+use Rattle.calls.proofs.DemandLaws.{Started, started, run-as}
+use Rattle.calls.proofs.ClaimLaws.{demand-3-whole}
 use Rattle.trace.specs.Trace.{Step, Step.ran, fed, stepsOf, steps, next, after}
 use Rattle.trace.proofs.StepLaws.{after-append, Fitting, after-valid, all-append}
 

@@ -31,21 +31,9 @@ use Rattle.lookup.specs.Find.{anyMark, find}
 use Rattle.batch.specs.declared.Command.{Command}
 use Rattle.batch.specs.declared.Command.the-variants.{Store, Load, Erase, Mark, Unmark, Find, Reserve}
 use Rattle.batch.specs.Reply.{replyTag}
-use Rattle.execute.specs.Execute.{
-  Executed,
-  orderAbove,
-  notStorable,
-  markAbove,
-  firstAbove,
-  noBudget,
-  notAligned,
-  isTaken,
-  leave,
-  refuse,
-  replyOf,
-  storing,
-  finding,
-}
+use Rattle.execute.specs.Execute.{finding, tree}
+use Rattle.commands.specs.Commands.{Executed, leave, refuse, replyOf, storing}
+use Rattle.answers.specs.Answers.{badOrder, badEntry, badMark, firstAboveLast, noBudget, notAligned, isCovered}
 use Rattle.trace.specs.Trace.{stands, matched, enters, names, marks, unmarks}
 
 -- TESTS of a command c that met the list l and came to x, for the record e
@@ -119,22 +107,22 @@ marking t l i m b =
     }
 
 abbrev reserving : ℕ → (tag : ℕ) → List Entry → ℕ → Option Entry → Executed
-reserving n t l i none = storing n t l i (store l i 0 reservedWord)
-reserving n t l i (some e) = refuse l t isTaken
+reserving n t l i none = storing (tree n) t l i (store l i 0 reservedWord)
+reserving n t l i (some e) = refuse l t isCovered
 
 module _ (n : ℕ) (l : List Entry) where
   abbrev copyAs : (tag : ℕ) → Command → Executed
   copyAs t (Store i k w) =
-      pick (ltb maxOrder k) (refuse l t orderAbove)
+      pick (ltb maxOrder k) (refuse l t badOrder)
       (pick (not (aligned k i)) (refuse l t notAligned)
-      (pick (not (storable w)) (refuse l t notStorable) (storing n t l i (store l i k w))))
+      (pick (not (storable w)) (refuse l t badEntry) (storing (tree n) t l i (store l i k w))))
   copyAs t (Load i) = leave l (replyOf t (depth l i) (present (covering l i)))
   copyAs t (Erase i) = record { reply = replyOf t 0 (covering l i); list = erase l i }
-  copyAs t (Mark i m) = pick (leb markCount m) (refuse l t markAbove) (marking t l i m true)
-  copyAs t (Unmark i m) = pick (leb markCount m) (refuse l t markAbove) (marking t l i m false)
+  copyAs t (Mark i m) = pick (leb markCount m) (refuse l t badMark) (marking t l i m true)
+  copyAs t (Unmark i m) = pick (leb markCount m) (refuse l t badMark) (marking t l i m false)
   copyAs t (Find a z f k) =
-      pick (ltb anyMark f) (refuse l t markAbove)
-      (pick (ltb z a) (refuse l t firstAbove)
+      pick (ltb anyMark f) (refuse l t badMark)
+      (pick (ltb z a) (refuse l t firstAboveLast)
       (pick (eqb k 0) (refuse l t noBudget) (leave l (finding t (find l a z f k)))))
   copyAs t (Reserve i) = reserving n t l i (covering l i)
 

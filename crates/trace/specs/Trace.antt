@@ -18,8 +18,8 @@ use Rattle.batch.specs.Batch.{Parsed, Parsed.commands, Parsed.refused, parse}
 use Rattle.batch.specs.Reply.{replyBytes}
 use Rattle.listing.specs.Listing.{entryBytes, listing}
 use Rattle.execute.specs.Execute.{execute}
-use Rattle.xapool.specs.Calls.{Evidence}
-use Rattle.xapool.specs.Demand.{Call, Call.init, Call.check, Call.batch, Call.list, wordsAfterAll, Stands}
+use Rattle.calls.specs.Calls.{Listing}
+use Rattle.calls.specs.Demand.{Call, Call.init, Call.check, Call.batch, Call.list, wordsAfterAll, Stands}
 
 -- STEPS (R240)
 pub data Step : Type 0 where
@@ -227,7 +227,7 @@ pub record Confirmed (n : ℕ) (l : List Entry) (cs : List Call) (e : Entry) : T
 -- WHAT A LISTING SHOWS
 -- R251: its number and its bytes (R144, R146) are those of these entries; each came by its command, and is confirmed if it
 -- is shown with mark 2
-pub record Shown (n : ℕ) (l : List Entry) (cs : List Call) (buffer : List ℕ) (told : Evidence) : Type 0 where
+pub record Shown (n : ℕ) (l : List Entry) (cs : List Call) (buffer : List ℕ) (told : Listing) : Type 0 where
   pub entries : List Entry
   pub number : told .result .number ≡ length entries
   pub bytes : told .buffer ≡ listing entries ++ L.drop (entryBytes * length entries) buffer

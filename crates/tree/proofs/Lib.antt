@@ -1,5 +1,3 @@
-pub mod Ascending
-pub mod TierLaws
 pub mod StoreLaws
 pub mod HeightLaws
 pub mod NewNodeLaws

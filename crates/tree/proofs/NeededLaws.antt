@@ -31,7 +31,7 @@ use Rattle.tree.proofs.HeightLaws.{
 }
 use Rattle.tree.proofs.NewNodeLaws.{chained, freshAt}
 use Rattle.tree.proofs.NodeListLaws.{finer}
-use Rattle.tree.proofs.TierLaws.{lies-above}
+use Rattle.blocks.proofs.TierLaws.{lies-above}
 
 -- a node on the path has a node above it on the path
 pub path-up : (i : ℕ) {j k : ℕ} (l : List Entry) → j ≤ k → any (within j (block j i)) l ≡ true →

@@ -20,7 +20,7 @@ use Rattle.model.specs.ByBlock.{clear, newEntry, storeNew}
 use Rattle.model.proofs.InsertLaws.{any-insert}
 use Rattle.tree.specs.Tree.{height, has, addIf, blocks, Node, at, nodesTo, newNodes, tierOrder}
 use Rattle.tree.proofs.HeightLaws.{Low, height-fits, fits-order, fits-base, zero-up}
-use Rattle.tree.proofs.Ascending.{mem-addIf, ext, mem-without, asc-without, asc-addIf, asc-end}
+use Rattle.blocks.proofs.Ascending.{mem-addIf, ext, mem-without, asc-without, asc-addIf, asc-end}
 use Rattle.tree.proofs.NodeListLaws.{mem-blocks, asc-blocks}
 
 module _ (l : List Entry) (i k : ℕ) where

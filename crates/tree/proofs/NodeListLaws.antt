@@ -12,9 +12,9 @@ use Rattle.blocks.proofs.ListLaws.{any-in}
 use Rattle.model.specs.declared.Entry.{Entry}
 use Rattle.model.specs.Model.{within}
 use Rattle.tree.specs.Tree.{has, height, Node, blocks, nodesTo, nodes, tierOrder, topTier}
-use Rattle.tree.proofs.Ascending.{Asc, mem}
+use Rattle.blocks.proofs.Ascending.{Asc, mem}
 use Rattle.tree.proofs.HeightLaws.{height-most}
-use Rattle.tree.proofs.TierLaws as T
+use Rattle.blocks.proofs.TierLaws as T
 
 -- an entry is finer than a block of a higher order
 abbrev pub finer : ℕ → Entry → Bool

@@ -1,14 +1,13 @@
 -- What a walk down sees: a slot's word, and whether an entry of at least order k covers the index.
 use Prim.Native.Nat.{ℕ, _*_, _%_, _^_, _<_}
 use mathlib.Core.Path.{_≡_, refl, subst, _∙_}
-use mathlib.Core.Bool.{Bool, true, false, not}
+use mathlib.Core.Bool.{true, false}
 use mathlib.Core.List.{List}
 use mathlib.Core.Option.{Option, none, some}
 use native.Mathlib.Omega.{arith}
 use native.Mathlib.Nat.{le-refl}
-use lib.Dec.{leb, eqb, T}
+use lib.Dec.{leb}
 use borrow.Author.Tests.{eqb-true}
-use Rattle.blocks.specs.Choice.{both}
 use Rattle.blocks.specs.Lists.{any, All}
 use Rattle.blocks.specs.Blocks.{block}
 use Rattle.blocks.proofs.BoolLaws.{clash, byT, iff, both-l, both-r}

@@ -13,7 +13,7 @@ use Rattle.model.specs.Model.{covers, covering, starts, within, hasMark}
 use Rattle.tree.specs.Tree.{has, height, tall, blocks, nodes, newNodes, slotMark, tierOrder}
 use Rattle.tree.specs.Slots.{Numbering, nodeWord, entryWord, slot}
 use Rattle.tree.proofs.NodeListLaws.{nodes-in, finer}
-use Rattle.tree.proofs.TierLaws.{blocks-map, nodes-from-same}
+use Rattle.blocks.proofs.TierLaws.{blocks-map, nodes-from-same}
 
 abbrev pub mapO : (Entry → Entry) → Option Entry → Option Entry
 mapO f none = none

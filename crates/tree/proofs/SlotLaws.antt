@@ -33,7 +33,7 @@ use Rattle.tree.specs.Slots.{slot, entryWord, Numbering}
 use Rattle.tree.specs.Tree.{slotMark, slotBits, slots, tierOrder}
 use Rattle.tree.proofs.StoreLaws.{within-only}
 use Rattle.tree.proofs.NodeListLaws.{finer}
-use Rattle.tree.proofs.TierLaws as T
+use Rattle.blocks.proofs.TierLaws as T
 
 -- the slots of a node are told by so many bits
 pub slots-are : slots ≡ 2 ^ slotBits

@@ -1,4 +1,3 @@
-pub mod Tiers
 pub mod Tree
 pub mod Slots
 pub mod HeadShift

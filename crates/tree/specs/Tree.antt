@@ -12,8 +12,8 @@ use Rattle.blocks.specs.Choice.{both}
 use Rattle.blocks.specs.Lists.{any, without, least}
 use Rattle.model.specs.Model.{starts, within, hasMark}
 use Rattle.model.specs.declared.Entry.{Entry}
-use Rattle.tree.specs.Tiers.{blocksOf, nodesFrom}
-pub use Rattle.tree.specs.Tiers.{Node, add, addIf, at}
+use Rattle.blocks.specs.Tiers.{blocksOf, nodesFrom}
+pub use Rattle.blocks.specs.Tiers.{Node, add, addIf, at}
 
 -- R16
 abbrev pub slotBits : ℕ

@@ -15,9 +15,9 @@ use Rattle.tree.specs.Tree.{Node, has}
 use Rattle.tree.specs.Slots.{slot}
 use Rattle.layout.specs.Words.{anchorWords, anchorWord, fieldAt, poolWords, place, maxNodes}
 use Rattle.layout.specs.Places.{Places, standing, numberIn, render}
-use Rattle.layout.specs.Fill.{filled}
+use Rattle.words.specs.Fill.{filled}
 use Rattle.layout.specs.WellFormed.{Sized, Prescribed, WellFormed}
-use Rattle.layout.proofs.FillLaws.{length-filled, filled-in}
+use Rattle.words.proofs.FillLaws.{length-filled, filled-in}
 use Rattle.layout.proofs.RenderLaws.{render-is}
 use Rattle.decode.proofs.DecideLaws.{count-of, sized-is}
 use Rattle.verify.specs.Answers.{emptyPool, initAnswer, initWords, checkAnswer}

@@ -13,10 +13,10 @@ use Rattle.decode.proofs.SameTree.{lower}
 use Rattle.decode.proofs.PrescribedWords.{count-is, spare-is, from-places}
 use Rattle.decode.proofs.PlacesFor.{to-places, places}
 use Rattle.decode.proofs.DecodeLaws.{decode-places}
-use Rattle.scan.specs.Local.{NodeOk, NodesOk, HeadOk}
-use Rattle.scan.proofs.TestLaws.{none-fails}
-use Rattle.scan.proofs.LocalSound.{local-sound}
-use Rattle.scan.proofs.LocalExact.{exact-node, exact-head}
+use Rattle.local.specs.Local.{NodeOk, NodesOk, HeadOk}
+use Rattle.scan.proofs.HeadLaws.{none-fails}
+use Rattle.local.proofs.SoundLaws.{local-sound}
+use Rattle.local.proofs.ExactLaws.{exact-node, exact-head}
 use Rattle.verify.specs.Answers.{Verdict, malformed, well-formed}
 
 module _ (ws : List ℕ) (n : ℕ) (sz : Sized n ws) where

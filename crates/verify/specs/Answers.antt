@@ -10,13 +10,14 @@ use Rattle.layout.specs.WellFormed.{Sized, Prescribed}
 use Rattle.layout.specs.Decide.{nodeCount, isSized, isWellFormed}
 use Rattle.layout.specs.Decode.{listOf, placesOf}
 use Rattle.layout.specs.Places.{Places}
+use Rattle.answers.specs.Answers.{done, poolLength, notWellFormed}
 
 -- R69, R70, R84
 abbrev pub checkAnswer : List ℕ → ℕ
-checkAnswer ws = pick (isSized ws) (pick (isWellFormed (nodeCount ws) ws) 0 2) 1
+checkAnswer ws = pick (isSized ws) (pick (isWellFormed (nodeCount ws) ws) done notWellFormed) poolLength
 
 abbrev pub initAnswer : List ℕ → ℕ
-initAnswer ws = pick (isSized ws) 0 1
+initAnswer ws = pick (isSized ws) done poolLength
 
 -- R38
 abbrev pub emptyPool : ℕ → List ℕ

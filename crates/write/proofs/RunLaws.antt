@@ -19,7 +19,7 @@ use Rattle.tree.specs.Slots.{slot, entryWord, siblingWord, Numbering}
 use Rattle.tree.proofs.StoreLaws.{slot-inside}
 use Rattle.tree.proofs.SlotLaws.{tier-up}
 use Rattle.tree.specs.Tree.{tierOrder, slots, slotBits}
-use Rattle.write.specs.Writes.{span, offset}
+use Rattle.write.specs.Writes.{width, offset}
 
 record Aligned (x c : ℕ) : Type 0 where
   base-is : slots * (x / slots) + x % slots / c * c ≡ x / c * c
@@ -88,83 +88,83 @@ module _ (i k : ℕ) where
   x : ℕ
   x = block (tierOrder (k / slotBits)) i
 
-  al : Aligned (block (tierOrder (k / slotBits)) i) (span k)
+  al : Aligned (block (tierOrder (k / slotBits)) i) (width k)
   al = aligned (k % slotBits) (block (tierOrder (k / slotBits)) i) (omega arith)
 
-  pub run-fits : offset i k + span k ≤ slots
+  pub run-fits : offset i k + width k ≤ slots
   run-fits = al .fits-in
 
-  pub span-small : span k ≤ 32
-  span-small = al .small
+  pub width-small : width k ≤ 32
+  width-small = al .small
 
-  pub span-some : 1 ≤ span k
-  span-some = al .some-of
+  pub width-some : 1 ≤ width k
+  width-some = al .some-of
 
-  top-is : block k i ≡ block (tierOrder (k / slotBits)) i / span k
+  top-is : block k i ≡ block (tierOrder (k / slotBits)) i / width k
   top-is =
       let e : k - tierOrder (k / slotBits) ≡ k % slotBits = omega arith in
       block-block {j = tierOrder (k / slotBits)} {k = k} i (omega arith) ∙ ap
       (λ (d : ℕ). block (tierOrder (k / slotBits)) i / 2 ^ d) e
 
   -- the slots by number
-  pub first-slot : slots * block (tierOrder (k / slotBits + 1)) i + offset i k ≡ block (tierOrder (k / slotBits)) i / span k * span
+  pub first-slot : slots * block (tierOrder (k / slotBits + 1)) i + offset i k ≡ block (tierOrder (k / slotBits)) i / width k * width
       k
   first-slot =
       let e : block (tierOrder (k / slotBits + 1)) i ≡ block (tierOrder (k / slotBits)) i / slots = ap (λ (d : ℕ). block d i)
       (omega arith) ∙ tier-up (k / slotBits) i in
       rw e (al .base-is)
 
-  pub base-slot : block (tierOrder (k / slotBits)) (block k i * 2 ^ k) ≡ block (tierOrder (k / slotBits)) i / span k * span k
+  pub base-slot : block (tierOrder (k / slotBits)) (block k i * 2 ^ k) ≡ block (tierOrder (k / slotBits)) i / width k * width k
   base-slot =
       let e : k % slotBits + tierOrder (k / slotBits) ≡ k = omega arith in
-      let p : 2 ^ k ≡ span k * 2 ^ (tierOrder (k / slotBits)) = sym
+      let p : 2 ^ k ≡ width k * 2 ^ (tierOrder (k / slotBits)) = sym
       (pow-add (k % slotBits) (tierOrder (k / slotBits)) ∙ ap (λ (d : ℕ). 2 ^ d) e) in
-      let q : block k i * 2 ^ k ≡ block (tierOrder (k / slotBits)) i / span k * span k * 2 ^ (tierOrder (k / slotBits)) =
-      ap (λ (y : ℕ). y * 2 ^ k) top-is ∙ (ap (λ (y : ℕ). block (tierOrder (k / slotBits)) i / span k * y) p ∙ sym
-      (mul-assoc (block (tierOrder (k / slotBits)) i / span k) (span k) (2 ^ (tierOrder (k / slotBits))))) in
+      let q : block k i * 2 ^ k ≡ block (tierOrder (k / slotBits)) i / width k * width k * 2 ^ (tierOrder (k / slotBits)) =
+      ap (λ (y : ℕ). y * 2 ^ k) top-is ∙ (ap (λ (y : ℕ). block (tierOrder (k / slotBits)) i / width k * y) p ∙ sym
+      (mul-assoc (block (tierOrder (k / slotBits)) i / width k) (width k) (2 ^ (tierOrder (k / slotBits))))) in
       ap (λ (y : ℕ). block (tierOrder (k / slotBits)) y) q ∙ block-at (tierOrder (k / slotBits))
-      (block (tierOrder (k / slotBits)) i / span k * span k)
+      (block (tierOrder (k / slotBits)) i / width k * width k)
 
   -- of an aligned index the first slot is the index's own
   pub offset-own : M.aligned k i ≡ true → block (tierOrder (k / slotBits)) i % slots ≡ offset i k
   offset-own a =
-      let e : block (tierOrder (k / slotBits)) i ≡ block (tierOrder (k / slotBits)) i / span k * span k =
+      let e : block (tierOrder (k / slotBits)) i ≡ block (tierOrder (k / slotBits)) i / width k * width k =
       ap (block (tierOrder (k / slotBits))) (sym (whole i k a)) ∙ base-slot in
       ap (λ (y : ℕ). y % slots) e ∙ al .first-is
 
-  pub slot-in-run : (t : ℕ) → t < span k → Inside i k (tierOrder (k / slotBits))
+  pub slot-in-run : (t : ℕ) → t < width k → Inside i k (tierOrder (k / slotBits))
       (slots * block (tierOrder (k / slotBits + 1)) i + (offset i k + t))
   slot-in-run t h =
       let e : k - tierOrder (k / slotBits) ≡ k % slotBits = omega arith in
-      let q : slots * block (tierOrder (k / slotBits + 1)) i + (offset i k + t) ≡ block (tierOrder (k / slotBits)) i / span k * span
+      let q : slots * block (tierOrder (k / slotBits + 1)) i + (offset i k + t) ≡ block (tierOrder (k / slotBits)) i / width k * width
       k + t = omega (arith, first-slot) in
       inside-down i k (tierOrder (k / slotBits)) _ (omega arith) (rw (q, e) (al .within-is t h ∙ sym top-is))
 
   -- a slot of the node inside the run is one of them
   pub run-slot : (c : ℕ) → c / slots ≡ block (tierOrder (k / slotBits + 1)) i → c / 2 ^ (k - tierOrder (k / slotBits)) ≡ block k i →
-      (t : ℕ) × (t < span k) × (c ≡ slots * block (tierOrder (k / slotBits + 1)) i + (offset i k + t))
+      (t : ℕ) × (t < width k) × (c ≡ slots * block (tierOrder (k / slotBits + 1)) i + (offset i k + t))
   run-slot c e q =
       let d : k - tierOrder (k / slotBits) ≡ k % slotBits = omega arith in
-      let q′ : c / span k ≡ block (tierOrder (k / slotBits)) i / span k = (rw d at q) ∙ top-is in
-      let lo : c / span k * span k ≤ c = native.Mathlib.Nat.div-mul-le-self c (span k) in
-      let hi : c < c / span k * span k + span k = native.Mathlib.Nat.lt-div-mul-add (pow-pos (k % slotBits)) in
-      let lo′ : block (tierOrder (k / slotBits)) i / span k * span k ≤ c = subst (λ (y : ℕ). y * span k ≤ c) q′ lo in
-      let hi′ : c < block (tierOrder (k / slotBits)) i / span k * span k + span k = subst
-      (λ (y : ℕ). c < y * span k + span k) q′ hi in
-      (c - block (tierOrder (k / slotBits)) i / span k * span k, omega arith, omega (arith, first-slot))
+      let q′ : c / width k ≡ block (tierOrder (k / slotBits)) i / width k = (rw d at q) ∙ top-is in
+      let lo : c / width k * width k ≤ c = native.Mathlib.Nat.div-mul-le-self c (width k) in
+      let hi : c < c / width k * width k + width k = native.Mathlib.Nat.lt-div-mul-add (pow-pos (k % slotBits)) in
+      let lo′ : block (tierOrder (k / slotBits)) i / width k * width k ≤ c = subst (λ (y : ℕ). y * width k ≤ c) q′ lo in
+      let hi′ : c < block (tierOrder (k / slotBits)) i / width k * width k + width k = subst
+      (λ (y : ℕ). c < y * width k + width k) q′ hi in
+      (c - block (tierOrder (k / slotBits)) i / width k * width k, omega arith, omega (arith, first-slot))
 
   module _ (w : ℕ) (l : List Entry) (ν : Numbering) (room : All (Room i k) l) where
-    entry-at : (t : ℕ) → t < span k → slot (storeNew l i k w) ν (k / slotBits)
+    entry-at : (t : ℕ) → t < width k → slot (storeNew l i k w) ν (k / slotBits)
         (slots * block (tierOrder (k / slotBits + 1)) i + (offset i k + t)) ≡ entryWord (k / slotBits)
         (slots * block (tierOrder (k / slotBits + 1)) i + (offset i k + t)) (some (newEntry l i k w))
     entry-at t h = slot-inside i k w l ν (k / slotBits) _ room (omega arith) (slot-in-run t h)
 
     pub entry-word : slot (storeNew l i k w) ν (k / slotBits) (slots * block (tierOrder (k / slotBits + 1)) i + (offset i k + 0)) ≡
         w
-    entry-word = entry-at 0 span-some ∙ rw (eq-eqb (block (tierOrder (k / slotBits)) (block k i * 2 ^ k))
+    entry-word = entry-at 0 width-some ∙ rw (eq-eqb (block (tierOrder (k / slotBits)) (block k i * 2 ^ k))
         (slots * block (tierOrder (k / slotBits + 1)) i + (offset i k + 0)) (omega (arith, base-slot, first-slot)))
 
-    pub sibling-word : (t : ℕ) → t + 1 < span k → slot (storeNew l i k w) ν (k / slotBits)
+    pub sibling-word : (t : ℕ) → t + 1 < width k → slot (storeNew l i k w) ν (k / slotBits)
         (slots * block (tierOrder (k / slotBits + 1)) i + (offset i k + (t + 1))) ≡ siblingWord (offset i k)
     sibling-word t h = entry-at (t + 1) h ∙ rw (
       ne-eqb (block (tierOrder (k / slotBits)) (block k i * 2 ^ k))

@@ -6,7 +6,7 @@
 // the tier of the slots that hold the entry; h, top: the tier of the head before and after; path, chain: the numbers of
 // the nodes over the index and over index 0, by tier; a: a node; o, c: the first of its slots, and how many; f: a filled
 // count.
-use freemap::release;
+use freenodes::release;
 use layout::HEAD_WORD;
 use layout::SLOT_BITS;
 use layout::SLOTS;
@@ -17,7 +17,6 @@ use layout::filled_of;
 use layout::mark_word;
 use layout::node_word;
 use layout::owner_word;
-use layout::pow2;
 use layout::put_filled;
 use layout::put_mark_word;
 use layout::put_owner;
@@ -30,13 +29,15 @@ use layout::slot_word;
 use plan::Heads;
 use plan::Target;
 use plan::at_least_1;
+use words::pow2;
 ghost use Prim.Native.Nat.{ℕ, _+_, _-_, _/_, _%_, _<_, _≤_};
 ghost use mathlib.Core.Path.{_≡_};
 ghost use lib.Dec.{ltb};
 ghost use lib.ListN.{getD, length};
 ghost use Rattle.tree.specs.Tree.{slots, slotBits, topTier};
 ghost use Rattle.layout.specs.Words.{poolWords, lastPlace, filledPlace, markPlace};
-ghost use Rattle.freemap.specs.FreeMap.{mapNodes, Sound, Follows};
+ghost use Rattle.freemap.specs.FreeMap.{mapNodes, Sound};
+ghost use Rattle.freenodes.specs.FreeNodes.{Follows};
 ghost use Rattle.plan.specs.Plan.{Storable};
 ghost use Rattle.write.specs.Writes;
 ghost use Rattle.write.specs.Writes.{Laid};
@@ -280,7 +281,7 @@ fn mark_top(pool: &mut [u64], path: &[u64], heads: Heads)
 }
 
 // An entry in its slots.
-fn enter(pool: &mut [u64], seat: Seat, word: u64)
+fn put_entry(pool: &mut [u64], seat: Seat, word: u64)
     requires { do ⌜ lastPlace (seat .node) < (← ⟦pool.len()⟧) ⌝ }
     requires { ⌜ (seat .slot + seat .count ≤ slots) × (1 ≤ seat .count) ⌝ }
     ensures { λ _. ⌜ now (pool .exit) ≡ Writes.entered (now (pool .entry))
@@ -304,7 +305,7 @@ pub fn settle(pool: &mut [u64], seat: Seat, word: u64)
     let a = seat.node;
     let f = filled_of(pool, a);
     put_filled(pool, a, f + seat.count);
-    enter(pool, seat, word);
+    put_entry(pool, seat, word);
 }
 
 // The three mark words of the entry's node: the marks of its slots give way to their OR in the first.
@@ -322,8 +323,8 @@ fn fold_all(pool: &mut [u64], seat: Seat)
 }
 
 // How many slots an entry takes.
-pub fn span_of(order: u64) -> u64
-    ensures { λ r. ⌜ (r ≡ Writes.span order) × (1 ≤ r) × (r ≤ 32) ⌝ }
+pub fn width_of(order: u64) -> u64
+    ensures { λ r. ⌜ (r ≡ Writes.width order) × (1 ≤ r) × (r ≤ 32) ⌝ }
 {
     pow2(order % SLOT_BITS)
 }
@@ -331,7 +332,7 @@ pub fn span_of(order: u64) -> u64
 // The first slot of an entry in its node.
 pub fn offset_of(target: Target) -> u64
     requires { ⌜ Storable target ⌝ }
-    ensures { λ r. ⌜ (r ≡ Writes.offset (target .index) (target .order)) × (r + Writes.span (target .order) ≤ slots) ⌝ }
+    ensures { λ r. ⌜ (r ≡ Writes.offset (target .index) (target .order)) × (r + Writes.width (target .order) ≤ slots) ⌝ }
 {
     block_of(target.order / SLOT_BITS, target.index) % SLOTS
 }
@@ -342,7 +343,7 @@ pub fn seat_of(target: Target, node: u64) -> Seat
     ensures { λ r. ⌜ r ≡ Writes.seatOf (target .index) (target .order) node ⌝ }
     ensures { λ r. ⌜ (r .slot + r .count ≤ slots) × (1 ≤ r .count) × (r .count < slots) ⌝ }
 {
-    let c = span_of(target.order);
+    let c = width_of(target.order);
     let o = offset_of(target);
     Seat {
         node: node,
@@ -375,7 +376,7 @@ fn count_path(pool: &mut [u64], path: &[u64], order: u64, top: u64, f: u64)
     ensures { λ _. ⌜ now (pool .exit) ≡ Writes.pathCounts (now (pool .entry)) (now (path .entry)) order top f ⌝ }
 {
     let t = order / SLOT_BITS + 1;
-    let c = span_of(order);
+    let c = width_of(order);
     let a = path[top as usize];
     if t == top {
         put_filled(pool, a, f + c);
@@ -462,7 +463,7 @@ pub fn rebuild(
     put_filled(pool, a, f);
     link(pool, path, target.index, v, heads.new);
     mark_top(pool, path, heads);
-    enter(pool, seat, target.word);
+    put_entry(pool, seat, target.word);
     fold_all(pool, seat);
 }
 
@@ -484,7 +485,7 @@ pub fn extend(pool: &mut [u64], path: &[u64], chain: &[u64], target: Target, hea
     link(pool, path, target.index, v, heads.new);
     grow(pool, path, chain, heads);
     let a = path[(v + 1) as usize];
-    enter(pool, seat_of(target, a), target.word);
+    put_entry(pool, seat_of(target, a), target.word);
 }
 
 // The numbers of the nodes over the index by tier: first, of tier u + 1, and below it down to tier v + 1 those of nums.
@@ -515,5 +516,5 @@ pub fn build(pool: &mut [u64], path: &[u64], target: Target, u: u64)
     count_path(pool, path, target.order, u + 1, filled_of(pool, first));
     join_all(pool, path, index, v + 1, u + 1);
     let a = path[(v + 1) as usize];
-    enter(pool, seat_of(target, a), target.word);
+    put_entry(pool, seat_of(target, a), target.word);
 }

@@ -1,6 +1,1 @@
-pub mod Calls
-pub mod Refusal
-pub mod Demand
-pub mod Cases
-pub mod Running
 pub mod Regions

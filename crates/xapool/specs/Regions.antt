@@ -3,7 +3,7 @@ use mathlib.Core.List.{List}
 use Prim.Native.Nat.{ℕ}
 use Rattle.crc32c.specs.Crc.{crc32c}
 use Rattle.region.specs.Region.{compare, number}
-pub use Rattle.xapool.specs.declared.Comparison.{Comparison}
+pub use Rattle.xapool.specs.declared.regions.Comparison.{Comparison}
 
 abbrev pub compareResult : (old new : List ℕ) → Comparison
 compareResult old new =

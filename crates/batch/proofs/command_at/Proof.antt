@@ -53,9 +53,6 @@ returns-3 c = rw (c .before .if3 .taken) (ap Erase (c .number82 .ensures))
 number8-requires-3 : tie.Need-number8-requires-3
 number8-requires-3 c κs = omega (arith, room 4 _ (c .if4 .taken) (start-from-then4 c .pre .1))
 
-add-number1 : tie.Need-add-number1
-add-number1 c = search needs
-
 number1-requires : tie.Need-number1-requires
 number1-requires c κs = omega (
   arith,
@@ -72,9 +69,6 @@ number8-requires-4 c κs = omega (
   room 5 _ (c .if5 .taken)
       (start-from-then5 c .pre .1),
 )
-
-add-number1-2 : tie.Need-add-number1-2
-add-number1-2 c = search needs
 
 number1-requires-2 : tie.Need-number1-requires-2
 number1-requires-2 c κs = omega (
@@ -117,11 +111,11 @@ command-at-spec =
     number8-requires-2
     returns-3
     number8-requires-3
-    add-number1
+    (λ c. search needs)
     number1-requires
     returns-4
     number8-requires-4
-    add-number1-2
+    (λ c. search needs)
     number1-requires-2
     returns-5
     find-at-requires

@@ -9,11 +9,8 @@ use Rattle.batch.proofs.count.Tie as tie
 returns : tie.Need-returns
 returns c = sym (ap counted (parse-long _ (c .if1 .taken)))
 
-count-records-requires : tie.Need-count-records-requires
-count-records-requires c κs = search needs
-
 returns-2 : tie.Need-returns-2
 returns-2 c = c .count-records .ensures ∙ sym (ap counted (parse-rest _ (c .before .if1 .left)))
 
 pub count-spec : {M : Type 1} → statement M
-count-spec = tie.close (tie.spec returns count-records-requires returns-2)
+count-spec = tie.close (tie.spec returns (λ c κs. search needs) returns-2)

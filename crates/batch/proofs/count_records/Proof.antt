@@ -1,6 +1,6 @@
 -- `count_records`: the whole batch from its beginning, where it is not too long.
 use Prim.Native.Nat.{_≤_, _-_}
-use mathlib.Core.Path.{refl, sym, _∙_}
+use mathlib.Core.Path.{refl, sym}
 use native.Mathlib.Omega.{arith}
 use lib.ListN.{length}
 use Rattle.batch.proofs.BatchLaws.{read-end, read-bad, read-next}

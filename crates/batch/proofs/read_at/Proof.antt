@@ -4,7 +4,8 @@ use mathlib.Core.Path.{_≡_, sym, ap, _∙_}
 use native.Mathlib.Omega.{arith}
 use lib.ListN.{getD}
 use Rattle.batch.specs.Batch.{fieldBytes, headBytes, commandAt}
-use Rattle.batch.proofs.BatchLaws.{one-byte, read-end, read-bad, read-next, skipped-whole}
+use Rattle.batch.proofs.BatchLaws.{read-end, read-bad, read-next, skipped-whole}
+use Rattle.words.proofs.NumberLaws.{one-byte}
 use Rattle.batch.proofs.ParseLaws.{whole}
 use borrow.Author.Needs.{needs}
 use Rattle.batch.proofs.read_at.Statement.{statement}
@@ -23,17 +24,8 @@ start-from-command-at c = else1-from-command-at c .before .before
 returns : tie.Need-returns
 returns c = read-end _ _ (c .if1 .taken)
 
-skip-at-requires : tie.Need-skip-at-requires
-skip-at-requires c κs = search needs
-
 returns-2 : tie.Need-returns-2
 returns-2 c = read-bad _ _ (c .before .before .if1 .left) _ (c .before .skip-at .ensures) (c .if2 .taken)
-
-number1-requires : tie.Need-number1-requires
-number1-requires c κs = search needs
-
-add-command-at : tie.Need-add-command-at
-add-command-at c = search needs
 
 command-at-requires : tie.Need-command-at-requires
 command-at-requires c κs = let a = start-from-number1 c .args in
@@ -54,9 +46,9 @@ read-at-spec =
     tie.close
     (tie.spec
     returns
-    skip-at-requires
+    (λ c κs. search needs)
     returns-2
-    number1-requires
-    add-command-at
+    (λ c κs. search needs)
+    (λ c. search needs)
     command-at-requires
     returns-3)

@@ -36,21 +36,9 @@ sized7 c = c .before .before .before .before .before .before .before
 abbrev sized : tie.Else8 → tie.After-number2
 sized c = c .before .before .before .before .before .before .before
 
-sub-if1 : tie.Need-sub-if1
-sub-if1 c = search needs
-
 returns : tie.Need-returns
 returns c = let a = c .before .before .args in
     skip-bad (a .batch .now) (a .at) (no-head (a .batch .now) (a .at) (c .if1 .taken) (omega arith))
-
-number1-requires : tie.Need-number1-requires
-number1-requires c κs = search needs
-
-add-number2 : tie.Need-add-number2
-add-number2 c = search needs
-
-number2-requires : tie.Need-number2-requires
-number2-requires c κs = search needs
 
 skip-of-requires : tie.Need-skip-of-requires
 skip-of-requires c κs = let n = sized1 c in (
@@ -153,11 +141,11 @@ pub skip-at-spec : {M : Type 1} → statement M
 skip-at-spec =
     tie.close
     (tie.spec
-    sub-if1
+    (λ c. search needs)
     returns
-    number1-requires
-    add-number2
-    number2-requires
+    (λ c κs. search needs)
+    (λ c. search needs)
+    (λ c κs. search needs)
     skip-of-requires
     returns-2
     skip-of-requires-2

@@ -11,22 +11,10 @@ returns c = let z = c .before in let a = z .args in let p = z .pre in
     skip-bad (a .batch .now) (a .at) (other-length (a .batch .now) (a .at) _ _ refl (p .1 .0 .1) (p .0)
     (λ e. omega (arith, p .1 .1 .0)) (λ e. c .if1 .taken (p .1 .0 .0 ∙ e)))
 
-sub-if2 : tie.Need-sub-if2
-sub-if2 c = search needs
-
-add-if2 : tie.Need-add-if2
-add-if2 c = search needs
-
 returns-2 : tie.Need-returns-2
 returns-2 c = let z = c .before .before in let a = z .args in let p = z .pre in
     skip-bad (a .batch .now) (a .at) (is-cut (a .batch .now) (a .at) _ _ refl (p .1 .0 .1) (p .0)
     (λ e. omega (arith, p .1 .1 .0)) (sym (p .1 .0 .0) ∙ c .before .if1 .left) (omega arith))
-
-add-result : tie.Need-add-result
-add-result c = search needs
-
-add-result-2 : tie.Need-add-result-2
-add-result-2 c = search needs
 
 returns-3 : tie.Need-returns-3
 returns-3 c = let z = c .before .before in let a = z .args in let p = z .pre in
@@ -35,4 +23,4 @@ returns-3 c = let z = c .before .before in let a = z .args in let p = z .pre in
 
 pub skip-of-spec : {M : Type 1} → statement M
 skip-of-spec =
-    tie.close (tie.spec returns sub-if2 add-if2 returns-2 add-result add-result-2 returns-3)
+    tie.close (tie.spec returns (λ c. search needs) (λ c. search needs) returns-2 (λ c. search needs) (λ c. search needs) returns-3)

@@ -4,7 +4,7 @@ use mathlib.Core.Path.{_≡_, sym, ap, _∙_}
 use native.Mathlib.Omega.{arith}
 use lib.ListN.{length, getD}
 use Rattle.batch.specs.Batch.{fieldBytes, headBytes, commandAt, Store, Find}
-use Rattle.batch.proofs.BatchLaws.{one-byte}
+use Rattle.words.proofs.NumberLaws.{one-byte}
 use Rattle.batch.proofs.ParseLaws.{Whole, whole, known-room, read-good}
 use Rattle.batch.proofs.step_at.Statement.{statement}
 use Rattle.batch.proofs.step_at.Tie as tie

@@ -1,5 +1,5 @@
 -- `write_reply`: the 24 bytes of a reply, from a place on.
-use Rattle.batch.proofs.WriteLaws.{reply-written}
+use Rattle.batch.proofs.ReplyLaws.{reply-written}
 use borrow.Author.Needs.{needs}
 use Rattle.batch.proofs.write_reply.Statement.{statement}
 use Rattle.batch.proofs.write_reply.Tie as tie
@@ -29,57 +29,6 @@ put1-from-slice-known9 c = put2-from-slice-known9 c .before .before .before .bef
 abbrev start-from-slice-known9 : tie.After-slice-known9 → tie.Start
 start-from-slice-known9 c = put1-from-slice-known9 c .before .before .before
 
-add-put1 : tie.Need-add-put1
-add-put1 c = search needs
-
-put1-requires : tie.Need-put1-requires
-put1-requires c κs = search needs
-
-add-put2 : tie.Need-add-put2
-add-put2 c = search needs
-
-put2-requires : tie.Need-put2-requires
-put2-requires c κs = search needs
-
-add-put1-2 : tie.Need-add-put1-2
-add-put1-2 c = search needs
-
-put1-requires-2 : tie.Need-put1-requires-2
-put1-requires-2 c κs = search needs
-
-add-put8 : tie.Need-add-put8
-add-put8 c = search needs
-
-put8-requires : tie.Need-put8-requires
-put8-requires c κs = search needs
-
-add-put1-3 : tie.Need-add-put1-3
-add-put1-3 c = search needs
-
-put1-requires-3 : tie.Need-put1-requires-3
-put1-requires-3 c κs = search needs
-
-add-put8-2 : tie.Need-add-put8-2
-add-put8-2 c = search needs
-
-put8-requires-2 : tie.Need-put8-requires-2
-put8-requires-2 c κs = search needs
-
-add-put1-4 : tie.Need-add-put1-4
-add-put1-4 c = search needs
-
-put1-requires-4 : tie.Need-put1-requires-4
-put1-requires-4 c κs = search needs
-
-add-put2-2 : tie.Need-add-put2-2
-add-put2-2 c = search needs
-
-put2-requires-2 : tie.Need-put2-requires-2
-put2-requires-2 c κs = search needs
-
-same-length : tie.Need-same-length
-same-length c = search needs
-
 returns : tie.Need-returns
 returns c = reply-written _ _ (start-from-slice-known9 c .args .r)
     (put1-from-slice-known9 c .put1 .ensures) (put2-from-slice-known9 c .put2 .ensures) (put12-from-slice-known9 c .put12 .ensures)
@@ -92,21 +41,21 @@ pub write-reply-spec : {M : Type 1} → statement M
 write-reply-spec =
     tie.close
     (tie.spec
-    add-put1
-    put1-requires
-    add-put2
-    put2-requires
-    add-put1-2
-    put1-requires-2
-    add-put8
-    put8-requires
-    add-put1-3
-    put1-requires-3
-    add-put8-2
-    put8-requires-2
-    add-put1-4
-    put1-requires-4
-    add-put2-2
-    put2-requires-2
-    same-length
+    (λ c. search needs)
+    (λ c κs. search needs)
+    (λ c. search needs)
+    (λ c κs. search needs)
+    (λ c. search needs)
+    (λ c κs. search needs)
+    (λ c. search needs)
+    (λ c κs. search needs)
+    (λ c. search needs)
+    (λ c κs. search needs)
+    (λ c. search needs)
+    (λ c κs. search needs)
+    (λ c. search needs)
+    (λ c κs. search needs)
+    (λ c. search needs)
+    (λ c κs. search needs)
+    (λ c. search needs)
     returns)

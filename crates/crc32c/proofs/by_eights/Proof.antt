@@ -18,18 +18,6 @@ abbrev μ-loop : tie.MeasureT-loop
 loop-holds : tie.Need-loop-holds Inv-loop μ-loop
 loop-holds c = (omega arith, refl)
 
-sub-loop : tie.Need-sub-loop Inv-loop μ-loop
-sub-loop c = omega arith
-
-eight-requires : tie.Need-eight-requires Inv-loop μ-loop
-eight-requires c κs = search needs
-
-add-i : tie.Need-add-i Inv-loop μ-loop
-add-i c = omega arith
-
-loop-less : tie.Need-loop-less Inv-loop μ-loop
-loop-less c = omega arith
-
 loop-again : tie.Need-loop-again Inv-loop μ-loop
 loop-again c =
     let s = c .before .before .before .before .before .before .args .s .now in
@@ -37,9 +25,6 @@ loop-again c =
       omega arith,
       ap (λ (x : ℕ). register x (drop (l .i + 8) s)) (c .eight .ensures) ∙ register-on (l .c) s (l .i) 8 ∙ l .inv .1,
     )
-
-by-bytes-requires : tie.Need-by-bytes-requires Inv-loop μ-loop
-by-bytes-requires c κs = search needs
 
 returns : tie.Need-returns Inv-loop μ-loop
 returns c = c .by-bytes .ensures ∙ c .before .before .loop .inv .1
@@ -51,10 +36,10 @@ by-eights-spec =
     Inv-loop
     μ-loop
     loop-holds
-    sub-loop
-    eight-requires
-    add-i
-    loop-less
+    (λ c. omega arith)
+    (λ c κs. search needs)
+    (λ c. omega arith)
+    (λ c. omega arith)
     loop-again
-    by-bytes-requires
+    (λ c κs. search needs)
     returns)

@@ -6,27 +6,12 @@ use Rattle.crc32c.specs.Crc.{complement, crc32c}
 use Rattle.crc32c.proofs.crc32c.Statement.{statement}
 use Rattle.crc32c.proofs.crc32c.Tie as tie
 
-byte-table-requires : tie.Need-byte-table-requires
-byte-table-requires c κs = search needs
-
-slice-aggregate-by-bytes : tie.Need-slice-aggregate-by-bytes
-slice-aggregate-by-bytes c = search needs
-
 by-bytes-requires : tie.Need-by-bytes-requires
 by-bytes-requires c κs = (c .before .before .byte-table .ensures, zero-le)
 
 returns : tie.Need-returns
 unfolding crc32c
 returns c = ap complement (c .by-bytes .ensures)
-
-further-tables-requires : tie.Need-further-tables-requires
-further-tables-requires c κs = search needs
-
-slice-aggregate-by-eights : tie.Need-slice-aggregate-by-eights
-slice-aggregate-by-eights c = search needs
-
-slice-aggregate-by-eights-2 : tie.Need-slice-aggregate-by-eights-2
-slice-aggregate-by-eights-2 c = search needs
 
 by-eights-requires : tie.Need-by-eights-requires
 by-eights-requires c κs =
@@ -41,12 +26,12 @@ pub crc32c-spec : {M : Type 1} → statement M
 crc32c-spec =
     tie.close
     (tie.spec
-    byte-table-requires
-    slice-aggregate-by-bytes
+    (λ c κs. search needs)
+    (λ c. search needs)
     by-bytes-requires
     returns
-    further-tables-requires
-    slice-aggregate-by-eights
-    slice-aggregate-by-eights-2
+    (λ c κs. search needs)
+    (λ c. search needs)
+    (λ c. search needs)
     by-eights-requires
     returns-2)

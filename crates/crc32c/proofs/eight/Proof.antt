@@ -8,15 +8,6 @@ use Rattle.crc32c.proofs.WordLaws.{by-two}
 use Rattle.crc32c.proofs.eight.Statement.{statement}
 use Rattle.crc32c.proofs.eight.Tie as tie
 
-word-requires : tie.Need-word-requires
-word-requires c κs = omega arith
-
-add-word : tie.Need-add-word
-add-word c = omega arith
-
-word-requires-2 : tie.Need-word-requires-2
-word-requires-2 c κs = omega arith
-
 four-requires : tie.Need-four-requires
 four-requires c κs = let p = c .before .before .before .before .before .pre in (p .0, (p .1 .0, omega arith))
 
@@ -34,4 +25,4 @@ returns c =
 pub eight-spec : {M : Type 1} → statement M
 eight-spec =
     tie.close
-    (tie.spec word-requires add-word word-requires-2 four-requires four-requires-2 returns)
+    (tie.spec (λ c κs. omega arith) (λ c. omega arith) (λ c κs. omega arith) four-requires four-requires-2 returns)

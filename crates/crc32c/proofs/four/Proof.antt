@@ -6,20 +6,11 @@ use Rattle.crc32c.proofs.WordLaws.{by-four}
 use Rattle.crc32c.proofs.four.Statement.{statement}
 use Rattle.crc32c.proofs.four.Tie as tie
 
-add-part : tie.Need-add-part
-add-part c = omega arith
-
 part-requires : tie.Need-part-requires
 part-requires c κs = let p = c .before .before .pre in (p .0, (p .1 .0, omega arith))
 
-add-part-2 : tie.Need-add-part-2
-add-part-2 c = omega arith
-
 part-requires-2 : tie.Need-part-requires-2
 part-requires-2 c κs = let p = c .before .before .before .pre in (p .0, (p .1 .0, omega arith))
-
-add-part-3 : tie.Need-add-part-3
-add-part-3 c = omega arith
 
 part-requires-3 : tie.Need-part-requires-3
 part-requires-3 c κs = let p = c .before .before .before .before .pre in (p .0, (p .1 .0, omega arith))
@@ -38,11 +29,11 @@ pub four-spec : {M : Type 1} → statement M
 four-spec =
     tie.close
     (tie.spec
-    add-part
+    (λ c. omega arith)
     part-requires
-    add-part-2
+    (λ c. omega arith)
     part-requires-2
-    add-part-3
+    (λ c. omega arith)
     part-requires-3
     part-requires-4
     returns)

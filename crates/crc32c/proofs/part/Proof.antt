@@ -10,12 +10,6 @@ use Rattle.crc32c.proofs.TableLaws.{first-at, further-at}
 use Rattle.crc32c.proofs.part.Statement.{statement}
 use Rattle.crc32c.proofs.part.Tie as tie
 
-cast-i : tie.Need-cast-i
-cast-i c = omega arith
-
-mul-result : tie.Need-mul-result
-mul-result c = search needs
-
 shared-slice-read-result : tie.Need-shared-slice-read-result
 shared-slice-read-result c = omega (arith, c .before .before .pre .0 .long)
 
@@ -24,21 +18,6 @@ returns c =
     let s = c .before .before in
     let e : 1 ≡ s .args .level + 1 = omega arith in
     first-at (s .args .t .now) (s .pre .0) (s .args .x % 256) (mod-lt (s .args .x) (lit< tt)) ∙ ap (λ (n : ℕ). after n (s .args .x % 256)) e
-
-sub-k : tie.Need-sub-k
-sub-k c = omega arith
-
-mul-result-2 : tie.Need-mul-result-2
-mul-result-2 c = search needs
-
-add-result : tie.Need-add-result
-add-result c = search needs
-
-mul-result-3 : tie.Need-mul-result-3
-mul-result-3 c = search needs
-
-shared-slice-read-result-2 : tie.Need-shared-slice-read-result-2
-shared-slice-read-result-2 c = search needs
 
 returns-2 : tie.Need-returns-2
 returns-2 c =
@@ -52,13 +31,13 @@ pub part-spec : {M : Type 1} → statement M
 part-spec =
     tie.close
     (tie.spec
-    cast-i
-    mul-result
+    (λ c. omega arith)
+    (λ c. search needs)
     shared-slice-read-result
     returns
-    sub-k
-    mul-result-2
-    add-result
-    mul-result-3
-    shared-slice-read-result-2
+    (λ c. omega arith)
+    (λ c. search needs)
+    (λ c. search needs)
+    (λ c. search needs)
+    (λ c. search needs)
     returns-2)

@@ -41,9 +41,6 @@ tall c s h un z =
     (prune-up-from-shrink-arg2 c .prune-up .ensures .1 _ s
     (cut-run-from-prune-up-arg2 (prune-up-from-shrink-arg2 c .before) .cut-run .ensures .0 s h un))
 
-cut-run-requires : tie.Need-cut-run-requires
-cut-run-requires c κs = search needs
-
 prune-up-requires : tie.Need-prune-up-requires
 prune-up-requires c κs = let l = start-from-prune-up-arg2 c .pre .0 in
     let e = cut-run-from-prune-up-arg2 c .cut-run .ensures in (
@@ -66,12 +63,6 @@ shrink-requires c κs = let l = start-from-shrink-arg2 c .pre .0 in (
   prune-up-from-shrink-arg2 c .prune-up .ensures .0,
 )
 
-same-length : tie.Need-same-length
-same-length c = search needs
-
-same-length-2 : tie.Need-same-length-2
-same-length-2 c = search needs
-
 returns : tie.Need-returns
 returns c = let b = shrink-from-slice-known7 c .shrink .ensures in
     let a = shrink-from-slice-known7 c .before in (
@@ -81,4 +72,4 @@ returns c = let b = shrink-from-slice-known7 c .shrink .ensures in
 
 pub cut-spec : {M : Type 1} → statement M
 cut-spec =
-    tie.close (tie.spec cut-run-requires prune-up-requires shrink-requires same-length same-length-2 returns)
+    tie.close (tie.spec (λ c κs. search needs) prune-up-requires shrink-requires (λ c. search needs) (λ c. search needs) returns)

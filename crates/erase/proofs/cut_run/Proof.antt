@@ -66,9 +66,6 @@ empty-slots-requires c κs = let l = pow2-from-empty-slots-arg c .before .before
     (order (pow2-from-empty-slots-arg c .before) (l .formed) (l .holds) (l .unmarked)) in
     (omega (arith, f .0, c .before .before .before .uncount .kept .0), omega (arith, pow2-from-empty-slots-arg c .pow2 .ensures))
 
-same-length : tie.Need-same-length
-same-length c = search needs
-
 returns : tie.Need-returns
 returns c = let l = start-from-slice-known3 c .pre in
     let w = run-wide (l .formed) (l .holds) (l .unmarked) _
@@ -95,5 +92,5 @@ cut-run-spec =
     pow2-requires
     uncount-requires
     empty-slots-requires
-    same-length
+    (λ c. search needs)
     returns)

@@ -111,9 +111,6 @@ filled-of-requires : tie.Need-filled-of-requires
 filled-of-requires c κs = let H = c .before .before .pre .1 in
     omega (arith, under-fits (H .tower .tall) (c .before .before .pre .0) (H .there) (H .number) .0)
 
-same-length : tie.Need-same-length
-same-length c = search needs
-
 returns : tie.Need-returns
 returns c = (
   (λ k l os w t q. record {
@@ -131,12 +128,6 @@ slot-word-requires c κs = let H = start-from-slot-word-arg c .pre .1 in
           (H .number) .0,
     )
 
-read-slot-requires : tie.Need-read-slot-requires
-read-slot-requires c κs = search needs
-
-enum-known-k : tie.Need-enum-known-k
-enum-known-k c = search needs
-
 raise-requires : tie.Need-raise-requires
 raise-requires c κs = let H = start-from-read-slot (read-slot-from-raise-arg c) .pre .1 in (
   under-fits (H .tower .tall) (start-from-read-slot (read-slot-from-raise-arg c) .pre .0) (H .there) (H .number) .0,
@@ -148,9 +139,6 @@ raise-requires c κs = let H = start-from-read-slot (read-slot-from-raise-arg c)
 
 enum-told : tie.Need-enum-told
 enum-told c = search needs
-
-same-length-2 : tie.Need-same-length-2
-same-length-2 c = search needs
 
 returns-2 : tie.Need-returns-2
 returns-2 c = (
@@ -167,18 +155,6 @@ returns-2 c = (
 free-head-requires : tie.Need-free-head-requires
 free-head-requires c κs = let H = start-from-read-slot (read-slot-from-free-head-arg c) .pre .1 in under-fits
     (H .tower .tall) (start-from-read-slot (read-slot-from-free-head-arg c) .pre .0) (H .there) (H .number) .0
-
-enum-told-2 : tie.Need-enum-told-2
-enum-told-2 c = search needs
-
-enum-told-3 : tie.Need-enum-told-3
-enum-told-3 c = search needs
-
-enum-told-4 : tie.Need-enum-told-4
-enum-told-4 c = search needs
-
-same-length-3 : tie.Need-same-length-3
-same-length-3 c = search needs
 
 returns-3 : tie.Need-returns-3
 returns-3 c = (
@@ -229,9 +205,6 @@ returns-5 c = let d = c .before .before .free-head .ensures in (
   freed-sheds d,
 )
 
-same-length-6 : tie.Need-same-length-6
-same-length-6 c = search needs
-
 returns-6 : tie.Need-returns-6
 returns-6 c = (
   (λ k l os w t q. record {
@@ -243,9 +216,6 @@ returns-6 c = (
   }),
   sheds-none _ _,
 )
-
-same-length-7 : tie.Need-same-length-7
-same-length-7 c = search needs
 
 returns-7 : tie.Need-returns-7
 returns-7 c = (
@@ -280,29 +250,29 @@ drop-head-spec =
     tie.close
     (tie.spec
     filled-of-requires
-    same-length
+    (λ c. search needs)
     returns
     slot-word-requires
-    read-slot-requires
-    enum-known-k
+    (λ c κs. search needs)
+    (λ c. search needs)
     raise-requires
     enum-told
-    same-length-2
+    (λ c. search needs)
     returns-2
     free-head-requires
-    enum-told-2
-    enum-told-3
-    enum-told-4
-    same-length-3
+    (λ c. search needs)
+    (λ c. search needs)
+    (λ c. search needs)
+    (λ c. search needs)
     returns-3
     free-head-requires-2
     same-length-4
     returns-4
     same-length-5
     returns-5
-    same-length-6
+    (λ c. search needs)
     returns-6
-    same-length-7
+    (λ c. search needs)
     returns-7
     same-length-8
     returns-8)

@@ -4,7 +4,7 @@ use mathlib.Core.Path.{_≡_, ap, sym, _∙_}
 use mathlib.Core.List.{List}
 use native.Mathlib.Omega.{arith}
 use lib.ListN.{set}
-use Rattle.layout.specs.Fill.{filled}
+use Rattle.words.specs.Fill.{filled}
 use borrow.Author.Needs.{needs}
 use Rattle.erase.proofs.empty_slots.Statement.{statement}
 use Rattle.erase.proofs.empty_slots.Tie as tie
@@ -18,20 +18,8 @@ one ws p x c e = let z : p + 0 ≡ p = omega arith in sym (ap (filled ws p x) e 
 abbrev then1-from-slice-known2 : tie.After-slice-known2 → tie.Then1
 then1-from-slice-known2 c = c .before .before .before .before
 
-put-slot-requires : tie.Need-put-slot-requires
-put-slot-requires c κs = omega arith
-
-same-length : tie.Need-same-length
-same-length c = search needs
-
 returns : tie.Need-returns
 returns c = c .before .before .put-slot .ensures ∙ one _ _ 0 _ (then1-from-slice-known2 c .if1 .taken)
-
-fill-slots-requires : tie.Need-fill-slots-requires
-fill-slots-requires c κs = omega arith
-
-same-length-2 : tie.Need-same-length-2
-same-length-2 c = search needs
 
 returns-2 : tie.Need-returns-2
 returns-2 c = c .before .before .fill-slots .ensures
@@ -40,9 +28,9 @@ pub empty-slots-spec : {M : Type 1} → statement M
 empty-slots-spec =
     tie.close
     (tie.spec
-    put-slot-requires
-    same-length
+    (λ c κs. omega arith)
+    (λ c. search needs)
     returns
-    fill-slots-requires
-    same-length-2
+    (λ c κs. omega arith)
+    (λ c. search needs)
     returns-2)

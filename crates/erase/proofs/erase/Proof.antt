@@ -32,17 +32,8 @@ start-from-remove-arg2 c = locate-from-remove-arg2 c .before .before .before .be
 abbrev remove-from-slice-known4 : tie.After-slice-known4 → tie.After-remove
 remove-from-slice-known4 c = c .before .before .before .before
 
-locate-requires : tie.Need-locate-requires
-locate-requires c κs = search needs
-
 enum-told : tie.Need-enum-told
 enum-told c = search needs
-
-enum-told-2 : tie.Need-enum-told-2
-enum-told-2 c = search needs
-
-enum-known-k : tie.Need-enum-known-k
-enum-known-k c = search needs
 
 slice-write-pool : tie.Need-slice-write-pool
 slice-write-pool c = omega (arith, pool-length (start-from-known-told c .pre .0))
@@ -54,9 +45,6 @@ slice-write-pool-2 c = simp length-set (omega (
       (start-from-known-told c .pre .0),
 ))
 
-enum-known-k-2 : tie.Need-enum-known-k-2
-enum-known-k-2 c = search needs
-
 remove-requires : tie.Need-remove-requires
 remove-requires c κs = let s = start-from-remove-arg2 c .pre .0 in
     let (q, h, t, le, d) = at-spot _ _ _ (locate-from-remove-arg2 c .locate .ensures s)
@@ -64,9 +52,6 @@ remove-requires c κs = let s = start-from-remove-arg2 c .pre .0 in
       start-from-remove-arg2 c .pre .1,
       record { formed = s; holds = h; height-is = t },
     )
-
-same-length : tie.Need-same-length
-same-length c = search needs
 
 returns : tie.Need-returns
 returns c = (
@@ -79,9 +64,6 @@ returns c = (
   ),
 )
 
-same-length-2 : tie.Need-same-length-2
-same-length-2 c = search needs
-
 returns-2 : tie.Need-returns-2
 returns-2 c = (
   (λ s. let (t, q, b, le, d) = at-vacant _ _ _ (c .before .before .locate .ensures s) (c .enum-told2 .given .1) in
@@ -93,9 +75,6 @@ returns-2 c = (
   ),
 )
 
-same-length-3 : tie.Need-same-length-3
-same-length-3 c = search needs
-
 returns-3 : tie.Need-returns-3
 returns-3 c = (
   (λ s. let (z, q) = at-head _ (c .before .before .before .locate .ensures s) (c .before .k .given .1) in
@@ -106,12 +85,6 @@ returns-3 c = (
     map-head (start-from-known-told c .pre .1),
   ),
 )
-
-same-length-4 : tie.Need-same-length-4
-same-length-4 c = search needs
-
-same-length-5 : tie.Need-same-length-5
-same-length-5 c = search needs
 
 returns-4 : tie.Need-returns-4
 returns-4 c = let e = remove-from-slice-known4 c .remove .ensures in
@@ -129,20 +102,20 @@ pub erase-spec : {M : Type 1} → statement M
 erase-spec =
     tie.close
     (tie.spec
-    locate-requires
+    (λ c κs. search needs)
     enum-told
-    enum-told-2
-    enum-known-k
+    (λ c. search needs)
+    (λ c. search needs)
     slice-write-pool
     slice-write-pool-2
-    enum-known-k-2
+    (λ c. search needs)
     remove-requires
-    same-length
+    (λ c. search needs)
     returns
-    same-length-2
+    (λ c. search needs)
     returns-2
-    same-length-3
+    (λ c. search needs)
     returns-3
-    same-length-4
-    same-length-5
+    (λ c. search needs)
+    (λ c. search needs)
     returns-4)

@@ -11,18 +11,9 @@ put-owner-from-slice-known3 c = c .before .before .before .before .before .befor
 abbrev start-from-slice-known3 : tie.After-slice-known3 → tie.Start
 start-from-slice-known3 c = put-owner-from-slice-known3 c .before .before .before
 
-put-owner-requires : tie.Need-put-owner-requires
-put-owner-requires c κs = search needs
-
-free-head-requires : tie.Need-free-head-requires
-free-head-requires c κs = search needs
-
-same-length : tie.Need-same-length
-same-length c = search needs
-
 returns : tie.Need-returns
 returns c = raised _ _ _ (start-from-slice-known3 c .pre .1)
     (put-owner-from-slice-known3 c .put-owner .ensures) (c .before .before .free-head .ensures)
 
 pub raise-spec : {M : Type 1} → statement M
-raise-spec = tie.close (tie.spec put-owner-requires free-head-requires same-length returns)
+raise-spec = tie.close (tie.spec (λ c κs. search needs) (λ c κs. search needs) (λ c. search needs) returns)

@@ -116,12 +116,6 @@ cut-requires c κs = let l = start-from-cut-arg2 c .pre .1 in
           (map-remark s₀ i 0 false (lit< tt) (s₁ .words-are) (start-from-cut-arg2 c .pre .0))),
     )
 
-same-length : tie.Need-same-length
-same-length c = search needs
-
-same-length-2 : tie.Need-same-length-2
-same-length-2 c = search needs
-
 returns : tie.Need-returns
 returns c =
     let e = cut-from-slice-known7 c .cut .ensures in
@@ -135,4 +129,4 @@ returns c =
 pub remove-spec : {M : Type 1} → statement M
 remove-spec =
     tie.close
-    (tie.spec climb-requires climb-requires-2 climb-requires-3 cut-requires same-length same-length-2 returns)
+    (tie.spec climb-requires climb-requires-2 climb-requires-3 cut-requires (λ c. search needs) (λ c. search needs) returns)

@@ -10,8 +10,8 @@ use borrow.Author.Tests.{not-true, not-false}
 use Rattle.model.specs.declared.Entry.{Entry}
 use Rattle.layout.specs.Words.{maxNodes, countWord}
 use Rattle.layout.specs.Places.{Places}
-use Rattle.freemap.specs.FreeMap.{FreeMap}
-use Rattle.freemap.proofs.MapLaws.{free-sound}
+use Rattle.freenodes.specs.FreeNodes.{FreeMap}
+use Rattle.freenodes.proofs.BuildLaws.{free-sound}
 use Rattle.erase.specs.Tall.{Tall, Tower}
 use Rattle.erase.proofs.LowerLaws.{under-fits, tall-flat, top-child, top-empty, top-held, top-sibling}
 use Rattle.erase.proofs.FreedLaws.{sheds-given, sheds-kept}
@@ -95,12 +95,6 @@ loop-holds c = (c .before .before .pre .0, refl, refl, c .before .before .pre .1
 
 slice-read-read-slot : tie.Need-slice-read-read-slot Inv-loop μ-loop
 slice-read-read-slot c = omega (arith, c .before .before .loop .inv .0 .tall .size)
-
-read-slot-requires : tie.Need-read-slot-requires Inv-loop μ-loop
-read-slot-requires c κs = search needs
-
-enum-known-k : tie.Need-enum-known-k Inv-loop μ-loop
-enum-known-k c = search needs
 
 drop-head-requires : tie.Need-drop-head-requires Inv-loop μ-loop
 drop-head-requires c κs = let T = loop-from-drop-head-arg c .loop .inv .0 in
@@ -187,9 +181,6 @@ returns-2 c = let w = loop-from-enum-told c .loop .inv in (
       (c .before .before .read-slot .ensures) (inl (c .enum-told .given .1))),
 )
 
-enum-told-2 : tie.Need-enum-told-2 Inv-loop μ-loop
-enum-told-2 c = search needs
-
 same-length-5 : tie.Need-same-length-5 Inv-loop μ-loop
 same-length-5 c = loop-from-enum-told2 c .loop .inv .1
 
@@ -203,9 +194,6 @@ returns-3 c = let w = loop-from-enum-told2 c .loop .inv in (
       top-empty (w .4 k l os t) (in-loop-from-enum-told2 c .loop-test .taken) refl
       (c .before .before .read-slot .ensures) (c .enum-told2 .given .1),
 )
-
-enum-told-3 : tie.Need-enum-told-3 Inv-loop μ-loop
-enum-told-3 c = search needs
 
 same-length-7 : tie.Need-same-length-7 Inv-loop μ-loop
 same-length-7 c = loop-from-enum-told3 c .loop .inv .1
@@ -221,9 +209,6 @@ returns-4 c = let w = loop-from-enum-told3 c .loop .inv in (
       (c .before .before .read-slot .ensures) _
       (c .enum-told3 .given .1)),
 )
-
-enum-told-4 : tie.Need-enum-told-4 Inv-loop μ-loop
-enum-told-4 c = search needs
 
 same-length-9 : tie.Need-same-length-9 Inv-loop μ-loop
 same-length-9 c = loop-from-enum-told4 c .loop .inv .1
@@ -257,8 +242,8 @@ shrink-spec =
     μ-loop
     loop-holds
     slice-read-read-slot
-    read-slot-requires
-    enum-known-k
+    (λ c κs. search needs)
+    (λ c. search needs)
     drop-head-requires
     same-length
     same-length-2
@@ -271,15 +256,15 @@ shrink-spec =
     same-length-3
     same-length-4
     returns-2
-    enum-told-2
+    (λ c. search needs)
     same-length-5
     same-length-6
     returns-3
-    enum-told-3
+    (λ c. search needs)
     same-length-7
     same-length-8
     returns-4
-    enum-told-4
+    (λ c. search needs)
     same-length-9
     same-length-10
     returns-5

@@ -14,18 +14,6 @@ filled-of-from-slice-known2 c = c .before .before .before .before
 abbrev start-from-slice-known2 : tie.After-slice-known2 → tie.Start
 start-from-slice-known2 c = filled-of-from-slice-known2 c .before .before .before
 
-filled-of-requires : tie.Need-filled-of-requires
-filled-of-requires c κs = search needs
-
-sub-left : tie.Need-sub-left
-sub-left c = search needs
-
-put-filled-requires : tie.Need-put-filled-requires
-put-filled-requires c κs = search needs
-
-same-length : tie.Need-same-length
-same-length c = search needs
-
 returns : tie.Need-returns
 returns c = let a = start-from-slice-known2 c .args in
     c .before .before .put-filled .ensures ∙
@@ -33,4 +21,4 @@ returns c = let a = start-from-slice-known2 c .args in
 
 pub uncount-spec : {M : Type 1} → statement M
 uncount-spec =
-    tie.close (tie.spec filled-of-requires sub-left put-filled-requires same-length returns)
+    tie.close (tie.spec (λ c κs. search needs) (λ c. search needs) (λ c κs. search needs) (λ c. search needs) returns)

@@ -15,18 +15,6 @@ uncount-from-slice-known4 c = put-slot-from-slice-known4 c .before .before .befo
 abbrev start-from-slice-known4 : tie.After-slice-known4 → tie.Start
 start-from-slice-known4 c = uncount-from-slice-known4 c .before .before .before
 
-uncount-requires : tie.Need-uncount-requires
-uncount-requires c κs = search needs
-
-put-slot-requires : tie.Need-put-slot-requires
-put-slot-requires c κs = search needs
-
-clear-node-requires : tie.Need-clear-node-requires
-clear-node-requires c κs = search needs
-
-same-length : tie.Need-same-length
-same-length c = search needs
-
 returns : tie.Need-returns
 returns c = let p = start-from-slice-known4 c .pre in
     unlinked _ _ _ _ (p .0) (p .1 .0) (p .1 .1 .0) (omega (arith, p .1 .1 .1)) (uncount-from-slice-known4 c .uncount .ensures)
@@ -34,4 +22,4 @@ returns c = let p = start-from-slice-known4 c .pre in
 
 pub unlink-spec : {M : Type 1} → statement M
 unlink-spec =
-    tie.close (tie.spec uncount-requires put-slot-requires clear-node-requires same-length returns)
+    tie.close (tie.spec (λ c κs. search needs) (λ c κs. search needs) (λ c κs. search needs) (λ c. search needs) returns)

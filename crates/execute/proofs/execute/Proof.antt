@@ -17,17 +17,8 @@ start c = c .before .before .before
 abbrev stored : tie.After-slice-known4 → tie.After-run-store
 stored c = c .before .before .before .before
 
-as-put-requires : tie.Need-as-put-requires
-as-put-requires c κs = search needs
-
 run-store-requires : tie.Need-run-store-requires
 run-store-requires c κs = let x = asked c in let z = start x in (z .pre .0, (z .pre .1, put-bare (z .args .c) (x .as-put .ensures)))
-
-same-length : tie.Need-same-length
-same-length c = search needs
-
-same-length-2 : tie.Need-same-length-2
-same-length-2 c = search needs
 
 returns : tie.Need-returns
 returns c = let y = stored c in let x = asked (y .before) in (
@@ -35,28 +26,16 @@ returns c = let y = stored c in let x = asked (y .before) in (
   y .run-store .ensures .1,
 )
 
-run-other-requires : tie.Need-run-other-requires
-run-other-requires c κs = search needs
-
-same-length-3 : tie.Need-same-length-3
-same-length-3 c = search needs
-
-same-length-4 : tie.Need-same-length-4
-same-length-4 c = search needs
-
-returns-2 : tie.Need-returns-2
-returns-2 c = search needs
-
 pub execute-spec : {M : Type 1} → statement M
 execute-spec =
     tie.close
     (tie.spec
-    as-put-requires
+    (λ c κs. search needs)
     run-store-requires
-    same-length
-    same-length-2
+    (λ c. search needs)
+    (λ c. search needs)
     returns
-    run-other-requires
-    same-length-3
-    same-length-4
-    returns-2)
+    (λ c κs. search needs)
+    (λ c. search needs)
+    (λ c. search needs)
+    (λ c. search needs))

@@ -5,24 +5,6 @@ use borrow.Author.Needs.{needs}
 use Rattle.execute.proofs.found_reply.Statement.{statement}
 use Rattle.execute.proofs.found_reply.Tie as tie
 
-enum-known-x : tie.Need-enum-known-x
-enum-known-x c = search needs
-
-answered-by-requires : tie.Need-answered-by-requires
-answered-by-requires c κs = search needs
-
-enum-known-x-2 : tie.Need-enum-known-x-2
-enum-known-x-2 c = search needs
-
-answered-requires : tie.Need-answered-requires
-answered-requires c κs = search needs
-
-enum-known-x-3 : tie.Need-enum-known-x-3
-enum-known-x-3 c = search needs
-
-answered-requires-2 : tie.Need-answered-requires-2
-answered-requires-2 c κs = search needs
-
 returns : tie.Need-returns
 returns c = c .answered-by .ensures ∙ sym (ap (finding 134) (c .before .before .x .given .1))
 
@@ -36,12 +18,12 @@ pub found-reply-spec : {M : Type 1} → statement M
 found-reply-spec =
     tie.close
     (tie.spec
-    enum-known-x
-    answered-by-requires
-    enum-known-x-2
-    answered-requires
-    enum-known-x-3
-    answered-requires-2
+    (λ c. search needs)
+    (λ c κs. search needs)
+    (λ c. search needs)
+    (λ c κs. search needs)
+    (λ c. search needs)
+    (λ c κs. search needs)
     returns
     returns-2
     returns-3)

@@ -5,17 +5,11 @@ use borrow.Author.Needs.{needs}
 use Rattle.execute.proofs.put_reply.Statement.{statement}
 use Rattle.execute.proofs.put_reply.Tie as tie
 
-reserved-reply-requires : tie.Need-reserved-reply-requires
-reserved-reply-requires c κs = search needs
-
 returns : tie.Need-returns
 returns c = (λ _. (c .reserved-reply .ensures, refl), λ f s. absurd (clash (c .before .if1 .taken) f))
 
 stored-reply-requires : tie.Need-stored-reply-requires
 stored-reply-requires c κs = c .before .before .before .pre (c .before .if1 .left)
-
-same-length : tie.Need-same-length
-same-length c = search needs
 
 returns-2 : tie.Need-returns-2
 returns-2 c = (λ t. absurd (clash t (c .before .before .before .before .if1 .left)), λ _ s. c .before .before .stored-reply .ensures s)
@@ -23,4 +17,4 @@ returns-2 c = (λ t. absurd (clash t (c .before .before .before .before .if1 .le
 pub put-reply-spec : {M : Type 1} → statement M
 put-reply-spec =
     tie.close
-    (tie.spec reserved-reply-requires returns stored-reply-requires same-length returns-2)
+    (tie.spec (λ c κs. search needs) returns stored-reply-requires (λ c. search needs) returns-2)

@@ -5,23 +5,8 @@ use borrow.Author.Needs.{needs}
 use Rattle.execute.proofs.reserved_reply.Statement.{statement}
 use Rattle.execute.proofs.reserved_reply.Tie as tie
 
-enum-known-x : tie.Need-enum-known-x
-enum-known-x c = search needs
-
-answered-by-requires : tie.Need-answered-by-requires
-answered-by-requires c κs = search needs
-
 enum-told : tie.Need-enum-told
 enum-told c = search needs
-
-answered-requires : tie.Need-answered-requires
-answered-requires c κs = search needs
-
-enum-told-2 : tie.Need-enum-told-2
-enum-told-2 c = search needs
-
-answered-requires-2 : tie.Need-answered-requires-2
-answered-requires-2 c κs = search needs
 
 returns : tie.Need-returns
 returns c = c .answered-by .ensures ∙ sym (ap reservedReply (c .before .before .x .given .1))
@@ -36,12 +21,12 @@ pub reserved-reply-spec : {M : Type 1} → statement M
 reserved-reply-spec =
     tie.close
     (tie.spec
-    enum-known-x
-    answered-by-requires
+    (λ c. search needs)
+    (λ c κs. search needs)
     enum-told
-    answered-requires
-    enum-told-2
-    answered-requires-2
+    (λ c κs. search needs)
+    (λ c. search needs)
+    (λ c κs. search needs)
     returns
     returns-2
     returns-3)

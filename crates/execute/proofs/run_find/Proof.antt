@@ -1,6 +1,7 @@
 -- `run_find`: a find, its reply; the words stay.
 use mathlib.Core.Path.{sym, ap, _∙_}
-use Rattle.execute.specs.Execute.{Executed, finding}
+use Rattle.execute.specs.Execute.{finding}
+use Rattle.commands.specs.Commands.{Executed}
 use Rattle.execute.proofs.ReplyLaws.{find-mark, find-first, find-budget, find-runs}
 use borrow.Author.Needs.{needs}
 use Rattle.execute.proofs.run_find.Statement.{statement}
@@ -13,23 +14,14 @@ start-from-else3 c = c .before .before .before .before
 abbrev else1-from-found-reply : tie.After-found-reply → tie.Else1
 else1-from-found-reply c = c .before .before .before .before
 
-answered-requires : tie.Need-answered-requires
-answered-requires c κs = search needs
-
 returns : tie.Need-returns
 returns c = λ s. c .answered .ensures
     ∙ sym (ap (λ (x : Executed). x .reply) (find-mark (s .n) (s .list) _ _ _ _ (c .before .if1 .taken)))
-
-answered-requires-2 : tie.Need-answered-requires-2
-answered-requires-2 c κs = search needs
 
 returns-2 : tie.Need-returns-2
 returns-2 c = λ s. c .answered2 .ensures
     ∙ sym (ap (λ (x : Executed). x .reply) (find-first (s .n) (s .list) _ _ _ _ (c .before .before .if1 .left)
     (c .before .if2 .taken)))
-
-answered-requires-3 : tie.Need-answered-requires-3
-answered-requires-3 c κs = search needs
 
 returns-3 : tie.Need-returns-3
 returns-3 c = λ s. c .answered3 .ensures
@@ -39,9 +31,6 @@ returns-3 c = λ s. c .answered3 .ensures
 
 find-requires : tie.Need-find-requires
 find-requires c κs = (start-from-else3 c .pre, c .before .before .if1 .left)
-
-found-reply-requires : tie.Need-found-reply-requires
-found-reply-requires c κs = search needs
 
 returns-4 : tie.Need-returns-4
 returns-4 c = λ s. c .found-reply .ensures ∙ ap (finding 134) (c .before .find .ensures s)
@@ -53,12 +42,12 @@ pub run-find-spec : {M : Type 1} → statement M
 run-find-spec =
     tie.close
     (tie.spec
-    answered-requires
+    (λ c κs. search needs)
     returns
-    answered-requires-2
+    (λ c κs. search needs)
     returns-2
-    answered-requires-3
+    (λ c κs. search needs)
     returns-3
     find-requires
-    found-reply-requires
+    (λ c κs. search needs)
     returns-4)

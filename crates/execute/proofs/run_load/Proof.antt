@@ -1,21 +1,15 @@
 -- `run_load`: a load, its reply; the words stay.
 use mathlib.Core.Path.{sym, ap, _∙_}
-use Rattle.execute.specs.Execute.{Executed}
+use Rattle.commands.specs.Commands.{Executed}
 use Rattle.execute.specs.Contracts.{loadedReply}
 use Rattle.execute.proofs.ReplyLaws.{load-runs}
 use borrow.Author.Needs.{needs}
 use Rattle.execute.proofs.run_load.Statement.{statement}
 use Rattle.execute.proofs.run_load.Tie as tie
 
-load-requires : tie.Need-load-requires
-load-requires c κs = search needs
-
-loaded-reply-requires : tie.Need-loaded-reply-requires
-loaded-reply-requires c κs = search needs
-
 returns : tie.Need-returns
 returns c = λ s. c .loaded-reply .ensures ∙ ap (loadedReply 130) (c .before .load .ensures s)
     ∙ sym (ap (λ (x : Executed). x .reply) (load-runs (s .n) (s .list) _))
 
 pub run-load-spec : {M : Type 1} → statement M
-run-load-spec = tie.close (tie.spec load-requires loaded-reply-requires returns)
+run-load-spec = tie.close (tie.spec (λ c κs. search needs) (λ c κs. search needs) returns)

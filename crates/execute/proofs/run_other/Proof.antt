@@ -12,50 +12,8 @@ use Rattle.execute.proofs.run_other.Tie as tie
 enum-told : tie.Need-enum-told
 enum-told c = search needs
 
-nothing-requires : tie.Need-nothing-requires
-nothing-requires c κs = search needs
-
-enum-known-c : tie.Need-enum-known-c
-enum-known-c c = search needs
-
-run-load-requires : tie.Need-run-load-requires
-run-load-requires c κs = search needs
-
-enum-known-c-2 : tie.Need-enum-known-c-2
-enum-known-c-2 c = search needs
-
-run-erase-requires : tie.Need-run-erase-requires
-run-erase-requires c κs = search needs
-
-enum-known-c-3 : tie.Need-enum-known-c-3
-enum-known-c-3 c = search needs
-
-run-remark-requires : tie.Need-run-remark-requires
-run-remark-requires c κs = search needs
-
-enum-known-c-4 : tie.Need-enum-known-c-4
-enum-known-c-4 c = search needs
-
-run-remark-requires-2 : tie.Need-run-remark-requires-2
-run-remark-requires-2 c κs = search needs
-
-enum-known-c-5 : tie.Need-enum-known-c-5
-enum-known-c-5 c = search needs
-
-run-find-requires : tie.Need-run-find-requires
-run-find-requires c κs = search needs
-
-enum-told-2 : tie.Need-enum-told-2
-enum-told-2 c = search needs
-
-nothing-requires-2 : tie.Need-nothing-requires-2
-nothing-requires-2 c κs = search needs
-
 returns : tie.Need-returns
 returns c = absurd (clash (ap (λ (y : Command). putOf y .is) (c .before .enum-told .given .1)) (c .before .before .before .before .before .pre .1 .1))
-
-same-length : tie.Need-same-length
-same-length c = search needs
 
 returns-2 : tie.Need-returns-2
 returns-2 c = (
@@ -64,20 +22,11 @@ returns-2 c = (
   c .before .before .before .before .before .before .before .pre .1 .0,
 )
 
-same-length-2 : tie.Need-same-length-2
-same-length-2 c = search needs
-
-same-length-3 : tie.Need-same-length-3
-same-length-3 c = search needs
-
 returns-3 : tie.Need-returns-3
 returns-3 c = let e = c .before .before .before .before in (
   (λ s. by-command s (e .before .before .before .before .c2 .given .1) (e .run-erase .ensures .0 s)),
   e .run-erase .ensures .1,
 )
-
-same-length-4 : tie.Need-same-length-4
-same-length-4 c = search needs
 
 returns-4 : tie.Need-returns-4
 returns-4 c = (
@@ -85,17 +34,11 @@ returns-4 c = (
   c .before .before .run-remark .ensures .1 _ (c .before .before .before .before .before .before .before .before .before .pre .1 .0),
 )
 
-same-length-5 : tie.Need-same-length-5
-same-length-5 c = search needs
-
 returns-5 : tie.Need-returns-5
 returns-5 c = (
   (λ s. by-command s (c .before .before .before .before .before .c4 .given .1) (c .before .before .run-remark2 .ensures .0 s)),
   c .before .before .run-remark2 .ensures .1 _ (c .before .before .before .before .before .before .before .before .before .pre .1 .0),
 )
-
-same-length-6 : tie.Need-same-length-6
-same-length-6 c = search needs
 
 returns-6 : tie.Need-returns-6
 returns-6 c = (
@@ -112,29 +55,29 @@ run-other-spec =
     tie.close
     (tie.spec
     enum-told
-    nothing-requires
-    enum-known-c
-    run-load-requires
-    enum-known-c-2
-    run-erase-requires
-    enum-known-c-3
-    run-remark-requires
-    enum-known-c-4
-    run-remark-requires-2
-    enum-known-c-5
-    run-find-requires
-    enum-told-2
-    nothing-requires-2
+    (λ c κs. search needs)
+    (λ c. search needs)
+    (λ c κs. search needs)
+    (λ c. search needs)
+    (λ c κs. search needs)
+    (λ c. search needs)
+    (λ c κs. search needs)
+    (λ c. search needs)
+    (λ c κs. search needs)
+    (λ c. search needs)
+    (λ c κs. search needs)
+    (λ c. search needs)
+    (λ c κs. search needs)
     returns
-    same-length
+    (λ c. search needs)
     returns-2
-    same-length-2
-    same-length-3
+    (λ c. search needs)
+    (λ c. search needs)
     returns-3
-    same-length-4
+    (λ c. search needs)
     returns-4
-    same-length-5
+    (λ c. search needs)
     returns-5
-    same-length-6
+    (λ c. search needs)
     returns-6
     returns-7)

@@ -3,8 +3,9 @@ use Prim.Native.Nat.{ℕ}
 use mathlib.Core.Path.{ap, ap₂, _∙_}
 use Rattle.batch.specs.Reply.{answered}
 use Rattle.erase.proofs.FreedLaws.{map-remark}
-use Rattle.execute.specs.Execute.{markAbove}
-use Rattle.execute.specs.Contracts.{coveredReply, remarking}
+use Rattle.answers.specs.Answers.{badMark}
+use Rattle.execute.specs.Contracts.{remarking}
+use Rattle.commands.specs.Replies.{coveredReply}
 use Rattle.execute.proofs.ReplyLaws.{leaves, remarks, remark-above, remark-runs}
 use borrow.Author.Needs.{needs}
 use Rattle.execute.proofs.run_remark.Statement.{statement}
@@ -20,28 +21,13 @@ else1-from-covered-reply c = c .before .before .before .before .before
 abbrev remarked-tag-from-covered-reply : tie.After-covered-reply → tie.After-remarked-tag
 remarked-tag-from-covered-reply c = else1-from-covered-reply c .before
 
-remarked-tag-requires : tie.Need-remarked-tag-requires
-remarked-tag-requires c κs = search needs
-
-answered-requires : tie.Need-answered-requires
-answered-requires c κs = search needs
-
 returns : tie.Need-returns
 returns c = let a = start-from-answered c .args in (
   (λ s. leaves s (remarking (a .index) (a .mark) (a .on))
       (remark-above (s .n) (s .list) (a .index) (a .mark) (a .on) (c .before .if1 .taken))
-      (c .answered .ensures ∙ ap (λ (t : ℕ). answered t markAbove 0 0) (c .before .before .remarked-tag .ensures))),
+      (c .answered .ensures ∙ ap (λ (t : ℕ). answered t badMark 0 0) (c .before .before .remarked-tag .ensures))),
   λ ms u. u,
 )
-
-set-mark-requires : tie.Need-set-mark-requires
-set-mark-requires c κs = search needs
-
-covered-reply-requires : tie.Need-covered-reply-requires
-covered-reply-requires c κs = search needs
-
-same-length : tie.Need-same-length
-same-length c = search needs
 
 returns-2 : tie.Need-returns-2
 returns-2 c =
@@ -60,10 +46,10 @@ pub run-remark-spec : {M : Type 1} → statement M
 run-remark-spec =
     tie.close
     (tie.spec
-    remarked-tag-requires
-    answered-requires
+    (λ c κs. search needs)
+    (λ c κs. search needs)
     returns
-    set-mark-requires
-    covered-reply-requires
-    same-length
+    (λ c κs. search needs)
+    (λ c κs. search needs)
+    (λ c. search needs)
     returns-2)

@@ -4,7 +4,7 @@ use Rattle.batch.specs.declared.Command.the-variants.{Store}
 use Rattle.blocks.proofs.BoolLaws.{byT, not-true, not-false}
 use Rattle.execute.proofs.ReplyLaws.{leaves, store-order, store-index, store-word, store-formed, store-mapped, stores, reserves}
 use Rattle.execute.proofs.ReplyLaws.{put-store, put-reserve, put-order, put-index, put-word, put-enters, put-storable}
-use Rattle.freemap.proofs.FollowLaws.{map-stays}
+use Rattle.freenodes.proofs.FollowLaws.{map-stays}
 use Rattle.execute.proofs.ReplyLaws.{words-stay}
 use borrow.Author.Needs.{needs}
 use Rattle.execute.proofs.run_store.Statement.{statement}
@@ -32,9 +32,6 @@ stored c = c .before .before .before .before .before
 abbrev replied : tie.After-slice-known5 → tie.After-put-reply
 replied c = c .before .before
 
-answered-requires : tie.Need-answered-requires
-answered-requires c κs = search needs
-
 returns : tie.Need-returns
 returns c = let z = c .before .before .before .before in let a = z .args in (
   (λ s. put-store (a .index) (a .order) (a .word) s
@@ -42,15 +39,6 @@ returns c = let z = c .before .before .before .before in let a = z .args in (
       (leaves s (Store _ _ _) (store-order (s .n) (s .list) _ _ _ (c .before .if1 .taken)) (c .answered .ensures))),
   z .pre .1 .0,
 )
-
-is-aligned-requires : tie.Need-is-aligned-requires
-is-aligned-requires c κs = search needs
-
-is-enterable-requires : tie.Need-is-enterable-requires
-is-enterable-requires c κs = search needs
-
-answered-requires-2 : tie.Need-answered-requires-2
-answered-requires-2 c κs = search needs
 
 returns-2 : tie.Need-returns-2
 returns-2 c = let x = asked (c .before .before) in let z = start (ordered x) in let a = z .args in
@@ -60,9 +48,6 @@ returns-2 c = let x = asked (c .before .before) in let z = start (ordered x) in 
           (leaves s (Store _ _ _) (store-index (s .n) (s .list) _ _ _ (ordered x .if1 .left) al) (c .answered2 .ensures))),
       z .pre .1 .0,
     )
-
-answered-requires-3 : tie.Need-answered-requires-3
-answered-requires-3 c κs = search needs
 
 returns-3 : tie.Need-returns-3
 returns-3 c = let d = c .before .before in let y = d .before in let x = asked y in let z = start (ordered x) in
@@ -97,12 +82,6 @@ put-reply-requires c κs =
     store-formed (z .pre .0) _ _ _ (z .fits .index .fits) (z .fits .word .fits) (ordered x .if1 .left) st
     (r .store .ensures .0 (z .pre .0) .stores st)
 
-same-length : tie.Need-same-length
-same-length c = search needs
-
-same-length-2 : tie.Need-same-length-2
-same-length-2 c = search needs
-
 returns-4 : tie.Need-returns-4
 returns-4 c =
     let q = replied c in let r = stored (q .before) in let d = second (r .before) in let y = d .before in
@@ -126,16 +105,16 @@ pub run-store-spec : {M : Type 1} → statement M
 run-store-spec =
     tie.close
     (tie.spec
-    answered-requires
+    (λ c κs. search needs)
     returns
-    is-aligned-requires
-    is-enterable-requires
-    answered-requires-2
+    (λ c κs. search needs)
+    (λ c κs. search needs)
+    (λ c κs. search needs)
     returns-2
-    answered-requires-3
+    (λ c κs. search needs)
     returns-3
     store-requires
     put-reply-requires
-    same-length
-    same-length-2
+    (λ c. search needs)
+    (λ c. search needs)
     returns-4)

@@ -4,26 +4,8 @@ use borrow.Author.Needs.{needs}
 use Rattle.execute.proofs.stored_reply.Statement.{statement}
 use Rattle.execute.proofs.stored_reply.Tie as tie
 
-enum-known-x : tie.Need-enum-known-x
-enum-known-x c = search needs
-
-unmatch-requires : tie.Need-unmatch-requires
-unmatch-requires c κs = search needs
-
 enum-told : tie.Need-enum-told
 enum-told c = search needs
-
-answered-requires : tie.Need-answered-requires
-answered-requires c κs = search needs
-
-enum-told-2 : tie.Need-enum-told-2
-enum-told-2 c = search needs
-
-answered-requires-2 : tie.Need-answered-requires-2
-answered-requires-2 c κs = search needs
-
-same-length : tie.Need-same-length
-same-length c = search needs
 
 returns : tie.Need-returns
 returns c = let y = c .before .before in let made = y .unmatch .ensures in
@@ -39,13 +21,13 @@ pub stored-reply-spec : {M : Type 1} → statement M
 stored-reply-spec =
     tie.close
     (tie.spec
-    enum-known-x
-    unmatch-requires
+    (λ c. search needs)
+    (λ c κs. search needs)
     enum-told
-    answered-requires
-    enum-told-2
-    answered-requires-2
-    same-length
+    (λ c κs. search needs)
+    (λ c. search needs)
+    (λ c κs. search needs)
+    (λ c. search needs)
     returns
     returns-2
     returns-3)

@@ -8,21 +8,12 @@ use Rattle.model.specs.declared.Entry.{Entry}
 use Rattle.model.specs.Model.{matchedMark, covering, covered}
 use Rattle.layout.specs.Places.{render}
 use Rattle.marks.proofs.RemarkLaws.{remark-clear}
-use Rattle.execute.specs.Contracts.{coveredReply}
+use Rattle.commands.specs.Replies.{coveredReply}
 use Rattle.execute.proofs.ReplyLaws.{unmarked-words, unmarked-reply}
 use Rattle.execute.proofs.TableLaws.{present-cleared}
 use borrow.Author.Needs.{needs}
 use Rattle.execute.proofs.unmatch.Statement.{statement}
 use Rattle.execute.proofs.unmatch.Tie as tie
-
-run-remark-requires : tie.Need-run-remark-requires
-run-remark-requires c κs = search needs
-
-as-stored-requires : tie.Need-as-stored-requires
-as-stored-requires c κs = search needs
-
-same-length : tie.Need-same-length
-same-length c = search needs
 
 returns : tie.Need-returns
 returns c =
@@ -33,9 +24,6 @@ returns c =
           (present-cleared (s .list) (s .valid) i matchedMark q z) (made s)),
       λ s q. unmarked-words s _ matchedMark (omega arith) (made s),
     )
-
-answered-by-requires : tie.Need-answered-by-requires
-answered-by-requires c κs = search needs
 
 -- a bit that is not 1 is 0
 returns-2 : tie.Need-returns-2
@@ -53,9 +41,9 @@ pub unmatch-spec : {M : Type 1} → statement M
 unmatch-spec =
     tie.close
     (tie.spec
-    run-remark-requires
-    as-stored-requires
-    same-length
+    (λ c κs. search needs)
+    (λ c κs. search needs)
+    (λ c. search needs)
     returns
-    answered-by-requires
+    (λ c κs. search needs)
     returns-2)

@@ -5,7 +5,7 @@ use mathlib.Core.Bool.{true}
 use native.Mathlib.Omega.{arith}
 use lib.ListN.{length, getD, length-set}
 use borrow.Author.Needs.{needs}
-use Rattle.tree.specs.Tree.{slots}
+use Rattle.words.specs.Bits.{wordBits}
 use Rattle.freemap.specs.FreeMap.{mapNodes, mapCount}
 use Rattle.freemap.proofs.MapLaws.{flip-not-zero, in-map, put-same, count-kept, count-fits, length-kept, given-map}
 use Rattle.freemap.proofs.give.Statement.{statement}
@@ -29,36 +29,18 @@ kept c = let z = begun (set c) in let M = z .pre .0 .is in (
   count-kept M (z .args .m) (z .pre .1) (set c .set-bit .ensures) (c .raise-word .ensures),
 )
 
-mul-w : tie.Need-mul-w
-mul-w c = search needs
-
-slice-read-w : tie.Need-slice-read-w
-slice-read-w c = search needs
-
-shr-if1 : tie.Need-shr-if1
-shr-if1 c = search needs
-
 returns : tie.Need-returns
 returns c = let z = c .before .before .before in
     λ f M. put-same M (z .args .m) true (in-map M (z .args .m) (z .pre .1) (c .if1 .taken))
 
-set-bit-requires : tie.Need-set-bit-requires
-set-bit-requires c κs = search needs
-
 raise-word-requires : tie.Need-raise-word-requires
 raise-word-requires c κs = let t = c .before .before .before in let z = begun t in let p = z .pre in let e = t .set-bit .ensures in (
   (e .long ∙ p .0 .is .long, omega (arith, p .1), flip-not-zero (z .args .m) e),
-  e .rest (mapNodes + z .args .m / slots) (λ q. omega (arith, p .1)) ∙ p .0 .is .tops (z .args .m / slots) (omega (arith, p .1)),
+  e .rest (mapNodes + z .args .m / wordBits) (λ q. omega (arith, p .1)) ∙ p .0 .is .tops (z .args .m / wordBits) (omega (arith, p .1)),
 )
-
-slice-read-map : tie.Need-slice-read-map
-slice-read-map c = search needs
 
 add-map : tie.Need-add-map
 add-map c = let r = raised c in omega (arith, kept r .1, count-fits (begun (set r) .pre .0 .is))
-
-slice-write-map : tie.Need-slice-write-map
-slice-write-map c = search needs
 
 same-length : tie.Need-same-length
 same-length c = let r = raised c in
@@ -73,14 +55,14 @@ pub give-spec : {M : Type 1} → statement M
 give-spec =
     tie.close
     (tie.spec
-    mul-w
-    slice-read-w
-    shr-if1
+    (λ c. search needs)
+    (λ c. search needs)
+    (λ c. search needs)
     returns
-    set-bit-requires
+    (λ c κs. search needs)
     raise-word-requires
-    slice-read-map
+    (λ c. search needs)
     add-map
-    slice-write-map
+    (λ c. search needs)
     same-length
     returns-2)

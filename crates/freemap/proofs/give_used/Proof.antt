@@ -7,12 +7,6 @@ use borrow.Author.Needs.{needs}
 use Rattle.freemap.proofs.give_used.Statement.{statement}
 use Rattle.freemap.proofs.give_used.Tie as tie
 
-give-requires : tie.Need-give-requires
-give-requires c κs = search needs
-
-same-length : tie.Need-same-length
-same-length c = search needs
-
 returns : tie.Need-returns
 returns c = let t = c .before .before .before .before in
     λ f M. rw (ne-eqb _ _ (t .if1 .taken), either-yes (f (t .before .before .args .m))) (c .before .before .give .ensures f M)
@@ -22,4 +16,4 @@ returns-2 c = let z = c .before .before in
     λ f M. rw (eq-eqb _ _ (c .if1 .left), either-no (f (z .args .m))) (put-same M (z .args .m) (f (z .args .m)) refl)
 
 pub give-used-spec : {M : Type 1} → statement M
-give-used-spec = tie.close (tie.spec give-requires same-length returns returns-2)
+give-used-spec = tie.close (tie.spec (λ c κs. search needs) (λ c. search needs) returns returns-2)

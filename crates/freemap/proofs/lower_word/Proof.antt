@@ -7,21 +7,6 @@ use borrow.Author.Needs.{needs}
 use Rattle.freemap.proofs.lower_word.Statement.{statement}
 use Rattle.freemap.proofs.lower_word.Tie as tie
 
-mul-if1 : tie.Need-mul-if1
-mul-if1 c = search needs
-
-slice-read-if1 : tie.Need-slice-read-if1
-slice-read-if1 c = search needs
-
-add-clear-bit : tie.Need-add-clear-bit
-add-clear-bit c = search needs
-
-clear-bit-requires : tie.Need-clear-bit-requires
-clear-bit-requires c κs = search needs
-
-same-length : tie.Need-same-length
-same-length c = search needs
-
 returns : tie.Need-returns
 returns c = let p = c .before .before .before .before .before .before .before .pre in
     topped-flips _ (p .0 .1) false (c .before .before .clear-bit .ensures) (sym (rw (eq-eqb _ _ (c .before .before .before .before .if1 .taken)) refl))
@@ -33,10 +18,10 @@ pub lower-word-spec : {M : Type 1} → statement M
 lower-word-spec =
     tie.close
     (tie.spec
-    mul-if1
-    slice-read-if1
-    add-clear-bit
-    clear-bit-requires
-    same-length
+    (λ c. search needs)
+    (λ c. search needs)
+    (λ c. search needs)
+    (λ c κs. search needs)
+    (λ c. search needs)
     returns
     returns-2)

@@ -8,14 +8,8 @@ use borrow.Author.Needs.{needs}
 use Rattle.freemap.proofs.raise_word.Statement.{statement}
 use Rattle.freemap.proofs.raise_word.Tie as tie
 
-add-set-bit : tie.Need-add-set-bit
-add-set-bit c = search needs
-
 set-bit-requires : tie.Need-set-bit-requires
 set-bit-requires c κs = let p = c .before .before .before .pre in (omega (arith, p .0 .0), omega (arith, p .0 .1), p .1 ∙ rw (c .before .if1 .taken) refl)
-
-same-length : tie.Need-same-length
-same-length c = search needs
 
 returns : tie.Need-returns
 returns c = let p = c .before .before .before .before .before .before .pre in
@@ -25,4 +19,4 @@ returns-2 : tie.Need-returns-2
 returns-2 c = let p = c .before .before .pre in topped-same _ (p .0 .1) (p .1 ∙ rw (ne-eqb _ _ (c .if1 .left), ne-eqb _ _ (p .0 .2)) refl)
 
 pub raise-word-spec : {M : Type 1} → statement M
-raise-word-spec = tie.close (tie.spec add-set-bit set-bit-requires same-length returns returns-2)
+raise-word-spec = tie.close (tie.spec (λ c. search needs) set-bit-requires (λ c. search needs) returns returns-2)

@@ -4,7 +4,7 @@ use mathlib.Core.Path.{_≡_, sym, _∙_}
 use native.Mathlib.Omega.{arith}
 use lib.ListN.{length, getD, length-set}
 use borrow.Author.Needs.{needs}
-use Rattle.tree.specs.Tree.{slots}
+use Rattle.words.specs.Bits.{wordBits}
 use Rattle.freemap.specs.FreeMap.{mapNodes, mapCount}
 use Rattle.freemap.proofs.MapLaws.{word-on, count-kept, count-some, length-kept, taken-map}
 use Rattle.freemap.proofs.take.Statement.{statement}
@@ -28,24 +28,15 @@ kept c = let z = begun (cleared c) in let M = z .pre .0 .is in (
   count-kept M (z .args .m) (z .pre .1 .0) (cleared c .clear-bit .ensures) (c .lower-word .ensures),
 )
 
-clear-bit-requires : tie.Need-clear-bit-requires
-clear-bit-requires c κs = search needs
-
 lower-word-requires : tie.Need-lower-word-requires
 lower-word-requires c κs = let t = c .before .before .before in let z = begun t in let p = z .pre in let e = t .clear-bit .ensures in (
   (e .long ∙ p .0 .is .long, omega (arith, p .1 .0)),
-  e .rest (mapNodes + z .args .m / slots) (λ q. omega (arith, p .1 .0)) ∙ word-on (p .0 .is) (z .args .m) (p .1 .0) (p .1 .1),
+  e .rest (mapNodes + z .args .m / wordBits) (λ q. omega (arith, p .1 .0)) ∙ word-on (p .0 .is) (z .args .m) (p .1 .0) (p .1 .1),
 )
-
-slice-read-map : tie.Need-slice-read-map
-slice-read-map c = search needs
 
 sub-map : tie.Need-sub-map
 sub-map c = let r = lowered c in let z = begun (cleared r) in
     omega (arith, kept r .1, count-some (z .pre .0 .is) (z .args .m) (z .pre .1 .0) (z .pre .1 .1))
-
-slice-write-map : tie.Need-slice-write-map
-slice-write-map c = search needs
 
 same-length : tie.Need-same-length
 same-length c = let r = lowered c in
@@ -59,10 +50,10 @@ pub take-spec : {M : Type 1} → statement M
 take-spec =
     tie.close
     (tie.spec
-    clear-bit-requires
+    (λ c κs. search needs)
     lower-word-requires
-    slice-read-map
+    (λ c. search needs)
     sub-map
-    slice-write-map
+    (λ c. search needs)
     same-length
     returns)

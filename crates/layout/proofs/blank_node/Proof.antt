@@ -4,11 +4,8 @@ use Rattle.layout.proofs.PassLaws.{free-decides}
 use Rattle.layout.proofs.blank_node.Statement.{statement}
 use Rattle.layout.proofs.blank_node.Tie as tie
 
-blank-requires : tie.Need-blank-requires
-blank-requires c κs = omega arith
-
 returns : tie.Need-returns
 returns c = free-decides (c .before .before .args .pool .now) (c .before .before .args .n) _ (c .blank .ensures)
 
 pub blank-node-spec : {M : Type 1} → statement M
-blank-node-spec = tie.close (tie.spec blank-requires returns)
+blank-node-spec = tie.close (tie.spec (λ c κs. omega arith) returns)

@@ -14,17 +14,8 @@ abbrev μ-loop : tie.MeasureT-loop
 loop-holds : tie.Need-loop-holds Inv-loop μ-loop
 loop-holds c = (omega arith, omega arith, tested-start _ _ _)
 
-slot-word-requires : tie.Need-slot-word-requires Inv-loop μ-loop
-slot-word-requires c κs = omega arith
-
 internal-bit-requires : tie.Need-internal-bit-requires Inv-loop μ-loop
 internal-bit-requires c κs = tt
-
-add-o : tie.Need-add-o Inv-loop μ-loop
-add-o c = omega arith
-
-loop-less : tie.Need-loop-less Inv-loop μ-loop
-loop-less c = omega arith
 
 loop-again : tie.Need-loop-again Inv-loop μ-loop
 loop-again c = (
@@ -44,9 +35,9 @@ plain-slots-spec =
     Inv-loop
     μ-loop
     loop-holds
-    slot-word-requires
+    (λ c κs. omega arith)
     internal-bit-requires
-    add-o
-    loop-less
+    (λ c. omega arith)
+    (λ c. omega arith)
     loop-again
     returns)

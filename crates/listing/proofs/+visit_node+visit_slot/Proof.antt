@@ -1,5 +1,5 @@
 -- `visit_node` and `visit_slot`, which call each other: the entries that start in a node's block, slot by slot.
-use Prim.Native.Nat.{ℕ, suc, _+_, _*_, _-_, _/_, _^_, _≤_, _<_}
+use Prim.Native.Nat.{ℕ, suc, _+_, _*_, _-_, _^_, _≤_, _<_}
 use mathlib.Core.Path.{_≡_, refl, sym, ap, subst, _∙_}
 use mathlib.Core.List.{List, [], _∷_}
 use native.Mathlib.Omega.{arith}
@@ -10,15 +10,13 @@ use Rattle.blocks.specs.Blocks.{block}
 use Rattle.blocks.proofs.BlockLaws.{pow-pos, block-at}
 use Rattle.model.specs.declared.Entry.{Entry}
 use Rattle.tree.specs.Tree.{slots, tierOrder, topTier}
-use Rattle.tree.proofs.SlotLaws.{tier-up}
 use Rattle.layout.specs.WellFormed.{WellFormed, num}
-use Rattle.lookup.specs.Views.{AtNode}
 use Rattle.lookup.proofs.WordLaws.{node-fits}
 use Rattle.lookup.proofs.WalkLaws.{end-le}
 use Rattle.lookup.proofs.StandLaws.{end-fits}
 use Rattle.lookup.specs.declared.Sight.the-variants.{Shows}
 use Rattle.listing.specs.Listing.{listed}
-use Rattle.listing.specs.Visits.{between, Emits, Ready}
+use Rattle.listing.specs.Visits.{between, Emits}
 use Rattle.listing.proofs.EmitLaws.{emits-nothing}
 use Rattle.listing.proofs.VisitLaws.{
   node-begins,
@@ -45,7 +43,7 @@ use Rattle.listing.proofs.visit_slot.Reads as visit-slot
 use Rattle.listing.proofs.visit_slot.Kinds as visit-slot-kinds
 use Rattle.listing.proofs.+visit_node+visit_slot.Lts-visit_slot as visit-slot-lts
 use Rattle.layout.proofs.block_of.Reads as block-of-reads
-use Rattle.layout.proofs.pow2.Reads as pow2-reads
+use Rattle.words.proofs.pow2.Reads as pow2-reads
 use Rattle.listing.proofs.offer.Reads as offer-reads
 use Rattle.lookup.proofs.entry_at.Reads as entry-at-reads
 use Rattle.lookup.proofs.look.Reads as look-reads
@@ -95,88 +93,44 @@ slot-end v c h lt =
 block-le : (v z : ℕ) → block (tierOrder v) z ≤ z
 block-le v z = div-le-self z (2 ^ tierOrder v)
 
--- src/lib.rt:130:9
-visit-node-block-of-requires : (t : ℕ) → visit-node-lts.Need-block-of-requires (
+pub +visit-node+visit-slot-spec : {M : Type 1} → statement M
++visit-node+visit-slot-spec = close μ-visit-node μ-visit-slot (λ t. visit-node-lts.spec (
   block-of-reads.Asked,
   block-of-reads.Learnt,
   visit-slot-below t,
   visit-slot.Post,
-) (visit-node-at t) visit-node.Post visit-node-Inv-loop visit-node-μ-loop
-visit-node-block-of-requires t c κs = c .before .before .pre .1 .1 .0
-
--- src/lib.rt:133:5
-visit-node-loop-holds : (t : ℕ) → visit-node-lts.Need-loop-holds (
-  block-of-reads.Asked,
-  block-of-reads.Learnt,
-  visit-slot-below t,
-  visit-slot.Post,
-) (visit-node-at t) visit-node.Post visit-node-Inv-loop visit-node-μ-loop
-visit-node-loop-holds t c =
+)
+    (visit-node-at t)
+    visit-node.Post
+    visit-node-Inv-loop
+    visit-node-μ-loop
+    (λ c κs. c .before .before .pre .1 .1 .0)
+    (λ c.
     let a = c .before .before .before .args in
-    (omega arith, refl, λ s. node-begins (s .valid) (a .range .room) (a .range .first) (a .range .last) (a .v) (a .b) _ (a .k))
-
--- src/lib.rt:134:17
-visit-node-mul-c : (t : ℕ) → visit-node-lts.Need-mul-c (
-  block-of-reads.Asked,
-  block-of-reads.Learnt,
-  visit-slot-below t,
-  visit-slot.Post,
-) (visit-node-at t) visit-node.Post visit-node-Inv-loop visit-node-μ-loop
-visit-node-mul-c t c = omega (
-  arith,
-  block-le (c .before .before .before .before .before .args .v)
-      (c .before .before .before .before .before .args .range .last),
-  c .before .before .before .before .before .pre .1 .1 .1 .0,
-  c .before
-      .before .before .before .before .pre .1 .1 .1 .1 .0 .0,
-)
-
--- src/lib.rt:134:17
-visit-node-add-c : (t : ℕ) → visit-node-lts.Need-add-c (
-  block-of-reads.Asked,
-  block-of-reads.Learnt,
-  visit-slot-below t,
-  visit-slot.Post,
-) (visit-node-at t) visit-node.Post visit-node-Inv-loop visit-node-μ-loop
-visit-node-add-c t c = omega (
-  arith,
-  block-le (c .before .before .before .before .before .args .v)
-      (c .before .before .before .before .before .args .range .last),
-  c .before .before .before .before .before .pre .1 .1 .1 .0,
-  c .before
-      .before .before .before .before .pre .1 .1 .1 .1 .0 .0,
-)
-
--- src/lib.rt:136:13
-visit-node-same-length : (t : ℕ) → visit-node-lts.Need-same-length (
-  block-of-reads.Asked,
-  block-of-reads.Learnt,
-  visit-slot-below t,
-  visit-slot.Post,
-) (visit-node-at t) visit-node.Post visit-node-Inv-loop visit-node-μ-loop
-visit-node-same-length t c = c .before .before .loop .inv .1
-
--- src/lib.rt:136:13
-visit-node-returns : (t : ℕ) → visit-node-lts.Need-returns (
-  block-of-reads.Asked,
-  block-of-reads.Learnt,
-  visit-slot-below t,
-  visit-slot.Post,
-) (visit-node-at t) visit-node.Post visit-node-Inv-loop visit-node-μ-loop
-visit-node-returns t c = λ s.
+    (omega arith, refl, λ s. node-begins (s .valid) (a .range .room) (a .range .first) (a .range .last) (a .v) (a .b) _ (a .k)))
+    (λ c. omega (
+      arith,
+      block-le (c .before .before .before .before .before .args .v)
+          (c .before .before .before .before .before .args .range .last),
+      c .before .before .before .before .before .pre .1 .1 .1 .0,
+      c .before
+          .before .before .before .before .pre .1 .1 .1 .1 .0 .0,
+    ))
+    (λ c. omega (
+      arith,
+      block-le (c .before .before .before .before .before .args .v)
+          (c .before .before .before .before .before .args .range .last),
+      c .before .before .before .before .before .pre .1 .1 .1 .0,
+      c .before
+          .before .before .before .before .pre .1 .1 .1 .1 .0 .0,
+    ))
+    (λ c. c .before .before .loop .inv .1)
+    (λ c. λ s.
     let a = c .before .before .before .before .before .before .args in
     let l = c .before .before .loop in
     node-stops (s .valid) (a .range .room) (a .range .first) (a .range .last) (a .v) (a .b) (l .o) (l .inv .0)
-    (subst (λ (x : ℕ). x < slots * a .b + l .o) (c .before .before .before .block-of .ensures) (c .if1 .taken)) (l .inv .2 s)
-
--- src/lib.rt:138:9
-visit-node-visit-slot-requires : (t : ℕ) → visit-node-lts.Need-visit-slot-requires (
-  block-of-reads.Asked,
-  block-of-reads.Learnt,
-  visit-slot-below t,
-  visit-slot.Post,
-) (visit-node-at t) visit-node.Post visit-node-Inv-loop visit-node-μ-loop
-visit-node-visit-slot-requires t c κs =
+    (subst (λ (x : ℕ). x < slots * a .b + l .o) (c .before .before .before .block-of .ensures) (c .if1 .taken)) (l .inv .2 s))
+    (λ c κs.
     let a = c .before .before .before .before .before .before .before .args in
     let p = c .before .before .before .before .before .before .before .pre .1 in
     let l = c .before .before .before .loop in (
@@ -195,127 +149,45 @@ visit-node-visit-slot-requires t c κs =
           ),
         ),
       ),
-    )
-
--- src/lib.rt:139:13
-visit-node-add-o : (t : ℕ) → visit-node-lts.Need-add-o (
-  block-of-reads.Asked,
-  block-of-reads.Learnt,
-  visit-slot-below t,
-  visit-slot.Post,
-) (visit-node-at t) visit-node.Post visit-node-Inv-loop visit-node-μ-loop
-visit-node-add-o t c = search needs
-
--- src/lib.rt:133:5
-visit-node-loop-less : (t : ℕ) → visit-node-lts.Need-loop-less (
-  block-of-reads.Asked,
-  block-of-reads.Learnt,
-  visit-slot-below t,
-  visit-slot.Post,
-) (visit-node-at t) visit-node.Post visit-node-Inv-loop visit-node-μ-loop
-visit-node-loop-less t c = omega arith
-
--- src/lib.rt:133:5
-visit-node-loop-again : (t : ℕ) → visit-node-lts.Need-loop-again (
-  block-of-reads.Asked,
-  block-of-reads.Learnt,
-  visit-slot-below t,
-  visit-slot.Post,
-) (visit-node-at t) visit-node.Post visit-node-Inv-loop visit-node-μ-loop
-visit-node-loop-again t c =
+    ))
+    (λ c. search needs)
+    (λ c. omega arith)
+    (λ c.
     let a = c .before .before .before .before .before .before .before .before .before .before .args in
     let l = c .before .before .before .before .before .before .loop in (
       omega (arith, c .before .before .before .before .before .loop-test .taken),
       omega (arith, l .inv .1, c .before .before .visit-slot .kept),
       λ s. node-goes-on (s .valid) (a .range .room) (a .range .first) (a .range .last) (a .v) (a .b) (l .o) (l .inv .2 s)
           (c .before .before .visit-slot .ensures s),
-    )
-
--- src/lib.rt:119:1
-visit-node-same-length-2 : (t : ℕ) → visit-node-lts.Need-same-length-2 (
-  block-of-reads.Asked,
-  block-of-reads.Learnt,
-  visit-slot-below t,
-  visit-slot.Post,
-) (visit-node-at t) visit-node.Post visit-node-Inv-loop visit-node-μ-loop
-visit-node-same-length-2 t c = c .before .loop .inv .1
-
--- src/lib.rt:119:1
-visit-node-returns-2 : (t : ℕ) → visit-node-lts.Need-returns-2 (
-  block-of-reads.Asked,
-  block-of-reads.Learnt,
-  visit-slot-below t,
-  visit-slot.Post,
-) (visit-node-at t) visit-node.Post visit-node-Inv-loop visit-node-μ-loop
-visit-node-returns-2 t c = λ s.
+    ))
+    (λ c. c .before .loop .inv .1)
+    (λ c. λ s.
     let a = c .before .before .before .before .before .args in
     let l = c .before .loop in
     node-ends (s .valid) (a .range .room) (a .range .first) (a .range .last) (a .v) (a .b) (l .o)
-    (omega (arith, l .inv .0, c .loop-test .left)) (l .inv .2 s)
-
--- src/lib.rt:99:18
-visit-slot-mul-pow2 : (t : ℕ) → visit-slot-lts.Need-mul-pow2 (
-  pow2-reads.Asked,
-  pow2-reads.Learnt,
-  look-reads.Asked,
-  look-reads.Learnt,
-  entry-at-reads.Asked,
-  entry-at-reads.Learnt,
-  offer-reads.Asked,
-  offer-reads.Learnt,
-  visit-node-below t,
-  visit-node.Post,
-) (visit-slot-at t) visit-slot.Post
-visit-slot-mul-pow2 t c = search needs
-
--- src/lib.rt:99:9
-visit-slot-pow2-requires : (t : ℕ) → visit-slot-lts.Need-pow2-requires (
-  pow2-reads.Asked,
-  pow2-reads.Learnt,
-  look-reads.Asked,
-  look-reads.Learnt,
-  entry-at-reads.Asked,
-  entry-at-reads.Learnt,
-  offer-reads.Asked,
-  offer-reads.Learnt,
-  visit-node-below t,
-  visit-node.Post,
-) (visit-slot-at t) visit-slot.Post
-visit-slot-pow2-requires t c κs = search needs
-
--- src/lib.rt:100:33
-visit-slot-mul-look : (t : ℕ) → visit-slot-lts.Need-mul-look (
-  pow2-reads.Asked,
-  pow2-reads.Learnt,
-  look-reads.Asked,
-  look-reads.Learnt,
-  entry-at-reads.Asked,
-  entry-at-reads.Learnt,
-  offer-reads.Asked,
-  offer-reads.Learnt,
-  visit-node-below t,
-  visit-node.Post,
-) (visit-slot-at t) visit-slot.Post
-visit-slot-mul-look t c = record {
-  fits = rw (c .pow2 .ensures) (slot-small (c .before .before .before .args .v)
-      (c .before .before .before .args .c) (c .before .before .before .args .range .last) (c .before .before .before .pre .1 .1 .1 .0)
-      (c .before .before .before .pre .1 .1 .1 .1 .0 .0));
-}
-
--- src/lib.rt:100:9
-visit-slot-look-requires : (t : ℕ) → visit-slot-lts.Need-look-requires (
-  pow2-reads.Asked,
-  pow2-reads.Learnt,
-  look-reads.Asked,
-  look-reads.Learnt,
-  entry-at-reads.Asked,
-  entry-at-reads.Learnt,
-  offer-reads.Asked,
-  offer-reads.Learnt,
-  visit-node-below t,
-  visit-node.Post,
-) (visit-slot-at t) visit-slot.Post
-visit-slot-look-requires t c κs =
+    (omega (arith, l .inv .0, c .loop-test .left)) (l .inv .2 s)))
+    λ t. visit-slot-lts.spec (
+      pow2-reads.Asked,
+      pow2-reads.Learnt,
+      look-reads.Asked,
+      look-reads.Learnt,
+      entry-at-reads.Asked,
+      entry-at-reads.Learnt,
+      offer-reads.Asked,
+      offer-reads.Learnt,
+      visit-node-below t,
+      visit-node.Post,
+    )
+    (visit-slot-at t)
+    visit-slot.Post
+    (λ c. search needs)
+    (λ c κs. search needs)
+    (λ c. record {
+      fits = rw (c .pow2 .ensures) (slot-small (c .before .before .before .args .v)
+          (c .before .before .before .args .c) (c .before .before .before .args .range .last) (c .before .before .before .pre .1 .1 .1 .0)
+          (c .before .before .before .pre .1 .1 .1 .1 .0 .0));
+    })
+    (λ c κs.
     let a = c .before .before .before .args in
     let p = c .before .before .before .pre .1 in (
       p .0,
@@ -323,93 +195,23 @@ visit-slot-look-requires t c κs =
         p .1 .0,
         λ s. towards (a .v) (a .c) (a .n) _ (ap (λ (x : ℕ). a .c * x) (c .pow2 .ensures)) (p .1 .1 .1 .1 s .at-node),
       ),
-    )
-
--- src/lib.rt:102:23
-visit-slot-enum-told : (t : ℕ) → visit-slot-lts.Need-enum-told (
-  pow2-reads.Asked,
-  pow2-reads.Learnt,
-  look-reads.Asked,
-  look-reads.Learnt,
-  entry-at-reads.Asked,
-  entry-at-reads.Learnt,
-  offer-reads.Asked,
-  offer-reads.Learnt,
-  visit-node-below t,
-  visit-node.Post,
-) (visit-slot-at t) visit-slot.Post
-visit-slot-enum-told t c = search needs
-
--- src/lib.rt:103:22
-visit-slot-enum-known-seen : (t : ℕ) → visit-slot-lts.Need-enum-known-seen (
-  pow2-reads.Asked,
-  pow2-reads.Learnt,
-  look-reads.Asked,
-  look-reads.Learnt,
-  entry-at-reads.Asked,
-  entry-at-reads.Learnt,
-  offer-reads.Asked,
-  offer-reads.Learnt,
-  visit-node-below t,
-  visit-node.Post,
-) (visit-slot-at t) visit-slot.Post
-visit-slot-enum-known-seen t c = search needs
-
--- src/lib.rt:105:17
-visit-slot-returns : (t : ℕ) → visit-slot-lts.Need-returns (
-  pow2-reads.Asked,
-  pow2-reads.Learnt,
-  look-reads.Asked,
-  look-reads.Learnt,
-  entry-at-reads.Asked,
-  entry-at-reads.Learnt,
-  offer-reads.Asked,
-  offer-reads.Learnt,
-  visit-node-below t,
-  visit-node.Post,
-) (visit-slot-at t) visit-slot.Post
-visit-slot-returns t c = λ s.
+    ))
+    (λ c. search needs)
+    (λ c. search needs)
+    (λ c. λ s.
     let a = c .before .before .before .before .before .before .before .before .args in
     emits-nothing (a .range .room) _ (a .k) (ap (λ (es : List Entry). listed es (a .range .first) (a .range .last))
     (seen-sibling s (a .v) (a .c) _ (ap (λ (x : ℕ). a .c * x) (c .before .before .before .before .before .pow2 .ensures))
     (c .before .before .before .before .look .ensures s) _
-    (c .before .before .seen .given .1) (c .if1 .taken)))
-
--- src/lib.rt:107:37
-visit-slot-entry-at-requires : (t : ℕ) → visit-slot-lts.Need-entry-at-requires (
-  pow2-reads.Asked,
-  pow2-reads.Learnt,
-  look-reads.Asked,
-  look-reads.Learnt,
-  entry-at-reads.Asked,
-  entry-at-reads.Learnt,
-  offer-reads.Asked,
-  offer-reads.Learnt,
-  visit-node-below t,
-  visit-node.Post,
-) (visit-slot-at t) visit-slot.Post
-visit-slot-entry-at-requires t c κs =
+    (c .before .before .seen .given .1) (c .if1 .taken))))
+    (λ c κs.
     let s = c .before .before .before .before .before .before .before .before .before .pre .1 .0 in
     let a = c .before .before .before .before .before .before .before .before .before .args in
     let w = seen-entry s (a .v) (a .c) _ (ap (λ (x : ℕ). a .c * x) (c .before .before .before .before .before .before .pow2 .ensures))
     (c .before .before .before .before .before .look .ensures s)
     (c .before .before .before .seen .given .1 ∙ ap Shows (c .before .if1 .left)) in
-    (node-fits s (w .at-node) .0, (c .before .before .before .before .before .before .before .before .before .pre .1 .1 .0, w .small))
-
--- src/lib.rt:107:13
-visit-slot-offer-requires : (t : ℕ) → visit-slot-lts.Need-offer-requires (
-  pow2-reads.Asked,
-  pow2-reads.Learnt,
-  look-reads.Asked,
-  look-reads.Learnt,
-  entry-at-reads.Asked,
-  entry-at-reads.Learnt,
-  offer-reads.Asked,
-  offer-reads.Learnt,
-  visit-node-below t,
-  visit-node.Post,
-) (visit-slot-at t) visit-slot.Post
-visit-slot-offer-requires t c κs =
+    (node-fits s (w .at-node) .0, (c .before .before .before .before .before .before .before .before .before .pre .1 .1 .0, w .small)))
+    (λ c κs.
     let s = c .before .before .before .before .before .before .before .before .before .before .pre .1 .0 in
     let a = c .before .before .before .before .before .before .before .before .before .before .args in
     let w = seen-entry s (a .v) (a .c) _ (ap (λ (x : ℕ). a .c * x)
@@ -418,79 +220,23 @@ visit-slot-offer-requires t c κs =
     (c .before .before .before .before .seen .given .1 ∙ ap Shows (c .before .before .if1 .left)) in
     let e = c .entry-at .ensures s (w .entry) (w .at-node) (w .stands) in
     let q = c .before .before .before .before .before .before .before .before .before .before .pre .1 .1 .1 .1 in
-    (q .0 .1, (count-fits s _ (a .k) (q .1 s .counted), (rw e (w .order-le), rw e (w .ends))))
-
--- src/lib.rt:109:22
-visit-slot-enum-known-seen-2 : (t : ℕ) → visit-slot-lts.Need-enum-known-seen-2 (
-  pow2-reads.Asked,
-  pow2-reads.Learnt,
-  look-reads.Asked,
-  look-reads.Learnt,
-  entry-at-reads.Asked,
-  entry-at-reads.Learnt,
-  offer-reads.Asked,
-  offer-reads.Learnt,
-  visit-node-below t,
-  visit-node.Post,
-) (visit-slot-at t) visit-slot.Post
-visit-slot-enum-known-seen-2 t c = search needs
-
--- src/lib.rt:110:16
-visit-slot-mul-if2 : (t : ℕ) → visit-slot-lts.Need-mul-if2 (
-  pow2-reads.Asked,
-  pow2-reads.Learnt,
-  look-reads.Asked,
-  look-reads.Learnt,
-  entry-at-reads.Asked,
-  entry-at-reads.Learnt,
-  offer-reads.Asked,
-  offer-reads.Learnt,
-  visit-node-below t,
-  visit-node.Post,
-) (visit-slot-at t) visit-slot.Post
-visit-slot-mul-if2 t c = record {
-  fits = rw (c .before .before .before .before .pow2 .ensures) (slot-small
-      (c .before .before .before .before .before .before .before .args .v)
-      (c .before .before .before .before .before .before .before .args .c)
-      (c .before .before .before .before .before .before .before .args .range .last)
-      (c .before .before .before .before .before .before .before .pre .1 .1 .1 .0)
-      (c .before .before .before .before .before .before .before .pre .1 .1 .1 .1 .0 .0));
-}
-
--- src/lib.rt:110:25
-visit-slot-sub-if2 : (t : ℕ) → visit-slot-lts.Need-sub-if2 (
-  pow2-reads.Asked,
-  pow2-reads.Learnt,
-  look-reads.Asked,
-  look-reads.Learnt,
-  entry-at-reads.Asked,
-  entry-at-reads.Learnt,
-  offer-reads.Asked,
-  offer-reads.Learnt,
-  visit-node-below t,
-  visit-node.Post,
-) (visit-slot-at t) visit-slot.Post
-visit-slot-sub-if2 t c = omega (
-  arith,
-  c .before .before .before .before .pow2 .ensures,
-  pow-pos (tierOrder
-      (c .before .before .before .before .before .before .before .args .v)),
-)
-
--- src/lib.rt:110:16
-visit-slot-add-if2 : (t : ℕ) → visit-slot-lts.Need-add-if2 (
-  pow2-reads.Asked,
-  pow2-reads.Learnt,
-  look-reads.Asked,
-  look-reads.Learnt,
-  entry-at-reads.Asked,
-  entry-at-reads.Learnt,
-  offer-reads.Asked,
-  offer-reads.Learnt,
-  visit-node-below t,
-  visit-node.Post,
-) (visit-slot-at t) visit-slot.Post
-visit-slot-add-if2 t c =
+    (q .0 .1, (count-fits s _ (a .k) (q .1 s .counted), (rw e (w .order-le), rw e (w .ends)))))
+    (λ c. search needs)
+    (λ c. record {
+      fits = rw (c .before .before .before .before .pow2 .ensures) (slot-small
+          (c .before .before .before .before .before .before .before .args .v)
+          (c .before .before .before .before .before .before .before .args .c)
+          (c .before .before .before .before .before .before .before .args .range .last)
+          (c .before .before .before .before .before .before .before .pre .1 .1 .1 .0)
+          (c .before .before .before .before .before .before .before .pre .1 .1 .1 .1 .0 .0));
+    })
+    (λ c. omega (
+      arith,
+      c .before .before .before .before .pow2 .ensures,
+      pow-pos (tierOrder
+          (c .before .before .before .before .before .before .before .args .v)),
+    ))
+    (λ c.
     let a = c .before .before .before .before .before .before .before .args in
     let small : a .c * 2 ^ tierOrder (a .v) < 2 ^ 64 = slot-small (a .v) (a .c) (a .range .last)
     (c .before .before .before .before .before .before .before .pre .1 .1 .1 .0)
@@ -502,22 +248,8 @@ visit-slot-add-if2 t c =
             (c .before .before .before .before .before .before .before .pre .1 .1 .0),
         pow-pos (tierOrder (a .v)),
       ));
-    }
-
--- src/lib.rt:111:17
-visit-slot-returns-2 : (t : ℕ) → visit-slot-lts.Need-returns-2 (
-  pow2-reads.Asked,
-  pow2-reads.Learnt,
-  look-reads.Asked,
-  look-reads.Learnt,
-  entry-at-reads.Asked,
-  entry-at-reads.Learnt,
-  offer-reads.Asked,
-  offer-reads.Learnt,
-  visit-node-below t,
-  visit-node.Post,
-) (visit-slot-at t) visit-slot.Post
-visit-slot-returns-2 t c = λ s.
+    })
+    (λ c. λ s.
     let a = c .before .before .before .before .before .before .before .before .before .args in
     let q : suc (a .c) * 2 ^ tierOrder (a .v) ≤ a .range .first = omega (
       arith,
@@ -529,22 +261,8 @@ visit-slot-returns-2 t c = λ s.
     emits-nothing (a .range .room) _ (a .k) (node-before (s .valid) (a .v) (a .c)
     (seen-node s (a .v) (a .c) _ (ap (λ (x : ℕ). a .c * x) (c .before .before .before .before .before .before .pow2 .ensures))
     (c .before .before .before .before .before .look .ensures s) _
-    (c .before .before .before .seen2 .given .1) .0) (a .range .first) (a .range .last) q)
-
--- src/lib.rt:113:33
-visit-slot-sub-visit-node : (t : ℕ) → visit-slot-lts.Need-sub-visit-node (
-  pow2-reads.Asked,
-  pow2-reads.Learnt,
-  look-reads.Asked,
-  look-reads.Learnt,
-  entry-at-reads.Asked,
-  entry-at-reads.Learnt,
-  offer-reads.Asked,
-  offer-reads.Learnt,
-  visit-node-below t,
-  visit-node.Post,
-) (visit-slot-at t) visit-slot.Post
-visit-slot-sub-visit-node t c =
+    (c .before .before .before .seen2 .given .1) .0) (a .range .first) (a .range .last) q))
+    (λ c.
     let s = c .before .before .before .before .before .before .before .before .before .pre .1 .0 in
     let a = c .before .before .before .before .before .before .before .before .before .args in
     let pos : 0 < a .v = below-ready s (a .v) (a .c) _ (ap (λ (x : ℕ). a .c * x)
@@ -552,22 +270,8 @@ visit-slot-sub-visit-node t c =
     (a .k) _
     (c .before .before .before .before .before .before .before .before .before .pre .1 .1 .1 .1 .1 s)
     (c .before .before .before .seen2 .given .1) .0 in
-    omega arith
-
--- src/lib.rt:113:13
-visit-slot-visit-node-requires : (t : ℕ) → visit-slot-lts.Need-visit-node-requires (
-  pow2-reads.Asked,
-  pow2-reads.Learnt,
-  look-reads.Asked,
-  look-reads.Learnt,
-  entry-at-reads.Asked,
-  entry-at-reads.Learnt,
-  offer-reads.Asked,
-  offer-reads.Learnt,
-  visit-node-below t,
-  visit-node.Post,
-) (visit-slot-at t) visit-slot.Post
-visit-slot-visit-node-requires t c κs =
+    omega arith)
+    (λ c κs.
     let s = c .before .before .before .before .before .before .before .before .before .before .pre .1 .0 in
     let a = c .before .before .before .before .before .before .before .before .before .before .args in
     let p = c .before .before .before .before .before .before .before .before .before .before .pre .1 in
@@ -594,56 +298,14 @@ visit-slot-visit-node-requires t c κs =
           ),
         ),
       ),
-    )
-
--- src/lib.rt:88:1
-visit-slot-returns-3 : (t : ℕ) → visit-slot-lts.Need-returns-3 (
-  pow2-reads.Asked,
-  pow2-reads.Learnt,
-  look-reads.Asked,
-  look-reads.Learnt,
-  entry-at-reads.Asked,
-  entry-at-reads.Learnt,
-  offer-reads.Asked,
-  offer-reads.Learnt,
-  visit-node-below t,
-  visit-node.Post,
-) (visit-slot-at t) visit-slot.Post
-visit-slot-returns-3 t c = λ s.
+    ))
+    (λ c. λ s.
     let a = c .before .before .before .before .before .before .args in
     emits-nothing (a .range .room) _ (a .k) (ap (λ (es : List Entry). listed es (a .range .first) (a .range .last))
     (seen-gap s (a .v) (a .c) _ (ap (λ (x : ℕ). a .c * x) (c .before .before .before .pow2 .ensures)) (c .before .before .look .ensures s)
-    (c .enum-told .given .1)))
-
--- src/lib.rt:88:1
-visit-slot-same-length : (t : ℕ) → visit-slot-lts.Need-same-length (
-  pow2-reads.Asked,
-  pow2-reads.Learnt,
-  look-reads.Asked,
-  look-reads.Learnt,
-  entry-at-reads.Asked,
-  entry-at-reads.Learnt,
-  offer-reads.Asked,
-  offer-reads.Learnt,
-  visit-node-below t,
-  visit-node.Post,
-) (visit-slot-at t) visit-slot.Post
-visit-slot-same-length t c = search needs
-
--- src/lib.rt:88:1
-visit-slot-returns-4 : (t : ℕ) → visit-slot-lts.Need-returns-4 (
-  pow2-reads.Asked,
-  pow2-reads.Learnt,
-  look-reads.Asked,
-  look-reads.Learnt,
-  entry-at-reads.Asked,
-  entry-at-reads.Learnt,
-  offer-reads.Asked,
-  offer-reads.Learnt,
-  visit-node-below t,
-  visit-node.Post,
-) (visit-slot-at t) visit-slot.Post
-visit-slot-returns-4 t c = λ s.
+    (c .enum-told .given .1))))
+    (λ c. search needs)
+    (λ c. λ s.
     let a = c .before .before .before .before .before .before .before .before .before .before .before .before .before .args in
     let w = seen-entry s (a .v) (a .c) _ (ap (λ (x : ℕ). a .c * x)
     (c .before .before .before .before .before .before .before .before .before .before .pow2 .ensures))
@@ -653,37 +315,9 @@ visit-slot-returns-4 t c = λ s.
     let e = c .before .before .before .entry-at .ensures s (w .entry) (w .at-node) (w .stands) in
     subst (λ (es : List Entry). Emits (a .range .room) (listed es (a .range .first) (a .range .last)) (a .buffer .now) (a .k)
     (c .before .before .offer .last .0) (c .before .before .offer .result)) (ap (λ (x : Entry). x ∷ []) e ∙ sym (w .only))
-    (c .before .before .offer .ensures)
-
--- src/lib.rt:88:1
-visit-slot-same-length-2 : (t : ℕ) → visit-slot-lts.Need-same-length-2 (
-  pow2-reads.Asked,
-  pow2-reads.Learnt,
-  look-reads.Asked,
-  look-reads.Learnt,
-  entry-at-reads.Asked,
-  entry-at-reads.Learnt,
-  offer-reads.Asked,
-  offer-reads.Learnt,
-  visit-node-below t,
-  visit-node.Post,
-) (visit-slot-at t) visit-slot.Post
-visit-slot-same-length-2 t c = search needs
-
--- src/lib.rt:88:1
-visit-slot-returns-5 : (t : ℕ) → visit-slot-lts.Need-returns-5 (
-  pow2-reads.Asked,
-  pow2-reads.Learnt,
-  look-reads.Asked,
-  look-reads.Learnt,
-  entry-at-reads.Asked,
-  entry-at-reads.Learnt,
-  offer-reads.Asked,
-  offer-reads.Learnt,
-  visit-node-below t,
-  visit-node.Post,
-) (visit-slot-at t) visit-slot.Post
-visit-slot-returns-5 t c = λ s.
+    (c .before .before .offer .ensures))
+    (λ c. search needs)
+    (λ c. λ s.
     let a = c .before .before .before .before .before .before .before .before .before .before .before .before .before .args in
     let pos : 0 < a .v = below-ready s (a .v) (a .c) _ (ap (λ (x : ℕ). a .c * x)
     (c .before .before .before .before .before .before .before .before .before .before .pow2 .ensures))
@@ -694,63 +328,4 @@ visit-slot-returns-5 t c = λ s.
     subst (λ (u : ℕ). Emits (a .range .room) (listed (between (s .list) (a .c * 2 ^ tierOrder u) (suc (a .c) * 2 ^ tierOrder u))
     (a .range .first) (a .range .last)) (a .buffer .now) (a .k) (c .before .before .visit-node .last .1 .1 .1 .1 .1 .0)
     (c .before .before .visit-node .result)) up
-    (c .before .before .visit-node .ensures s)
-
-pub +visit-node+visit-slot-spec : {M : Type 1} → statement M
-+visit-node+visit-slot-spec = close μ-visit-node μ-visit-slot (λ t. visit-node-lts.spec (
-  block-of-reads.Asked,
-  block-of-reads.Learnt,
-  visit-slot-below t,
-  visit-slot.Post,
-)
-    (visit-node-at t)
-    visit-node.Post
-    visit-node-Inv-loop
-    visit-node-μ-loop
-    (visit-node-block-of-requires t)
-    (visit-node-loop-holds t)
-    (visit-node-mul-c t)
-    (visit-node-add-c t)
-    (visit-node-same-length t)
-    (visit-node-returns t)
-    (visit-node-visit-slot-requires t)
-    (visit-node-add-o t)
-    (visit-node-loop-less t)
-    (visit-node-loop-again t)
-    (visit-node-same-length-2 t)
-    (visit-node-returns-2 t))
-    λ t. visit-slot-lts.spec (
-      pow2-reads.Asked,
-      pow2-reads.Learnt,
-      look-reads.Asked,
-      look-reads.Learnt,
-      entry-at-reads.Asked,
-      entry-at-reads.Learnt,
-      offer-reads.Asked,
-      offer-reads.Learnt,
-      visit-node-below t,
-      visit-node.Post,
-    )
-    (visit-slot-at t)
-    visit-slot.Post
-    (visit-slot-mul-pow2 t)
-    (visit-slot-pow2-requires t)
-    (visit-slot-mul-look t)
-    (visit-slot-look-requires t)
-    (visit-slot-enum-told t)
-    (visit-slot-enum-known-seen t)
-    (visit-slot-returns t)
-    (visit-slot-entry-at-requires t)
-    (visit-slot-offer-requires t)
-    (visit-slot-enum-known-seen-2 t)
-    (visit-slot-mul-if2 t)
-    (visit-slot-sub-if2 t)
-    (visit-slot-add-if2 t)
-    (visit-slot-returns-2 t)
-    (visit-slot-sub-visit-node t)
-    (visit-slot-visit-node-requires t)
-    (visit-slot-returns-3 t)
-    (visit-slot-same-length t)
-    (visit-slot-returns-4 t)
-    (visit-slot-same-length-2 t)
-    (visit-slot-returns-5 t)
+    (c .before .before .visit-node .ensures s))

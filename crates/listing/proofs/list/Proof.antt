@@ -14,23 +14,11 @@ else1-from-slice-known3 c = c .before .before .before .before
 abbrev counted-from-slice-known3 : tie.After-slice-known3 → tie.After-visit-head
 counted-from-slice-known3 c = else1-from-slice-known3 c .before .before .before
 
-visit-head-requires : tie.Need-visit-head-requires
-visit-head-requires c κs = search needs
-
-same-length : tie.Need-same-length
-same-length c = search needs
-
 returns : tie.Need-returns
 returns c = (
   λ s. listed-short (counted-from-then1 c .visit-head .ensures s) (c .if1 .taken) .0,
   λ s. listed-short (counted-from-then1 c .visit-head .ensures s) (c .if1 .taken) .1,
 )
-
-visit-head-requires-2 : tie.Need-visit-head-requires-2
-visit-head-requires-2 c κs = search needs
-
-same-length-2 : tie.Need-same-length-2
-same-length-2 c = search needs
 
 returns-2 : tie.Need-returns-2
 returns-2 c =
@@ -43,9 +31,9 @@ pub list-spec : {M : Type 1} → statement M
 list-spec =
     tie.close
     (tie.spec
-    visit-head-requires
-    same-length
+    (λ c κs. search needs)
+    (λ c. search needs)
     returns
-    visit-head-requires-2
-    same-length-2
+    (λ c κs. search needs)
+    (λ c. search needs)
     returns-2)

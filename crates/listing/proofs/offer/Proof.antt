@@ -1,5 +1,5 @@
 -- `offer`: an entry as the next of the listing, if its run meets the range.
-use Prim.Native.Nat.{ℕ, _+_, _^_, _≤_, _<_}
+use Prim.Native.Nat.{_+_, _^_, _≤_, _<_}
 use mathlib.Core.Path.{_≡_}
 use mathlib.Core.Bool.{true, false}
 use native.Mathlib.Omega.{arith}
@@ -56,39 +56,18 @@ returns c =
     offered-no (a .range .room) (a .range .first) (a .range .last) (a .e) _ (a .k)
     (beyond-no (a .range .first) (a .range .last) (a .e) (c .if1 .taken))
 
-pow2-requires : tie.Need-pow2-requires
-pow2-requires c κs = search needs
-
 sub-if2 : tie.Need-sub-if2
 sub-if2 c = omega (arith, c .pow2 .ensures, pow-pos (c .before .before .before .before .args .e .order))
-
-add-if2 : tie.Need-add-if2
-add-if2 c = search needs
 
 returns-2 : tie.Need-returns-2
 returns-2 c =
     let a = start-from-then2 c .args in
     offered-no (a .range .room) (a .range .first) (a .range .last) (a .e) _ (a .k) (ended c)
 
-add-result : tie.Need-add-result
-add-result c = search needs
-
 returns-3 : tie.Need-returns-3
 returns-3 c =
     let a = start-from-else2 (else2-from-then3 c) .args in
     offered-counted (a .range .room) (a .range .first) (a .range .last) (a .e) _ (a .k) (met (else2-from-then3 c)) (c .if3 .taken)
-
-mul-write-entry : tie.Need-mul-write-entry
-mul-write-entry c = search needs
-
-write-entry-requires : tie.Need-write-entry-requires
-write-entry-requires c κs = search needs
-
-add-result-2 : tie.Need-add-result-2
-add-result-2 c = search needs
-
-same-length : tie.Need-same-length
-same-length c = search needs
 
 returns-4 : tie.Need-returns-4
 returns-4 c =
@@ -102,14 +81,14 @@ offer-spec =
     tie.close
     (tie.spec
     returns
-    pow2-requires
+    (λ c κs. search needs)
     sub-if2
-    add-if2
+    (λ c. search needs)
     returns-2
-    add-result
+    (λ c. search needs)
     returns-3
-    mul-write-entry
-    write-entry-requires
-    add-result-2
-    same-length
+    (λ c. search needs)
+    (λ c κs. search needs)
+    (λ c. search needs)
+    (λ c. search needs)
     returns-4)

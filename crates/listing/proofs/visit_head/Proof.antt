@@ -1,6 +1,6 @@
 -- `visit_head`: all entries that meet the range.
-use mathlib.Core.Path.{_≡_, ap, sym, subst}
-use mathlib.Core.List.{List, [], _∷_}
+use mathlib.Core.Path.{ap, sym, subst}
+use mathlib.Core.List.{List}
 use native.Mathlib.Omega.{arith}
 use Rattle.model.specs.declared.Entry.{Entry}
 use Rattle.listing.specs.Listing.{listed}
@@ -11,23 +11,14 @@ use borrow.Author.Needs.{needs}
 use Rattle.listing.proofs.visit_head.Statement.{statement}
 use Rattle.listing.proofs.visit_head.Tie as tie
 
-enter-requires : tie.Need-enter-requires
-enter-requires c κs = search needs
-
 enum-told : tie.Need-enum-told
 enum-told c = search needs
-
-enum-known-head : tie.Need-enum-known-head
-enum-known-head c = search needs
 
 offer-requires : tie.Need-offer-requires
 offer-requires c κs =
     let s = c .before .before .before .before .before .before .before .pre .0 in
     let (o, e) = head-fits s (c .before .before .before .before .enter .ensures s) _ (c .before .before .head .given .1) in
     (c .before .before .before .before .before .before .before .pre .1 .1, (omega arith, (o, e)))
-
-enum-known-head-2 : tie.Need-enum-known-head-2
-enum-known-head-2 c = search needs
 
 visit-node-requires : tie.Need-visit-node-requires
 visit-node-requires c κs =
@@ -52,9 +43,6 @@ returns c = λ s.
     emits-nothing (a .range .room) _ 0 (ap (λ (es : List Entry). listed es (a .range .first) (a .range .last))
     (head-none s (c .before .before .enter .ensures s) (c .enum-told .given .1)))
 
-same-length : tie.Need-same-length
-same-length c = search needs
-
 returns-2 : tie.Need-returns-2
 returns-2 c = λ s.
     let a = c .before .before .before .before .before .before .before .before .before .before .args in
@@ -63,9 +51,6 @@ returns-2 c = λ s.
     (c .before .before .before .before .before .before .before .enter .ensures s) _
     (c .before .before .before .before .before .head .given .1)))
     (c .before .before .offer .ensures)
-
-same-length-2 : tie.Need-same-length-2
-same-length-2 c = search needs
 
 returns-3 : tie.Need-returns-3
 returns-3 c = λ s.
@@ -80,14 +65,14 @@ pub visit-head-spec : {M : Type 1} → statement M
 visit-head-spec =
     tie.close
     (tie.spec
-    enter-requires
+    (λ c κs. search needs)
     enum-told
-    enum-known-head
+    (λ c. search needs)
     offer-requires
-    enum-known-head-2
+    (λ c. search needs)
     visit-node-requires
     returns
-    same-length
+    (λ c. search needs)
     returns-2
-    same-length-2
+    (λ c. search needs)
     returns-3)

@@ -26,48 +26,6 @@ put1-from-slice-known7 c = put2-from-slice-known7 c .before .before .before .bef
 abbrev shown-from-put1 : tie.After-put1 → tie.After-shown-word
 shown-from-put1 c = c .before .before
 
-shown-word-requires : tie.Need-shown-word-requires
-shown-word-requires c κs = search needs
-
-add-put1 : tie.Need-add-put1
-add-put1 c = search needs
-
-put1-requires : tie.Need-put1-requires
-put1-requires c κs = search needs
-
-add-put2 : tie.Need-add-put2
-add-put2 c = search needs
-
-put2-requires : tie.Need-put2-requires
-put2-requires c κs = search needs
-
-add-put8 : tie.Need-add-put8
-add-put8 c = search needs
-
-put8-requires : tie.Need-put8-requires
-put8-requires c κs = search needs
-
-add-put1-2 : tie.Need-add-put1-2
-add-put1-2 c = search needs
-
-put1-requires-2 : tie.Need-put1-requires-2
-put1-requires-2 c κs = search needs
-
-add-put8-2 : tie.Need-add-put8-2
-add-put8-2 c = search needs
-
-put8-requires-2 : tie.Need-put8-requires-2
-put8-requires-2 c κs = search needs
-
-add-put1-3 : tie.Need-add-put1-3
-add-put1-3 c = search needs
-
-put1-requires-3 : tie.Need-put1-requires-3
-put1-requires-3 c κs = search needs
-
-same-length : tie.Need-same-length
-same-length c = search needs
-
 returns : tie.Need-returns
 returns c = let w = shown-from-put1 (put1-from-slice-known7 c) in
     entry-written _ _ (w .before .before .args .e) (w .shown-word .ensures) (put1-from-slice-known7 c .put1 .ensures)
@@ -79,18 +37,18 @@ pub write-entry-spec : {M : Type 1} → statement M
 write-entry-spec =
     tie.close
     (tie.spec
-    shown-word-requires
-    add-put1
-    put1-requires
-    add-put2
-    put2-requires
-    add-put8
-    put8-requires
-    add-put1-2
-    put1-requires-2
-    add-put8-2
-    put8-requires-2
-    add-put1-3
-    put1-requires-3
-    same-length
+    (λ c κs. search needs)
+    (λ c. search needs)
+    (λ c κs. search needs)
+    (λ c. search needs)
+    (λ c κs. search needs)
+    (λ c. search needs)
+    (λ c κs. search needs)
+    (λ c. search needs)
+    (λ c κs. search needs)
+    (λ c. search needs)
+    (λ c κs. search needs)
+    (λ c. search needs)
+    (λ c κs. search needs)
+    (λ c. search needs)
     returns)

@@ -25,17 +25,8 @@ under c s = entered-under (c .before .before .enter .ensures s) _ _ (c .k2 .give
 abbrev start-from-known-told2 : tie.After-known-told2 → tie.Start
 start-from-known-told2 c = c .before .before .before .before .before
 
-enter-requires : tie.Need-enter-requires
-enter-requires c κs = search needs
-
 enum-told : tie.Need-enum-told
 enum-told c = search needs
-
-enum-known-k : tie.Need-enum-known-k
-enum-known-k c = search needs
-
-enum-known-k-2 : tie.Need-enum-known-k-2
-enum-known-k-2 c = search needs
 
 ending-under-requires : tie.Need-ending-under-requires
 ending-under-requires c κs = let t = start-from-known-told2 c .pre in
@@ -50,18 +41,15 @@ returns-2 c = λ s.
     let (z, h, q, o, e) = entered-head-entry (c .before .before .before .enter .ensures s) _ (c .before .k .given .1) in
     is-head _ z q
 
-returns-3 : tie.Need-returns-3
-returns-3 c = search needs
-
 pub ending-spec : {M : Type 1} → statement M
 ending-spec =
     tie.close
     (tie.spec
-    enter-requires
+    (λ c κs. search needs)
     enum-told
-    enum-known-k
-    enum-known-k-2
+    (λ c. search needs)
+    (λ c. search needs)
     ending-under-requires
     returns
     returns-2
-    returns-3)
+    (λ c. search needs))

@@ -4,9 +4,6 @@ use borrow.Author.Needs.{needs}
 use Rattle.lookup.proofs.loaded_as.Statement.{statement}
 use Rattle.lookup.proofs.loaded_as.Tie as tie
 
-is-reserved-requires : tie.Need-is-reserved-requires
-is-reserved-requires c κs = search needs
-
 returns : tie.Need-returns
 returns c = rw (sym (c .before .is-reserved .ensures) ∙ c .if1 .taken) refl
 
@@ -14,4 +11,4 @@ returns-2 : tie.Need-returns-2
 returns-2 c = rw (sym (c .before .is-reserved .ensures) ∙ c .if1 .left) refl
 
 pub loaded-as-spec : {M : Type 1} → statement M
-loaded-as-spec = tie.close (tie.spec is-reserved-requires returns returns-2)
+loaded-as-spec = tie.close (tie.spec (λ c κs. search needs) returns returns-2)

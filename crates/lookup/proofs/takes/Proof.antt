@@ -1,22 +1,15 @@
 -- `takes`: whether a filter takes an entry.
 use mathlib.Core.Path.{refl, sym, _∙_}
-use native.Mathlib.Omega.{arith}
 use borrow.Author.Tests.{ne-eqb}
 use borrow.Author.Needs.{needs}
 use Rattle.lookup.proofs.takes.Statement.{statement}
 use Rattle.lookup.proofs.takes.Tie as tie
-
-is-reserved-requires : tie.Need-is-reserved-requires
-is-reserved-requires c κs = search needs
 
 returns : tie.Need-returns
 returns c = rw (sym (c .before .is-reserved .ensures) ∙ c .if1 .taken) refl
 
 returns-2 : tie.Need-returns-2
 returns-2 c = rw (sym (c .before .before .is-reserved .ensures) ∙ c .before .if1 .left, c .if2 .taken) refl
-
-shr-result : tie.Need-shr-result
-shr-result c = search needs
 
 returns-3 : tie.Need-returns-3
 returns-3 c = rw (
@@ -25,4 +18,4 @@ returns-3 c = rw (
 ) refl
 
 pub takes-spec : {M : Type 1} → statement M
-takes-spec = tie.close (tie.spec is-reserved-requires returns returns-2 shr-result returns-3)
+takes-spec = tie.close (tie.spec (λ c κs. search needs) returns returns-2 (λ c. search needs) returns-3)

@@ -73,12 +73,6 @@ loop-holds c = let h = c .before .pre .1 in
       λ s k. climb-start s m< k (h .markable s _ (k .covering-is)),
     )
 
-mark-word-requires : tie.Need-mark-word-requires Inv-loop μ-loop
-mark-word-requires c κs = omega arith
-
-with-bit-requires : tie.Need-with-bit-requires Inv-loop μ-loop
-with-bit-requires c κs = omega arith
-
 same-length : tie.Need-same-length Inv-loop μ-loop
 same-length c = loop-from-then1 c .loop .inv .0 .same
 
@@ -90,23 +84,11 @@ returns c = λ s h.
     (loop-from-then1 c .loop .b)) (c .before .before .mark-word .ensures)) ∙
     (c .if1 .taken ∙ c .before .before .mark-word .ensures))
 
-put-mark-word-requires : tie.Need-put-mark-word-requires Inv-loop μ-loop
-put-mark-word-requires c κs = omega arith
-
 nonzero-requires : tie.Need-nonzero-requires Inv-loop μ-loop
 nonzero-requires c κs = tt
 
 owner-of-requires : tie.Need-owner-of-requires Inv-loop μ-loop
 owner-of-requires c κs = let k = put-mark-word-from-owner-of-arg c .put-mark-word .kept .0 in omega arith
-
-sub-n : tie.Need-sub-n Inv-loop μ-loop
-sub-n c = omega arith
-
-sub-o : tie.Need-sub-o Inv-loop μ-loop
-sub-o c = omega arith
-
-add-v : tie.Need-add-v Inv-loop μ-loop
-add-v c = omega arith
 
 -- where the mark word stands
 abbrev word-at : tie.After-owner-of-arg Inv-loop μ-loop → ℕ
@@ -212,16 +194,16 @@ climb-spec =
     Inv-loop
     μ-loop
     loop-holds
-    mark-word-requires
-    with-bit-requires
+    (λ c κs. omega arith)
+    (λ c κs. omega arith)
     same-length
     returns
-    put-mark-word-requires
+    (λ c κs. omega arith)
     nonzero-requires
     owner-of-requires
-    sub-n
-    sub-o
-    add-v
+    (λ c. omega arith)
+    (λ c. omega arith)
+    (λ c. omega arith)
     loop-less
     loop-again
     mark-anchor-requires

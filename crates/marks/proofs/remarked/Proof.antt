@@ -4,11 +4,8 @@ use borrow.Author.Needs.{needs}
 use Rattle.marks.proofs.remarked.Statement.{statement}
 use Rattle.marks.proofs.remarked.Tie as tie
 
-with-bit-requires : tie.Need-with-bit-requires
-with-bit-requires c κs = search needs
-
 returns : tie.Need-returns
 returns c = λ i t. rw (t, c .before .pre .1, c .with-bit .ensures) refl
 
 pub remarked-spec : {M : Type 1} → statement M
-remarked-spec = tie.close (tie.spec with-bit-requires returns)
+remarked-spec = tie.close (tie.spec (λ c κs. search needs) returns)

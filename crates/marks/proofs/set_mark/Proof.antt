@@ -1,7 +1,7 @@
 -- `set_mark`: sets or clears mark m of the entry that covers i.
 use native.Mathlib.Omega.{arith}
 use mathlib.Core.Path.{_≡_, refl, sym, subst, _∙_}
-use mathlib.Core.Bool.{Bool, true, false}
+use mathlib.Core.Bool.{true, false}
 use mathlib.Core.Option.{none, some}
 use mathlib.Core.List.{List}
 use Prim.Native.Nat.{ℕ}
@@ -49,23 +49,11 @@ start-from-else1 c = c .before .before .before .before .before .before .before .
 abbrev start-from-else2 : tie.Else2 → tie.Start
 start-from-else2 c = c .before .before .before .before .before .before .before .before
 
-locate-requires : tie.Need-locate-requires
-locate-requires c κs = search needs
-
 enum-told : tie.Need-enum-told
 enum-told c = search needs
 
 enum-told-2 : tie.Need-enum-told-2
 enum-told-2 c = search needs
-
-enum-known-k : tie.Need-enum-known-k
-enum-known-k c = search needs
-
-is-reserved-requires : tie.Need-is-reserved-requires
-is-reserved-requires c κs = search needs
-
-same-length : tie.Need-same-length
-same-length c = search needs
 
 returns : tie.Need-returns
 returns c = let a = start-from-then1 c .args in let r = sym (c .before .is-reserved .ensures) ∙ c .if1 .taken in (
@@ -81,15 +69,6 @@ mark-anchor-requires c κs = let z = start-from-else1 (c .before) in (omega (ari
 remarked-requires : tie.Need-remarked-requires
 remarked-requires c κs = let x = c .before .before .before .before in
     (start-from-else1 x .pre .1, sym (x .before .is-reserved .ensures) ∙ x .if1 .left)
-
-enum-known-k-2 : tie.Need-enum-known-k-2
-enum-known-k-2 c = search needs
-
-is-reserved-requires-2 : tie.Need-is-reserved-requires-2
-is-reserved-requires-2 c κs = search needs
-
-same-length-2 : tie.Need-same-length-2
-same-length-2 c = search needs
 
 returns-2 : tie.Need-returns-2
 returns-2 c = let a = start-from-then2 c .args in let r = sym (c .before .is-reserved2 .ensures) ∙ c .if2 .taken in (
@@ -116,9 +95,6 @@ remarked-requires-2 : tie.Need-remarked-requires-2
 remarked-requires-2 c κs = let x = c .before .before .before .before in
     (start-from-else2 x .pre .1, sym (x .before .is-reserved2 .ensures) ∙ x .if2 .left)
 
-same-length-3 : tie.Need-same-length-3
-same-length-3 c = search needs
-
 returns-3 : tie.Need-returns-3
 returns-3 c = let a = start-from-enum-told c .args in (
   (λ s. let (q, d) = at-apart (c .before .before .locate .ensures s) (c .enum-told .given .1) in
@@ -126,9 +102,6 @@ returns-3 c = let a = start-from-enum-told c .args in (
   λ s. let (q, d) = at-apart (c .before .before .locate .ensures s) (c .enum-told .given .1) in
       words-absent s (a .i) (a .m) (a .on) (rw q refl),
 )
-
-same-length-4 : tie.Need-same-length-4
-same-length-4 c = search needs
 
 returns-4 : tie.Need-returns-4
 returns-4 c = let a = start-from-enum-told2 c .args in (
@@ -138,9 +111,6 @@ returns-4 c = let a = start-from-enum-told2 c .args in (
       words-absent s (a .i) (a .m) (a .on) (rw q refl),
 )
 
-same-length-5 : tie.Need-same-length-5
-same-length-5 c = search needs
-
 returns-5 : tie.Need-returns-5
 returns-5 c = let y = else1-from-remarked c in let z = start-from-else1 y in let a = z .args in (
   (λ s. let (f, q) = at-head _ (y .before .before .before .before .before .locate .ensures s) (y .before .before .before .k .given .1) in
@@ -149,9 +119,6 @@ returns-5 c = let y = else1-from-remarked c in let z = start-from-else1 y in let
       c .before .before .before .mark-anchor .ensures ∙ head-mark s (a .i) (a .m) (a .on) (z .pre .1) _ q
       (λ r. absurd (clash r (sym (y .before .is-reserved .ensures) ∙ y .if1 .left))) f,
 )
-
-same-length-6 : tie.Need-same-length-6
-same-length-6 c = search needs
 
 returns-6 : tie.Need-returns-6
 returns-6 c = let y = else2-from-remarked2 c in let z = start-from-else2 y in let a = z .args in (
@@ -165,26 +132,26 @@ pub set-mark-spec : {M : Type 1} → statement M
 set-mark-spec =
     tie.close
     (tie.spec
-    locate-requires
+    (λ c κs. search needs)
     enum-told
     enum-told-2
-    enum-known-k
-    is-reserved-requires
-    same-length
+    (λ c. search needs)
+    (λ c κs. search needs)
+    (λ c. search needs)
     returns
     mark-anchor-requires
     remarked-requires
-    enum-known-k-2
-    is-reserved-requires-2
-    same-length-2
+    (λ c. search needs)
+    (λ c κs. search needs)
+    (λ c. search needs)
     returns-2
     climb-requires
     remarked-requires-2
-    same-length-3
+    (λ c. search needs)
     returns-3
-    same-length-4
+    (λ c. search needs)
     returns-4
-    same-length-5
+    (λ c. search needs)
     returns-5
-    same-length-6
+    (λ c. search needs)
     returns-6)

@@ -8,16 +8,10 @@ use Rattle.marks.proofs.BitSetLaws.{bit-le, bit-fits, set-at}
 use Rattle.marks.proofs.with_bit.Statement.{statement}
 use Rattle.marks.proofs.with_bit.Tie as tie
 
-shr-was : tie.Need-shr-was
-shr-was c = search needs
-
 returns : tie.Need-returns
 returns c = let l = bit-le (c .before .before .args .j) (c .before .before .args .w) (c .if2 .taken) in
     rw (c .before .if1 .taken) (omega arith ∙ sym (set-at (c .before .before .args .j) (c .before .before .args .w)
     true true (c .if2 .taken)))
-
-pow2-requires : tie.Need-pow2-requires
-pow2-requires c κs = search needs
 
 add-result : tie.Need-add-result
 add-result c = let l = bit-fits (c .before .before .before .args .j) (c .before .before .before .args .w)
@@ -34,9 +28,6 @@ returns-3 : tie.Need-returns-3
 returns-3 c = rw (c .before .if1 .left) (omega arith ∙ sym
     (set-at (c .before .before .args .j) (c .before .before .args .w) false false (c .if3 .taken)))
 
-pow2-requires-2 : tie.Need-pow2-requires-2
-pow2-requires-2 c κs = search needs
-
 sub-result : tie.Need-sub-result
 sub-result c = let z : bit (c .before .before .before .args .j) (c .before .before .before .args .w) ≡ 1 = omega
     (arith, c .before .if3 .left) in let l = bit-le (c .before .before .before .args .j)
@@ -52,12 +43,12 @@ pub with-bit-spec : {M : Type 1} → statement M
 with-bit-spec =
     tie.close
     (tie.spec
-    shr-was
+    (λ c. search needs)
     returns
-    pow2-requires
+    (λ c κs. search needs)
     add-result
     returns-2
     returns-3
-    pow2-requires-2
+    (λ c κs. search needs)
     sub-result
     returns-4)

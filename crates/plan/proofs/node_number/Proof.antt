@@ -5,23 +5,8 @@ use Rattle.plan.specs.Plan.{childOf}
 use Rattle.plan.proofs.node_number.Statement.{statement}
 use Rattle.plan.proofs.node_number.Tie as tie
 
-read-slot-requires : tie.Need-read-slot-requires
-read-slot-requires c κs = search needs
-
 enum-told : tie.Need-enum-told
 enum-told c = search needs
-
-enum-told-2 : tie.Need-enum-told-2
-enum-told-2 c = search needs
-
-enum-told-3 : tie.Need-enum-told-3
-enum-told-3 c = search needs
-
-enum-told-4 : tie.Need-enum-told-4
-enum-told-4 c = search needs
-
-enum-known-s : tie.Need-enum-known-s
-enum-known-s c = search needs
 
 returns : tie.Need-returns
 returns c = sym (ap childOf (sym (c .before .before .read-slot .ensures) ∙ c .enum-told .given .1))
@@ -42,12 +27,12 @@ pub node-number-spec : {M : Type 1} → statement M
 node-number-spec =
     tie.close
     (tie.spec
-    read-slot-requires
+    (λ c κs. search needs)
     enum-told
-    enum-told-2
-    enum-told-3
-    enum-told-4
-    enum-known-s
+    (λ c. search needs)
+    (λ c. search needs)
+    (λ c. search needs)
+    (λ c. search needs)
     returns
     returns-2
     returns-3

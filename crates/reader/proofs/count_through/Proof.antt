@@ -42,9 +42,6 @@ returns c = sym (ap counted (parse-long _ (c .if1 .taken)))
 loop-holds : tie.Need-loop-holds Inv-loop μ-loop
 loop-holds c = (omega arith, omega arith, sym (plus-zero _))
 
-read-through-requires : tie.Need-read-through-requires Inv-loop μ-loop
-read-through-requires c κs = search needs
-
 enum-told : tie.Need-enum-told Inv-loop μ-loop
 enum-told c = search needs
 
@@ -54,17 +51,11 @@ returns-2 c =
     (sym (c .enum-told .given .1) ∙ c .before .before .read-through .ensures) ∙
     not-long _ (c .before .before .before .before .if1 .left)
 
-enum-told-2 : tie.Need-enum-told-2 Inv-loop μ-loop
-enum-told-2 c = search needs
-
 returns-3 : tie.Need-returns-3 Inv-loop μ-loop
 returns-3 c =
     count-bad _ _ _ (c .before .before .before .loop .inv .2)
     (sym (c .enum-told2 .given .1) ∙ c .before .before .read-through .ensures) ∙
     not-long _ (c .before .before .before .before .if1 .left)
-
-enum-known-r : tie.Need-enum-known-r Inv-loop μ-loop
-enum-known-r c = search needs
 
 add-n : tie.Need-add-n Inv-loop μ-loop
 add-n c = omega (arith, onward (c .before))
@@ -88,12 +79,12 @@ count-through-spec =
     μ-loop
     returns
     loop-holds
-    read-through-requires
+    (λ c κs. search needs)
     enum-told
     returns-2
-    enum-told-2
+    (λ c. search needs)
     returns-3
-    enum-known-r
+    (λ c. search needs)
     add-n
     loop-less
     loop-again)

@@ -5,9 +5,6 @@ use borrow.Author.Needs.{needs}
 use Rattle.region.proofs.compare.Statement.{statement}
 use Rattle.region.proofs.compare.Tie as tie
 
-any-empty-requires : tie.Need-any-empty-requires
-any-empty-requires c κs = search needs
-
 returns : tie.Need-returns
 returns c = sym (some-empty _ _ (sym (c .before .any-empty .ensures) ∙ c .if1 .taken))
 
@@ -15,9 +12,6 @@ returns-2 : tie.Need-returns-2
 returns-2 c =
     let e = c .before .before in
     sym (lengths-differ _ _ (sym (e .any-empty .ensures) ∙ c .before .if1 .left) (c .if2 .taken))
-
-same-requires : tie.Need-same-requires
-same-requires c κs = search needs
 
 returns-3 : tie.Need-returns-3
 returns-3 c =
@@ -31,4 +25,4 @@ returns-4 c =
 
 pub compare-spec : {M : Type 1} → statement M
 compare-spec =
-    tie.close (tie.spec any-empty-requires returns returns-2 same-requires returns-3 returns-4)
+    tie.close (tie.spec (λ c κs. search needs) returns returns-2 (λ c κs. search needs) returns-3 returns-4)

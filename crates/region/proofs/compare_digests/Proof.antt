@@ -6,12 +6,6 @@ use borrow.Author.Needs.{needs}
 use Rattle.region.proofs.compare_digests.Statement.{statement}
 use Rattle.region.proofs.compare_digests.Tie as tie
 
-compare-requires : tie.Need-compare-requires
-compare-requires c κs = search needs
-
-crc32c-requires : tie.Need-crc32c-requires
-crc32c-requires c κs = search needs
-
 enum-told : tie.Need-enum-told
 enum-told c = search needs
 
@@ -24,9 +18,6 @@ returns c =
     let d = c .before .before .crc32c .ensures in
     compared-is o n v d (d ∙ ap (crc32c 0) (matched-same o n (sym v ∙ c .enum-told .given .1)))
 
-crc32c-requires-2 : tie.Need-crc32c-requires-2
-crc32c-requires-2 c κs = search needs
-
 returns-2 : tie.Need-returns-2
 returns-2 c =
     let s = c .before .before .before .before .before .before in
@@ -36,4 +27,4 @@ returns-2 c =
 pub compare-digests-spec : {M : Type 1} → statement M
 compare-digests-spec =
     tie.close
-    (tie.spec compare-requires crc32c-requires enum-told returns crc32c-requires-2 returns-2)
+    (tie.spec (λ c κs. search needs) (λ c κs. search needs) enum-told returns (λ c κs. search needs) returns-2)

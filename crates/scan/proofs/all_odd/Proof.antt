@@ -19,15 +19,6 @@ abbrev μ-loop : tie.MeasureT-loop
 loop-holds : tie.Need-loop-holds Inv-loop μ-loop
 loop-holds c = (omega arith, λ z k lt. absurd (omega arith))
 
-slot-word-requires : tie.Need-slot-word-requires Inv-loop μ-loop
-slot-word-requires c κs = omega arith
-
-add-o : tie.Need-add-o Inv-loop μ-loop
-add-o c = omega arith
-
-loop-less : tie.Need-loop-less Inv-loop μ-loop
-loop-less c = omega arith
-
 loop-again : tie.Need-loop-again Inv-loop μ-loop
 loop-again c = let A = c .before .before .before .before .args in
     (omega arith, odd-next (poolOf (A .pool .now)) (A .n) _ _ _ (c .before .before .loop .inv .1) (c .slot-word .ensures))
@@ -39,4 +30,4 @@ returns c = let A = c .before .before .before .args in
 pub all-odd-spec : {M : Type 1} → statement M
 all-odd-spec =
     tie.close
-    (tie.spec Inv-loop μ-loop loop-holds slot-word-requires add-o loop-less loop-again returns)
+    (tie.spec Inv-loop μ-loop loop-holds (λ c κs. omega arith) (λ c. omega arith) (λ c. omega arith) loop-again returns)

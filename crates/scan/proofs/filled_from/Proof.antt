@@ -21,27 +21,9 @@ loop-holds c = told-start _ _ _
 mul-f : tie.Need-mul-f Inv-loop μ-loop
 mul-f c = omega (arith, told-small _ _ _ _ _ (c .before .loop .inv) (omega arith))
 
-sub-slot-word : tie.Need-sub-slot-word Inv-loop μ-loop
-sub-slot-word c = omega arith
-
-add-slot-word : tie.Need-add-slot-word Inv-loop μ-loop
-add-slot-word c = omega arith
-
-slot-word-requires : tie.Need-slot-word-requires Inv-loop μ-loop
-slot-word-requires c κs = omega arith
-
-is-zero-requires : tie.Need-is-zero-requires Inv-loop μ-loop
-is-zero-requires c κs = omega arith
-
 sub-f : tie.Need-sub-f Inv-loop μ-loop
 sub-f c = let b : c .is-zero .result ≤ 1 = zero-one (c .before .slot-word .result) _ (c .is-zero .ensures) in
     omega (arith, b, c .before .before .before .loop .inv .some)
-
-add-t : tie.Need-add-t Inv-loop μ-loop
-add-t c = omega arith
-
-loop-less : tie.Need-loop-less Inv-loop μ-loop
-loop-less c = omega arith
 
 loop-again : tie.Need-loop-again Inv-loop μ-loop
 loop-again c = told-next _ _ _ _ _ _ (c .before .before .before .loop .inv) (omega arith)
@@ -61,13 +43,13 @@ filled-from-spec =
     μ-loop
     loop-holds
     mul-f
-    sub-slot-word
-    add-slot-word
-    slot-word-requires
-    is-zero-requires
+    (λ c. omega arith)
+    (λ c. omega arith)
+    (λ c κs. omega arith)
+    (λ c κs. omega arith)
     sub-f
-    add-t
-    loop-less
+    (λ c. omega arith)
+    (λ c. omega arith)
     loop-again
     sub-result
     returns)

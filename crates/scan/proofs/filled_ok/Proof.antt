@@ -1,14 +1,15 @@
 -- `filled_ok`: whether the slots of node n are as they must be and k of them filled, from one filled slot to the next.
-use mathlib.Core.Path.{_≡_, sym, ap, _∙_}
+use mathlib.Core.Path.{sym, ap, _∙_}
 use native.Mathlib.Omega.{arith}
 use borrow.Author.Tests.{not-true, not-false}
 use borrow.Author.Needs.{needs}
 use Prim.Native.Nat.{_-_}
 use Rattle.tree.specs.Tree.{slots}
 use Rattle.layout.specs.Pool.{poolOf, slotOf}
-use Rattle.scan.proofs.TestLaws.{no! }
-use Rattle.scan.proofs.WordLaws.{among-clear, clear-among}
-use Rattle.scan.proofs.StepLaws.{gap-clear, step-child, child-bad}
+use Rattle.steps.proofs.DecideLaws.{no! }
+use Rattle.steps.proofs.WordLaws.{among-clear, clear-among}
+use Rattle.scan.proofs.FilledLaws.{gap-clear}
+use Rattle.steps.proofs.StepLaws.{step-child, child-bad}
 use Rattle.scan.proofs.TallyLaws.{Tallied, tallied-start, tallied-past, tallied-leap, all-tallied}
 use Rattle.scan.proofs.filled_ok.Statement.{statement}
 use Rattle.scan.proofs.filled_ok.Tie as tie
@@ -56,21 +57,12 @@ else2-from-else3 c = else2-from-read-slot (read-slot-from-else3 c)
 abbrev else2-from-else4 : tie.Else4 Inv-loop μ-loop → tie.Else2 Inv-loop μ-loop
 else2-from-else4 c = c .before .before .before .before .before
 
-all-marks-requires : tie.Need-all-marks-requires Inv-loop μ-loop
-all-marks-requires c κs = omega arith
-
-filled-slots-requires : tie.Need-filled-slots-requires Inv-loop μ-loop
-filled-slots-requires c κs = omega arith
-
 returns : tie.Need-returns Inv-loop μ-loop
 returns c = no! (λ s. c .if1 .taken (clear-among _ _ (omega arith) (omega arith)
     (gap-clear _ _ _ _ _ (c .before .filled-slots .ensures) (c .before .before .all-marks .ensures) (s .slots-ok))))
 
 loop-holds : tie.Need-loop-holds Inv-loop μ-loop
 loop-holds c = tallied-start _ _ _
-
-next-marked-requires : tie.Need-next-marked-requires Inv-loop μ-loop
-next-marked-requires c κs = omega arith
 
 returns-2 : tie.Need-returns-2 Inv-loop μ-loop
 returns-2 c = let g = tallied-past _ _ _ _ _ (filled-slots-from-then2 c .filled-slots .ensures)
@@ -80,12 +72,6 @@ returns-2 c = let g = tallied-past _ _ _ _ _ (filled-slots-from-then2 c .filled-
 
 slot-word-requires : tie.Need-slot-word-requires Inv-loop μ-loop
 slot-word-requires c κs = omega (arith, c .before .next-marked .ensures .most)
-
-read-slot-requires : tie.Need-read-slot-requires Inv-loop μ-loop
-read-slot-requires c κs = search needs
-
-enum-known-s : tie.Need-enum-known-s Inv-loop μ-loop
-enum-known-s c = search needs
 
 child-ok-requires : tie.Need-child-ok-requires Inv-loop μ-loop
 child-ok-requires c κs = omega (arith, c .before .before .before .before .before .before .next-marked .ensures .most)
@@ -163,15 +149,15 @@ filled-ok-spec =
     (tie.spec
     Inv-loop
     μ-loop
-    all-marks-requires
-    filled-slots-requires
+    (λ c κs. omega arith)
+    (λ c κs. omega arith)
     returns
     loop-holds
-    next-marked-requires
+    (λ c κs. omega arith)
     returns-2
     slot-word-requires
-    read-slot-requires
-    enum-known-s
+    (λ c κs. search needs)
+    (λ c. search needs)
     child-ok-requires
     returns-3
     add-c

@@ -4,18 +4,6 @@ use Rattle.scan.proofs.FilledLaws.{joined}
 use Rattle.scan.proofs.filled_slots.Statement.{statement}
 use Rattle.scan.proofs.filled_slots.Tie as tie
 
-filled-from-requires : tie.Need-filled-from-requires
-filled-from-requires c κs = omega arith
-
-filled-from-requires-2 : tie.Need-filled-from-requires-2
-filled-from-requires-2 c κs = omega arith
-
-filled-from-requires-3 : tie.Need-filled-from-requires-3
-filled-from-requires-3 c κs = omega arith
-
-filled-from-requires-4 : tie.Need-filled-from-requires-4
-filled-from-requires-4 c κs = omega arith
-
 mul-result : tie.Need-mul-result
 mul-result c = omega (arith, c .filled-from4 .ensures .fits)
 
@@ -48,10 +36,10 @@ pub filled-slots-spec : {M : Type 1} → statement M
 filled-slots-spec =
     tie.close
     (tie.spec
-    filled-from-requires
-    filled-from-requires-2
-    filled-from-requires-3
-    filled-from-requires-4
+    (λ c κs. omega arith)
+    (λ c κs. omega arith)
+    (λ c κs. omega arith)
+    (λ c κs. omega arith)
     mul-result
     add-result
     mul-result-2

@@ -5,9 +5,6 @@ use Rattle.scan.proofs.TallyLaws.{pick-empty, pick-filled}
 use Rattle.scan.proofs.if_filled.Statement.{statement}
 use Rattle.scan.proofs.if_filled.Tie as tie
 
-slot-word-requires : tie.Need-slot-word-requires
-slot-word-requires c κs = omega arith
-
 returns : tie.Need-returns
 returns c = (pick-empty _ _ (sym (c .before .slot-word .ensures) ∙ c .if1 .taken), omega arith)
 
@@ -15,4 +12,4 @@ returns-2 : tie.Need-returns-2
 returns-2 c = (pick-filled _ _ (λ z. c .if1 .left (c .before .slot-word .ensures ∙ z)), omega arith)
 
 pub if-filled-spec : {M : Type 1} → statement M
-if-filled-spec = tie.close (tie.spec slot-word-requires returns returns-2)
+if-filled-spec = tie.close (tie.spec (λ c κs. omega arith) returns returns-2)

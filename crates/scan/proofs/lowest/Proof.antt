@@ -7,14 +7,8 @@ use Rattle.scan.proofs.lowest.Tie as tie
 returns : tie.Need-returns
 returns c = lowest-zero _ (c .if1 .taken)
 
-sub-result : tie.Need-sub-result
-sub-result c = omega arith
-
-add-result : tie.Need-add-result
-add-result c = omega arith
-
 returns-2 : tie.Need-returns-2
 returns-2 c = lowest-of (c .before .args .w) (c .before .fits .w .fits) (c .if1 .left)
 
 pub lowest-spec : {M : Type 1} → statement M
-lowest-spec = tie.close (tie.spec returns sub-result add-result returns-2)
+lowest-spec = tie.close (tie.spec returns (λ c. omega arith) (λ c. omega arith) returns-2)

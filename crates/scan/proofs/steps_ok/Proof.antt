@@ -3,7 +3,7 @@ use native.Mathlib.Omega.{arith}
 use Prim.Native.Nat.{_-_}
 use Rattle.tree.specs.Tree.{slots}
 use Rattle.layout.specs.Pool.{poolOf}
-use Rattle.scan.proofs.TestLaws.{no! }
+use Rattle.steps.proofs.DecideLaws.{no! }
 use Rattle.scan.proofs.TallyLaws.{Tallied, tallied-start, tallied-on, all-tallied}
 use Rattle.scan.proofs.steps_ok.Statement.{statement}
 use Rattle.scan.proofs.steps_ok.Tie as tie
@@ -24,9 +24,6 @@ step-from-if-filled c = c .before .before
 abbrev loop-from-if-filled : tie.After-if-filled Inv-loop μ-loop → tie.At-loop Inv-loop μ-loop
 loop-from-if-filled c = step-from-if-filled c .before .before
 
-all-marks-requires : tie.Need-all-marks-requires Inv-loop μ-loop
-all-marks-requires c κs = omega arith
-
 loop-holds : tie.Need-loop-holds Inv-loop μ-loop
 loop-holds c = tallied-start _ _ _
 
@@ -35,9 +32,6 @@ step-requires c κs = (start-from-in-loop c .pre .0, ((omega arith, omega arith)
 
 returns : tie.Need-returns Inv-loop μ-loop
 returns c = no! (λ s. c .before .step .ensures .bad (c .if1 .taken) (s .slots-ok))
-
-if-filled-requires : tie.Need-if-filled-requires Inv-loop μ-loop
-if-filled-requires c κs = omega arith
 
 add-c : tie.Need-add-c Inv-loop μ-loop
 add-c c = let L = loop-from-if-filled c .loop .inv in
@@ -62,11 +56,11 @@ steps-ok-spec =
     (tie.spec
     Inv-loop
     μ-loop
-    all-marks-requires
+    (λ c κs. omega arith)
     loop-holds
     step-requires
     returns
-    if-filled-requires
+    (λ c κs. omega arith)
     add-c
     add-j
     loop-less

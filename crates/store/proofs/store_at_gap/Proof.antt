@@ -1,4 +1,4 @@
--- The slots alone by the laws of AtGap, or one of the other ways.
+-- The slots alone by GapLaws, or one of the other ways.
 use Prim.Native.Nat.{ℕ, _+_, _/_, _<_}
 use mathlib.Core.Path.{_≡_, ap, subst, _∙_}
 use native.Mathlib.Omega.{arith}
@@ -9,9 +9,9 @@ use Rattle.layout.specs.Words.{lastPlace, slotPlace}
 use Rattle.lookup.proofs.WordLaws.{node-at, node-fits}
 use Rattle.write.specs.declared.Seat.{Seat}
 use Rattle.write.specs.Writes.{settled}
-use Rattle.store.proofs.FilledWords.{filled-bound}
+use Rattle.store.proofs.FilledWordLaws.{filled-bound}
 use Rattle.store.proofs.ReachLaws.{reached-gap}
-use Rattle.store.proofs.AtGap.{slots-done, slots-map}
+use Rattle.store.proofs.GapLaws.{slots-done, slots-map}
 use borrow.Author.Needs.{needs}
 use Rattle.store.proofs.store_at_gap.Statement.{statement}
 use Rattle.store.proofs.store_at_gap.Tie as tie
@@ -63,12 +63,6 @@ store-below-requires : tie.Need-store-below-requires
 store-below-requires c κs = let p = start-below c .pre in
     (p .0, (p .1 .0, ((c .before .before .if1 .taken, p .1 .1 .0), p .1 .1 .1)))
 
-same-length : tie.Need-same-length
-same-length c = search needs
-
-same-length-2 : tie.Need-same-length-2
-same-length-2 c = search needs
-
 returns : tie.Need-returns
 returns c = below c .store-below .ensures
 
@@ -78,17 +72,11 @@ store-new-requires c κs = let p = start-new c .pre in (
   (
     p .1 .0,
     λ s. (
-      p .1 .1 .1 s .new,
-      reached-gap _ _ _ _ _ (p .1 .1 .1 s .at-node) (omega (arith, c .before .before .if2 .taken)),
+      p .1 .1 .1 s .new .is-new,
+      reached-gap (p .1 .1 .1 s .at-node) (omega (arith, c .before .before .if2 .taken)),
     ),
   ),
 )
-
-same-length-3 : tie.Need-same-length-3
-same-length-3 c = search needs
-
-same-length-4 : tie.Need-same-length-4
-same-length-4 c = search needs
 
 returns-2 : tie.Need-returns-2
 returns-2 c = new c .store-new .ensures
@@ -108,17 +96,11 @@ store-new-requires-2 c κs = let x = seat (c .before .before .before) in let p =
   (
     p .1 .0,
     λ s. (
-      p .1 .1 .1 s .new,
-      reached-gap _ _ _ _ _ (p .1 .1 .1 s .at-node) (omega (arith, x .before .before .if1 .left)),
+      p .1 .1 .1 s .new .is-new,
+      reached-gap (p .1 .1 .1 s .at-node) (omega (arith, x .before .before .if1 .left)),
     ),
   ),
 )
-
-same-length-5 : tie.Need-same-length-5
-same-length-5 c = search needs
-
-same-length-6 : tie.Need-same-length-6
-same-length-6 c = search needs
 
 returns-3 : tie.Need-returns-3
 returns-3 c = new-2 c .store-new2 .ensures
@@ -130,9 +112,6 @@ settle-requires c κs = let x = seat (c .before .before) in
 entry-of-requires : tie.Need-entry-of-requires
 entry-of-requires c κs = start (seat (asked (settled-at c)) .before) .pre .1 .0 .0
 
-same-length-7 : tie.Need-same-length-7
-same-length-7 c = search needs
-
 returns-4 : tie.Need-returns-4
 returns-4 c = let n = settled-at (c .before) in let y = asked n in let x = seat y in let z = start (x .before) in
     let a = z .args in let p = z .pre in
@@ -143,9 +122,9 @@ returns-4 c = let n = settled-at (c .before) in let y = asked n in let x = seat 
     (λ j lt. y .vacant .ensures .0 (not-false _ (n .before .before .if3 .left)) (r .slot + j) (omega arith) (omega arith)) in
     let words = n .settle .ensures ∙ ap (λ (e : Seat). settled (a .pool .now) (e .node) (e .slot) (e .count)
     (t .word)) q in (
-      λ s. slots-done s (t .index) (t .order) (t .word) (a .u) (a .a) (g .index-fits) (g .order-le) (p .1 .1 .1 s) tier-is
+      λ s. slots-done s (p .1 .1 .1 s) tier-is
           none (g .is-entry) (c .entry-of .ensures) words,
-      slots-map (p .0) (t .index) (t .order) (t .word) (a .u) (a .a) (g .index-fits) (g .order-le) (p .1 .1 .1 (p .0))
+      slots-map (p .0) (p .1 .1 .1 (p .0))
           tier-is none (g .is-entry) (g .word-fits) (p .1 .0 .1) words,
     )
 
@@ -154,21 +133,21 @@ store-at-gap-spec =
     tie.close
     (tie.spec
     store-below-requires
-    same-length
-    same-length-2
+    (λ c. search needs)
+    (λ c. search needs)
     returns
     store-new-requires
-    same-length-3
-    same-length-4
+    (λ c. search needs)
+    (λ c. search needs)
     returns-2
     seat-of-requires
     add-vacant
     vacant-requires
     store-new-requires-2
-    same-length-5
-    same-length-6
+    (λ c. search needs)
+    (λ c. search needs)
     returns-3
     settle-requires
     entry-of-requires
-    same-length-7
+    (λ c. search needs)
     returns-4)

@@ -1,14 +1,11 @@
 -- `answer`: what the program does with the bytes that it read.
 use borrow.Author.Needs.{needs}
 use native.Mathlib.Omega.{arith}
-use mathlib.Core.Path.{_≡_, refl, sym, ap, ap₂, subst, _∙_}
+use mathlib.Core.Path.{_≡_, refl, sym, ap₂, _∙_}
 use lib.ListN.{length, take, length-take}
 use Rattle.tamburish.proofs.WrittenLaws.{program-writes}
 use Rattle.tamburish.proofs.answer.Statement.{statement}
 use Rattle.tamburish.proofs.answer.Tie as tie
-
-slice-aggregate-respond : tie.Need-slice-aggregate-respond
-slice-aggregate-respond c = search needs
 
 slice-aggregate-respond-2 : tie.Need-slice-aggregate-respond-2
 slice-aggregate-respond-2 c =
@@ -16,12 +13,6 @@ slice-aggregate-respond-2 c =
     let l = length-take (s .args .n) (s .args .input .now) in
     let e : length (take (s .args .n) (s .args .input .now)) ≡ s .args .n = omega (arith, l, s .pre .0 .0, s .pre .0 .1) in
     sym e
-
-respond-requires : tie.Need-respond-requires
-respond-requires c κs = search needs
-
-same-length : tie.Need-same-length
-same-length c = search needs
 
 returns : tie.Need-returns
 returns c =
@@ -33,8 +24,8 @@ pub answer-spec : {M : Type 1} → statement M
 answer-spec =
     tie.close
     (tie.spec
-    slice-aggregate-respond
+    (λ c. search needs)
     slice-aggregate-respond-2
-    respond-requires
-    same-length
+    (λ c κs. search needs)
+    (λ c. search needs)
     returns)

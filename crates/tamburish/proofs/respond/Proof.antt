@@ -9,20 +9,14 @@ use Rattle.tamburish.proofs.respond.Tie as tie
 abbrev start : tie.Then1 → tie.Start
 start c = c .before .before .before .before
 
-abbrev few : tie.After-xapool-init → tie.Else1
+abbrev few : tie.After-init → tie.Else1
 few c = c .before .before
 
-abbrev began : tie.After-xapool-init → tie.Start
+abbrev began : tie.After-init → tie.Start
 began c = few c .before .before .before .before
 
-abbrev made : tie.After-xapool-run → tie.After-xapool-init
+abbrev made : tie.After-run → tie.After-init
 made c = c .before .before .before .before .before
-
-refusal-requires : tie.Need-refusal-requires
-refusal-requires c κs = search needs
-
-same-length : tie.Need-same-length
-same-length c = search needs
 
 returns : tie.Need-returns
 returns c =
@@ -30,64 +24,43 @@ returns c =
     let t = r .before .before in
     long _ _ _ (omega (arith, t .if1 .taken)) (start t .pre) (r .refusal .ensures .0) (r .refusal .ensures .1)
 
-xapool-init-requires : tie.Need-xapool-init-requires
-xapool-init-requires c κs = search needs
-
-xapool-run-requires : tie.Need-xapool-run-requires
-xapool-run-requires c κs = search needs
-
-refusal-requires-2 : tie.Need-refusal-requires-2
-refusal-requires-2 c κs = search needs
-
-same-length-2 : tie.Need-same-length-2
-same-length-2 c = search needs
-
-same-length-3 : tie.Need-same-length-3
-same-length-3 c = search needs
-
 returns-2 : tie.Need-returns-2
 returns-2 c =
     let f = c .before .before in
     let d = f .before .before in
     let r = d .before .before .before .before .before in
     let i = made r in
-    said _ _ _ _ (omega (arith, few i .if1 .left)) (i .xapool-init .ensures .1) (r .xapool-run .ensures .0)
-    (r .xapool-run .ensures .1 .0) (r .xapool-run .ensures .1 .1 .0) (d .if2 .taken) (began i .pre)
+    said _ _ _ _ (omega (arith, few i .if1 .left)) (i .init .ensures .1) (r .run .ensures .0)
+    (r .run .ensures .1 .0) (r .run .ensures .1 .1 .0) (d .if2 .taken) (began i .pre)
     (f .refusal2 .ensures .0) (f .refusal2 .ensures .1)
 
 mul-result : tie.Need-mul-result
 mul-result c =
     let r = c .before .before .before .before .before in
-    let h = has-room _ _ _ (r .xapool-run .ensures .0) (c .if2 .left) in
+    let h = has-room _ _ _ (r .run .ensures .0) (c .if2 .left) in
     record { fits = omega (arith, h, began (made r) .good) }
-
-same-length-4 : tie.Need-same-length-4
-same-length-4 c = search needs
-
-same-length-5 : tie.Need-same-length-5
-same-length-5 c = search needs
 
 returns-3 : tie.Need-returns-3
 returns-3 c =
     let r = c .before .before .before .before .before in
     let i = made r in
-    did _ _ _ _ (omega (arith, few i .if1 .left)) (i .xapool-init .ensures .1) (r .xapool-run .ensures .0)
-    (r .xapool-run .ensures .1 .0) (r .xapool-run .ensures .1 .1 .0) (c .if2 .left)
+    did _ _ _ _ (omega (arith, few i .if1 .left)) (i .init .ensures .1) (r .run .ensures .0)
+    (r .run .ensures .1 .0) (r .run .ensures .1 .1 .0) (c .if2 .left)
 
 pub respond-spec : {M : Type 1} → statement M
 respond-spec =
     tie.close
     (tie.spec
-    refusal-requires
-    same-length
+    (λ c κs. search needs)
+    (λ c. search needs)
     returns
-    xapool-init-requires
-    xapool-run-requires
-    refusal-requires-2
-    same-length-2
-    same-length-3
+    (λ c κs. search needs)
+    (λ c κs. search needs)
+    (λ c κs. search needs)
+    (λ c. search needs)
+    (λ c. search needs)
     returns-2
     mul-result
-    same-length-4
-    same-length-5
+    (λ c. search needs)
+    (λ c. search needs)
     returns-3)

@@ -4,14 +4,8 @@ use Rattle.freemap.proofs.MapLaws.{blank-map}
 use Rattle.verify.proofs.check.Statement.{statement}
 use Rattle.verify.proofs.check.Tie as tie
 
-slice-aggregate-check-map : tie.Need-slice-aggregate-check-map
-slice-aggregate-check-map c = search needs
-
 check-map-requires : tie.Need-check-map-requires
 check-map-requires c κs = blank-map
 
-returns : tie.Need-returns
-returns c = search needs
-
 pub check-spec : {M : Type 1} → statement M
-check-spec = tie.close (tie.spec slice-aggregate-check-map check-map-requires returns)
+check-spec = tie.close (tie.spec (λ c. search needs) check-map-requires (λ c. search needs))

@@ -30,9 +30,6 @@ passed-then c = c .before .before .before
 abbrev else1-from-then5 : tie.Then5 → tie.Else1
 else1-from-then5 c = else1-from-else4 (c .before .before)
 
-nodes-in-requires : tie.Need-nodes-in-requires
-nodes-in-requires c κs = search needs
-
 returns : tie.Need-returns
 returns c = (answered _ 1 (wrong-size (c .before .nodes-in .ensures .no-pool (c .if1 .taken))), (λ e. absurd (omega arith)))
 
@@ -67,9 +64,6 @@ nodes-ok-requires c κs =
     let s = c5 .nodes-in .ensures .sized (c4 .if1 .left) in
     (omega (arith, s .size, s .least, s .most), c5 .before .before .before .pre)
 
-same-length : tie.Need-same-length
-same-length c = search needs
-
 returns-4 : tie.Need-returns-4
 returns-4 c =
     let c6 = else1-from-then4 c in
@@ -86,9 +80,6 @@ head-ok-requires c κs =
     let s = c7 .nodes-in .ensures .sized (c6 .if1 .left) in
     (omega (arith, s .size, s .least, s .most), passed c .nodes-ok .ensures .0 .0 (not-false _ (c .if4 .left)))
 
-same-length-2 : tie.Need-same-length-2
-same-length-2 c = search needs
-
 returns-5 : tie.Need-returns-5
 returns-5 c =
     let c8 = else1-from-then5 c in
@@ -97,9 +88,6 @@ returns-5 c =
       answered _ 2 (bad-head _ _ s (c .before .head-ok .ensures .1 (not-true _ (c .if5 .taken)))),
       (λ e. absurd (omega arith)),
     )
-
-same-length-3 : tie.Need-same-length-3
-same-length-3 c = search needs
 
 returns-6 : tie.Need-returns-6
 returns-6 c =
@@ -118,17 +106,17 @@ pub check-map-spec : {M : Type 1} → statement M
 check-map-spec =
     tie.close
     (tie.spec
-    nodes-in-requires
+    (λ c κs. search needs)
     returns
     shared-slice-read-if2
     returns-2
     shared-slice-read-if3
     returns-3
     nodes-ok-requires
-    same-length
+    (λ c. search needs)
     returns-4
     head-ok-requires
-    same-length-2
+    (λ c. search needs)
     returns-5
-    same-length-3
+    (λ c. search needs)
     returns-6)

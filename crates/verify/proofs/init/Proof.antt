@@ -5,7 +5,7 @@ use Prim.Native.Nat.{ℕ}
 use mathlib.Core.List.{List}
 use lib.ListN.{length, set}
 use borrow.Author.Needs.{needs}
-use Rattle.layout.proofs.FillLaws.{length-filled}
+use Rattle.words.proofs.FillLaws.{length-filled}
 use Rattle.verify.proofs.EmptyLaws.{init-done, init-refused}
 use Rattle.verify.proofs.init.Statement.{statement}
 use Rattle.verify.proofs.init.Tie as tie
@@ -13,12 +13,6 @@ use Rattle.verify.proofs.init.Tie as tie
 -- THE PLACES IN THE CODE, each from one after it
 abbrev else1-from-slice-known2 : tie.After-slice-known2 → tie.Else1
 else1-from-slice-known2 c = c .before .before .before .before
-
-nodes-in-requires : tie.Need-nodes-in-requires
-nodes-in-requires c κs = search needs
-
-same-length : tie.Need-same-length
-same-length c = search needs
 
 returns : tie.Need-returns
 returns c = init-refused (c .before .nodes-in .ensures .no-pool (c .if1 .taken))
@@ -34,9 +28,6 @@ slice-write-pool c =
     let s = c5 .nodes-in .ensures .sized (c4 .if1 .left) in
     omega (arith, ap length (c .before .before .fill .ensures) ∙ length-filled _ _ _ _, s .size)
 
-same-length-2 : tie.Need-same-length-2
-same-length-2 c = search needs
-
 returns-2 : tie.Need-returns-2
 returns-2 c =
     let c4 = else1-from-slice-known2 c in
@@ -51,10 +42,10 @@ pub init-spec : {M : Type 1} → statement M
 init-spec =
     tie.close
     (tie.spec
-    nodes-in-requires
-    same-length
+    (λ c κs. search needs)
+    (λ c. search needs)
     returns
     fill-requires
     slice-write-pool
-    same-length-2
+    (λ c. search needs)
     returns-2)

@@ -28,13 +28,13 @@ use Rattle.write.proofs.+free_slot+free_slots+free_tree.Lts-free_slots 
 use Rattle.write.proofs.free_tree.Reads as free-tree
 use Rattle.write.proofs.free_tree.Kinds as free-tree-kinds
 use Rattle.write.proofs.+free_slot+free_slots+free_tree.Lts-free_tree as free-tree-lts
-use Rattle.freemap.proofs.release.Reads as release-reads
+use Rattle.freenodes.proofs.release.Reads as release-reads
 use Rattle.layout.proofs.read_slot.Reads as read-slot-reads
 use Rattle.layout.proofs.slot_word.Reads as slot-word-reads
 use Rattle.write.proofs.+free_slot+free_slots+free_tree.{statement}
 use Rattle.write.proofs.+free_slot+free_slots+free_tree.Tie.{close}
-use Rattle.freemap.specs.FreeMap.{Follows}
-use Rattle.freemap.proofs.FollowLaws.{follows-same, follows-then, follows-sound}
+use Rattle.freenodes.specs.FreeNodes.{Follows}
+use Rattle.freenodes.proofs.FollowLaws.{follows-same, follows-then, follows-sound}
 
 module _ (f : List ℕ → ℕ → List ℕ) (top : ℕ) (ws : List ℕ) (w : ℕ) {r : Slot} (e : r ≡ slotOf w) where
   -- nothing is freed
@@ -99,290 +99,12 @@ abbrev free-tree-below : ℕ → In 2 free-tree-kinds.ps
 free-tree-below t =
     and 2 free-tree-kinds.ps (falls 2 free-tree-kinds.ps _<_ μ-free-tree t) free-tree.Pre
 
-free-slot-read-slot-requires : (t : ℕ) → free-slot-lts.Need-read-slot-requires (
-  read-slot-reads.Asked,
-  read-slot-reads.Learnt,
-  free-tree-below t,
-  free-tree.Post,
-) (free-slot-at t) free-slot.Post
-free-slot-read-slot-requires t c κs = search needs
-
-free-slot-enum-known-s : (t : ℕ) → free-slot-lts.Need-enum-known-s (
-  read-slot-reads.Asked,
-  read-slot-reads.Learnt,
-  free-tree-below t,
-  free-tree.Post,
-) (free-slot-at t) free-slot.Post
-free-slot-enum-known-s t c = search needs
-
-free-slot-free-tree-requires : (t : ℕ) → free-slot-lts.Need-free-tree-requires (
-  read-slot-reads.Asked,
-  read-slot-reads.Learnt,
-  free-tree-below t,
-  free-tree.Post,
-) (free-slot-at t) free-slot.Post
-free-slot-free-tree-requires t c κs = let z = c .before .before .before .before .before .before .before .before .before in
-    (omega arith, (omega arith, (z .pre .1 .1 .0, (omega arith, omega arith))))
-
-free-slot-enum-told : (t : ℕ) → free-slot-lts.Need-enum-told (
-  read-slot-reads.Asked,
-  read-slot-reads.Learnt,
-  free-tree-below t,
-  free-tree.Post,
-) (free-slot-at t) free-slot.Post
-free-slot-enum-told t c = search needs
-
-free-slot-enum-told-2 : (t : ℕ) → free-slot-lts.Need-enum-told-2 (
-  read-slot-reads.Asked,
-  read-slot-reads.Learnt,
-  free-tree-below t,
-  free-tree.Post,
-) (free-slot-at t) free-slot.Post
-free-slot-enum-told-2 t c = search needs
-
-free-slot-enum-told-3 : (t : ℕ) → free-slot-lts.Need-enum-told-3 (
-  read-slot-reads.Asked,
-  read-slot-reads.Learnt,
-  free-tree-below t,
-  free-tree.Post,
-) (free-slot-at t) free-slot.Post
-free-slot-enum-told-3 t c = search needs
-
-free-slot-enum-told-4 : (t : ℕ) → free-slot-lts.Need-enum-told-4 (
-  read-slot-reads.Asked,
-  read-slot-reads.Learnt,
-  free-tree-below t,
-  free-tree.Post,
-) (free-slot-at t) free-slot.Post
-free-slot-enum-told-4 t c = search needs
-
-free-slot-same-length : (t : ℕ) → free-slot-lts.Need-same-length (
-  read-slot-reads.Asked,
-  read-slot-reads.Learnt,
-  free-tree-below t,
-  free-tree.Post,
-) (free-slot-at t) free-slot.Post
-free-slot-same-length t c = omega arith
-
-free-slot-same-length-2 : (t : ℕ) → free-slot-lts.Need-same-length-2 (
-  read-slot-reads.Asked,
-  read-slot-reads.Learnt,
-  free-tree-below t,
-  free-tree.Post,
-) (free-slot-at t) free-slot.Post
-free-slot-same-length-2 t c = omega arith
-
-free-slot-returns : (t : ℕ) → free-slot-lts.Need-returns (
-  read-slot-reads.Asked,
-  read-slot-reads.Learnt,
-  free-tree-below t,
-  free-tree.Post,
-) (free-slot-at t) free-slot.Post
-free-slot-returns t c = let f = c .before .before .before .before in let i = f .before .before .before in let k = i .before .before in (
-  f .free-tree .ensures .0 ∙ on _ _ _ _ (k .before .before .read-slot .ensures) _ (k .s .given .1) (i .if1 .taken),
-  f .free-tree .ensures .1,
-)
-
-free-slot-returns-2 : (t : ℕ) → free-slot-lts.Need-returns-2 (
-  read-slot-reads.Asked,
-  read-slot-reads.Learnt,
-  free-tree-below t,
-  free-tree.Post,
-) (free-slot-at t) free-slot.Post
-free-slot-returns-2 t c = (
-  off _ _ _ _ (c .before .before .before .before .read-slot .ensures) _ (c .before .before .s .given .1) (c .if1 .left),
-  follows-same _ _,
-)
-
-free-slot-returns-3 : (t : ℕ) → free-slot-lts.Need-returns-3 (
-  read-slot-reads.Asked,
-  read-slot-reads.Learnt,
-  free-tree-below t,
-  free-tree.Post,
-) (free-slot-at t) free-slot.Post
-free-slot-returns-3 t c = (still _ _ _ _ (c .before .before .read-slot .ensures) (c .enum-told .given .1) refl, follows-same _ _)
-
-free-slot-returns-4 : (t : ℕ) → free-slot-lts.Need-returns-4 (
-  read-slot-reads.Asked,
-  read-slot-reads.Learnt,
-  free-tree-below t,
-  free-tree.Post,
-) (free-slot-at t) free-slot.Post
-free-slot-returns-4 t c = (still _ _ _ _ (c .before .before .read-slot .ensures) (c .enum-told2 .given .1) refl, follows-same _ _)
-
-free-slot-returns-5 : (t : ℕ) → free-slot-lts.Need-returns-5 (
-  read-slot-reads.Asked,
-  read-slot-reads.Learnt,
-  free-tree-below t,
-  free-tree.Post,
-) (free-slot-at t) free-slot.Post
-free-slot-returns-5 t c = (still _ _ _ _ (c .before .before .read-slot .ensures) (c .enum-told3 .given .1) refl, follows-same _ _)
-
-free-slot-returns-6 : (t : ℕ) → free-slot-lts.Need-returns-6 (
-  read-slot-reads.Asked,
-  read-slot-reads.Learnt,
-  free-tree-below t,
-  free-tree.Post,
-) (free-slot-at t) free-slot.Post
-free-slot-returns-6 t c = (still _ _ _ _ (c .before .before .read-slot .ensures) (c .enum-told4 .given .1) refl, follows-same _ _)
-
 abbrev free-slots-Inv-loop : free-slots-lts.InvT-loop
 free-slots-Inv-loop pool₀ map₀ top n o c u j₀ pool map j = (j ≤ c) × (length pool ≡ length pool₀) × (length map ≡ length map₀) ×
     (pool ≡ freeSlots (freeTree top u) top n o pool₀ j) × Follows pool₀ pool map₀ map
 
 abbrev free-slots-μ-loop : free-slots-lts.MeasureT-loop
 free-slots-μ-loop pool₀ map₀ top n o c u j₀ pool map j = c - j
-
-free-slots-loop-holds : (t : ℕ) → free-slots-lts.Need-loop-holds (
-  slot-word-reads.Asked,
-  slot-word-reads.Learnt,
-  free-slot-below t,
-  free-slot.Post,
-) (free-slots-at t) free-slots.Post free-slots-Inv-loop free-slots-μ-loop
-free-slots-loop-holds t c = (omega arith, refl, refl, slots-start _ _ _ _ _, follows-same _ _)
-
-free-slots-add-slot-word : (t : ℕ) → free-slots-lts.Need-add-slot-word (
-  slot-word-reads.Asked,
-  slot-word-reads.Learnt,
-  free-slot-below t,
-  free-slot.Post,
-) (free-slots-at t) free-slots.Post free-slots-Inv-loop free-slots-μ-loop
-free-slots-add-slot-word t c = omega arith
-
-free-slots-slot-word-requires : (t : ℕ) → free-slots-lts.Need-slot-word-requires (
-  slot-word-reads.Asked,
-  slot-word-reads.Learnt,
-  free-slot-below t,
-  free-slot.Post,
-) (free-slots-at t) free-slots.Post free-slots-Inv-loop free-slots-μ-loop
-free-slots-slot-word-requires t c κs = omega arith
-
-free-slots-free-slot-requires : (t : ℕ) → free-slots-lts.Need-free-slot-requires (
-  slot-word-reads.Asked,
-  slot-word-reads.Learnt,
-  free-slot-below t,
-  free-slot.Post,
-) (free-slots-at t) free-slots.Post free-slots-Inv-loop free-slots-μ-loop
-free-slots-free-slot-requires t c κs = let l = c .before .before .before .before .before in
-    (omega arith, (omega arith, (follows-sound (l .loop .inv .4) (l .before .before .before .pre .1 .1 .0), omega arith)))
-
-free-slots-add-j : (t : ℕ) → free-slots-lts.Need-add-j (
-  slot-word-reads.Asked,
-  slot-word-reads.Learnt,
-  free-slot-below t,
-  free-slot.Post,
-) (free-slots-at t) free-slots.Post free-slots-Inv-loop free-slots-μ-loop
-free-slots-add-j t c = omega arith
-
-free-slots-loop-less : (t : ℕ) → free-slots-lts.Need-loop-less (
-  slot-word-reads.Asked,
-  slot-word-reads.Learnt,
-  free-slot-below t,
-  free-slot.Post,
-) (free-slots-at t) free-slots.Post free-slots-Inv-loop free-slots-μ-loop
-free-slots-loop-less t c = omega arith
-
-free-slots-loop-again : (t : ℕ) → free-slots-lts.Need-loop-again (
-  slot-word-reads.Asked,
-  slot-word-reads.Learnt,
-  free-slot-below t,
-  free-slot.Post,
-) (free-slots-at t) free-slots.Post free-slots-Inv-loop free-slots-μ-loop
-free-slots-loop-again t c = let s = c .before .before .before .before in let w = s .before .before .before in
-    let k = w .before .before .before .loop .inv in (
-      omega arith,
-      s .free-slot .kept .0 ∙ k .1,
-      s .free-slot .kept .1 .0 ∙ k .2,
-      s .free-slot .ensures .0 ∙ rw (w .slot-word .ensures) (slots-step _ _ _ _ _ _ _ (k .3)),
-      follows-then (k .4) (s .free-slot .ensures .1),
-    )
-
-free-slots-same-length : (t : ℕ) → free-slots-lts.Need-same-length (
-  slot-word-reads.Asked,
-  slot-word-reads.Learnt,
-  free-slot-below t,
-  free-slot.Post,
-) (free-slots-at t) free-slots.Post free-slots-Inv-loop free-slots-μ-loop
-free-slots-same-length t c = omega arith
-
-free-slots-same-length-2 : (t : ℕ) → free-slots-lts.Need-same-length-2 (
-  slot-word-reads.Asked,
-  slot-word-reads.Learnt,
-  free-slot-below t,
-  free-slot.Post,
-) (free-slots-at t) free-slots.Post free-slots-Inv-loop free-slots-μ-loop
-free-slots-same-length-2 t c = omega arith
-
-free-slots-returns : (t : ℕ) → free-slots-lts.Need-returns (
-  slot-word-reads.Asked,
-  slot-word-reads.Learnt,
-  free-slot-below t,
-  free-slot.Post,
-) (free-slots-at t) free-slots.Post free-slots-Inv-loop free-slots-μ-loop
-free-slots-returns t c = let e : c .before .loop .j ≡ c .before .before .before .before .args .c = omega arith in
-    (rw (← e) (c .before .loop .inv .3), c .before .loop .inv .4)
-
-free-tree-returns : (t : ℕ) → free-tree-lts.Need-returns (
-  free-slots-below t,
-  free-slots.Post,
-  release-reads.Asked,
-  release-reads.Learnt,
-) (free-tree-at t) free-tree.Post
-free-tree-returns t c = (none _ _ _ _ (c .if1 .taken), follows-same _ _)
-
-free-tree-sub-free-slots : (t : ℕ) → free-tree-lts.Need-sub-free-slots (
-  free-slots-below t,
-  free-slots.Post,
-  release-reads.Asked,
-  release-reads.Learnt,
-) (free-tree-at t) free-tree.Post
-free-tree-sub-free-slots t c = omega arith
-
-free-tree-free-slots-requires : (t : ℕ) → free-tree-lts.Need-free-slots-requires (
-  free-slots-below t,
-  free-slots.Post,
-  release-reads.Asked,
-  release-reads.Learnt,
-) (free-tree-at t) free-tree.Post
-free-tree-free-slots-requires t c κs = let z = c .before .before .before .before .before in
-    (omega arith, (omega arith, (z .pre .1 .1 .0, (omega arith, omega arith, omega arith))))
-
-free-tree-release-requires : (t : ℕ) → free-tree-lts.Need-release-requires (
-  free-slots-below t,
-  free-slots.Post,
-  release-reads.Asked,
-  release-reads.Learnt,
-) (free-tree-at t) free-tree.Post
-free-tree-release-requires t c κs = let s = c .before .before .before .before .before .before in
-    let z = s .before .before .before .before .before .before in
-    (omega arith, (follows-sound (s .free-slots .ensures .1) (z .pre .1 .1 .0), omega arith))
-
-free-tree-same-length : (t : ℕ) → free-tree-lts.Need-same-length (
-  free-slots-below t,
-  free-slots.Post,
-  release-reads.Asked,
-  release-reads.Learnt,
-) (free-tree-at t) free-tree.Post
-free-tree-same-length t c = omega arith
-
-free-tree-same-length-2 : (t : ℕ) → free-tree-lts.Need-same-length-2 (
-  free-slots-below t,
-  free-slots.Post,
-  release-reads.Asked,
-  release-reads.Learnt,
-) (free-tree-at t) free-tree.Post
-free-tree-same-length-2 t c = omega arith
-
-free-tree-returns-2 : (t : ℕ) → free-tree-lts.Need-returns-2 (
-  free-slots-below t,
-  free-slots.Post,
-  release-reads.Asked,
-  release-reads.Learnt,
-) (free-tree-at t) free-tree.Post
-free-tree-returns-2 t c = let r = c .before .before .before .before in let s = r .before .before .before .before .before .before .before in (
-  r .release .ensures .0 ∙ whole _ _ _ _ _ (omega arith) (s .free-slots .ensures .0),
-  follows-then (s .free-slots .ensures .1) (r .release .ensures .1),
-)
 
 pub +free-slot+free-slots+free-tree-spec : {M : Type 1} → statement M
 +free-slot+free-slots+free-tree-spec =
@@ -394,21 +116,28 @@ pub +free-slot+free-slots+free-tree-spec : {M : Type 1} → statement M
     )
     (free-slot-at t)
     free-slot.Post
-    (free-slot-read-slot-requires t)
-    (free-slot-enum-known-s t)
-    (free-slot-free-tree-requires t)
-    (free-slot-enum-told t)
-    (free-slot-enum-told-2 t)
-    (free-slot-enum-told-3 t)
-    (free-slot-enum-told-4 t)
-    (free-slot-same-length t)
-    (free-slot-same-length-2 t)
-    (free-slot-returns t)
-    (free-slot-returns-2 t)
-    (free-slot-returns-3 t)
-    (free-slot-returns-4 t)
-    (free-slot-returns-5 t)
-    (free-slot-returns-6 t))
+    (λ c κs. search needs)
+    (λ c. search needs)
+    (λ c κs. let z = c .before .before .before .before .before .before .before .before .before in
+    (omega arith, (omega arith, (z .pre .1 .1 .0, (omega arith, omega arith)))))
+    (λ c. search needs)
+    (λ c. search needs)
+    (λ c. search needs)
+    (λ c. search needs)
+    (λ c. omega arith)
+    (λ c. omega arith)
+    (λ c. let f = c .before .before .before .before in let i = f .before .before .before in let k = i .before .before in (
+      f .free-tree .ensures .0 ∙ on _ _ _ _ (k .before .before .read-slot .ensures) _ (k .s .given .1) (i .if1 .taken),
+      f .free-tree .ensures .1,
+    ))
+    (λ c. (
+      off _ _ _ _ (c .before .before .before .before .read-slot .ensures) _ (c .before .before .s .given .1) (c .if1 .left),
+      follows-same _ _,
+    ))
+    (λ c. (still _ _ _ _ (c .before .before .read-slot .ensures) (c .enum-told .given .1) refl, follows-same _ _))
+    (λ c. (still _ _ _ _ (c .before .before .read-slot .ensures) (c .enum-told2 .given .1) refl, follows-same _ _))
+    (λ c. (still _ _ _ _ (c .before .before .read-slot .ensures) (c .enum-told3 .given .1) refl, follows-same _ _))
+    (λ c. (still _ _ _ _ (c .before .before .read-slot .ensures) (c .enum-told4 .given .1) refl, follows-same _ _)))
     (λ t. free-slots-lts.spec (
       slot-word-reads.Asked,
       slot-word-reads.Learnt,
@@ -419,24 +148,39 @@ pub +free-slot+free-slots+free-tree-spec : {M : Type 1} → statement M
     free-slots.Post
     free-slots-Inv-loop
     free-slots-μ-loop
-    (free-slots-loop-holds t)
-    (free-slots-add-slot-word t)
-    (free-slots-slot-word-requires t)
-    (free-slots-free-slot-requires t)
-    (free-slots-add-j t)
-    (free-slots-loop-less t)
-    (free-slots-loop-again t)
-    (free-slots-same-length t)
-    (free-slots-same-length-2 t)
-    (free-slots-returns t))
+    (λ c. (omega arith, refl, refl, slots-start _ _ _ _ _, follows-same _ _))
+    (λ c. omega arith)
+    (λ c κs. omega arith)
+    (λ c κs. let l = c .before .before .before .before .before in
+    (omega arith, (omega arith, (follows-sound (l .loop .inv .4) (l .before .before .before .pre .1 .1 .0), omega arith))))
+    (λ c. omega arith)
+    (λ c. omega arith)
+    (λ c. let s = c .before .before .before .before in let w = s .before .before .before in
+    let k = w .before .before .before .loop .inv in (
+      omega arith,
+      s .free-slot .kept .0 ∙ k .1,
+      s .free-slot .kept .1 .0 ∙ k .2,
+      s .free-slot .ensures .0 ∙ rw (w .slot-word .ensures) (slots-step _ _ _ _ _ _ _ (k .3)),
+      follows-then (k .4) (s .free-slot .ensures .1),
+    ))
+    (λ c. omega arith)
+    (λ c. omega arith)
+    (λ c. let e : c .before .loop .j ≡ c .before .before .before .before .args .c = omega arith in
+    (rw (← e) (c .before .loop .inv .3), c .before .loop .inv .4)))
     λ t. free-tree-lts.spec
     (free-slots-below t, free-slots.Post, release-reads.Asked, release-reads.Learnt)
     (free-tree-at t)
     free-tree.Post
-    (free-tree-returns t)
-    (free-tree-sub-free-slots t)
-    (free-tree-free-slots-requires t)
-    (free-tree-release-requires t)
-    (free-tree-same-length t)
-    (free-tree-same-length-2 t)
-    (free-tree-returns-2 t)
+    (λ c. (none _ _ _ _ (c .if1 .taken), follows-same _ _))
+    (λ c. omega arith)
+    (λ c κs. let z = c .before .before .before .before .before in
+    (omega arith, (omega arith, (z .pre .1 .1 .0, (omega arith, omega arith, omega arith)))))
+    (λ c κs. let s = c .before .before .before .before .before .before in
+    let z = s .before .before .before .before .before .before in
+    (omega arith, (follows-sound (s .free-slots .ensures .1) (z .pre .1 .1 .0), omega arith)))
+    (λ c. omega arith)
+    (λ c. omega arith)
+    (λ c. let r = c .before .before .before .before in let s = r .before .before .before .before .before .before .before in (
+      r .release .ensures .0 ∙ whole _ _ _ _ _ (omega arith) (s .free-slots .ensures .0),
+      follows-then (s .free-slots .ensures .1) (r .release .ensures .1),
+    ))

@@ -27,23 +27,11 @@ start c = c .before .before .before .before .before .before .before
 abbrev counted : tie.After-join-all-arg → tie.After-count-path
 counted c = c .before .before .before
 
-abbrev joined : tie.After-enter-arg → tie.After-join-all
+abbrev joined : tie.After-put-entry-arg → tie.After-join-all
 joined c = c .before .before .before .before
 
-abbrev entered-at : tie.After-slice-known4 → tie.After-enter
+abbrev entered-at : tie.After-slice-known4 → tie.After-put-entry
 entered-at c = c .before .before
-
-add-first : tie.Need-add-first
-add-first c = search needs
-
-mul-first : tie.Need-mul-first
-mul-first c = search needs
-
-shared-slice-read-first : tie.Need-shared-slice-read-first
-shared-slice-read-first c = search needs
-
-add-count-path : tie.Need-add-count-path
-add-count-path c = search needs
 
 filled-of-requires : tie.Need-filled-of-requires
 filled-of-requires c κs = let z = c .before .before .before .before .before .before in omega (arith, z .pre .1 .0 (z .args .u + 1) (omega arith) (omega arith))
@@ -52,30 +40,15 @@ count-path-requires : tie.Need-count-path-requires
 count-path-requires c κs = let p = start c .pre in
     ((omega arith, omega arith, omega arith, omega (arith, c .filled-of .ensures, p .1 .1)), p .1 .0)
 
-add-join-all : tie.Need-add-join-all
-add-join-all c = search needs
-
-add-join-all-2 : tie.Need-add-join-all-2
-add-join-all-2 c = search needs
-
 join-all-requires : tie.Need-join-all-requires
 join-all-requires c κs = let n = counted c in let p = start (n .before) .pre in let k = n .count-path .kept .0 in
     (omega arith, (omega arith, (omega arith, λ t lo hi. omega (arith, k, p .1 .0 t (omega arith) hi))))
 
-add-a : tie.Need-add-a
-add-a c = search needs
-
-mul-a : tie.Need-mul-a
-mul-a c = search needs
-
-shared-slice-read-a : tie.Need-shared-slice-read-a
-shared-slice-read-a c = search needs
-
 seat-of-requires : tie.Need-seat-of-requires
 seat-of-requires c κs = start (counted (joined c .before) .before) .pre .0 .0
 
-enter-requires : tie.Need-enter-requires
-enter-requires c κs = let j = joined (c .before) in let n = counted (j .before) in let z = start (n .before) in
+put-entry-requires : tie.Need-put-entry-requires
+put-entry-requires c κs = let j = joined (c .before) in let n = counted (j .before) in let z = start (n .before) in
     let s = c .seat-of .ensures in (
       omega (
         arith,
@@ -87,32 +60,29 @@ enter-requires c κs = let j = joined (c .before) in let n = counted (j .before)
       (s .1 .0, s .1 .1),
     )
 
-same-length : tie.Need-same-length
-same-length c = search needs
-
 returns : tie.Need-returns
 returns c = let e = entered-at c in let s = e .before in let j = joined (s .before) in let n = counted (j .before) in
     let a = start (n .before) .args in
     built-is (a .pool .now) (a .path .now) (a .target .index) (a .target .order) (a .target .word) (a .u)
-    (n .before .filled-of .ensures) (n .count-path .ensures) (j .join-all .ensures) (s .seat-of .ensures .0) (e .enter .ensures)
+    (n .before .filled-of .ensures) (n .count-path .ensures) (j .join-all .ensures) (s .seat-of .ensures .0) (e .put-entry .ensures)
 
 pub build-spec : {M : Type 1} → statement M
 build-spec =
     tie.close
     (tie.spec
-    add-first
-    mul-first
-    shared-slice-read-first
-    add-count-path
+    (λ c. search needs)
+    (λ c. search needs)
+    (λ c. search needs)
+    (λ c. search needs)
     filled-of-requires
     count-path-requires
-    add-join-all
-    add-join-all-2
+    (λ c. search needs)
+    (λ c. search needs)
     join-all-requires
-    add-a
-    mul-a
-    shared-slice-read-a
+    (λ c. search needs)
+    (λ c. search needs)
+    (λ c. search needs)
     seat-of-requires
-    enter-requires
-    same-length
+    put-entry-requires
+    (λ c. search needs)
     returns)

@@ -2,7 +2,7 @@
 use native.Mathlib.Omega.{arith}
 use borrow.Author.Tests.{lt-ltb, le-ltb}
 use borrow.Author.Needs.{needs}
-use Rattle.freemap.proofs.FollowLaws.{follows-then, follows-sound}
+use Rattle.freenodes.proofs.FollowLaws.{follows-then, follows-sound}
 use Rattle.write.proofs.clear.Statement.{statement}
 use Rattle.write.proofs.clear.Tie as tie
 
@@ -22,30 +22,15 @@ below-only c = c .before .before .before .before .before .before
 abbrev start : tie.After-free-slots → tie.Start
 start c = c .before .before .before .before .before
 
-free-slots-requires : tie.Need-free-slots-requires
-free-slots-requires c κs = search needs
-
 free-slot-requires : tie.Need-free-slot-requires
 free-slot-requires c κs = let b = below (c .before .before) in let p = start b .pre in
     (omega (arith, p .0, b .free-slots .kept .0), (follows-sound (b .free-slots .ensures .1) (p .1 .0), p .1 .1 .0))
-
-same-length : tie.Need-same-length
-same-length c = search needs
-
-same-length-2 : tie.Need-same-length-2
-same-length-2 c = search needs
 
 returns : tie.Need-returns
 returns c = let o = old c in let g = grows o in let b = below g in (
   rw (lt-ltb _ _ (g .if1 .taken), ← b .free-slots .ensures .0) (o .free-slot .ensures .0),
   follows-then (b .free-slots .ensures .1) (o .free-slot .ensures .1),
 )
-
-same-length-3 : tie.Need-same-length-3
-same-length-3 c = search needs
-
-same-length-4 : tie.Need-same-length-4
-same-length-4 c = search needs
 
 returns-2 : tie.Need-returns-2
 returns-2 c = (
@@ -57,11 +42,11 @@ pub clear-spec : {M : Type 1} → statement M
 clear-spec =
     tie.close
     (tie.spec
-    free-slots-requires
+    (λ c κs. search needs)
     free-slot-requires
-    same-length
-    same-length-2
+    (λ c. search needs)
+    (λ c. search needs)
     returns
-    same-length-3
-    same-length-4
+    (λ c. search needs)
+    (λ c. search needs)
     returns-2)

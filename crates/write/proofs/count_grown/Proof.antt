@@ -45,9 +45,6 @@ start-2 c = c .before .before .before .before .before
 count-path-requires : tie.Need-count-path-requires
 count-path-requires c κs = let p = start (bare c) .pre in ((p .0 .0, p .0 .1, p .1 .0 .0, omega arith), p .1 .1 .0)
 
-same-length : tie.Need-same-length
-same-length c = search needs
-
 returns : tie.Need-returns
 returns c = let y = pathed c in let t = bare (y .before) in let a = start t .args in
     no-chain (a .pool .now) (a .path .now) (a .chain .now) (a .order) (a .heads .old) (a .heads .new) (a .heads .word)
@@ -55,9 +52,6 @@ returns c = let y = pathed c in let t = bare (y .before) in let a = start t .arg
 
 count-path-requires-2 : tie.Need-count-path-requires-2
 count-path-requires-2 c κs = let p = start-2 (headed c) .pre in ((p .0 .0, p .0 .1, p .1 .0 .0, omega arith), p .1 .1 .0)
-
-add-count-ones : tie.Need-add-count-ones
-add-count-ones c = search needs
 
 count-ones-requires : tie.Need-count-ones-requires
 count-ones-requires c κs = let y = pathed-2 c in let t = headed (y .before) in let z = start-2 t in
@@ -73,9 +67,6 @@ count-ones-requires c κs = let y = pathed-2 c in let t = headed (y .before) in 
       ),
     )
 
-same-length-2 : tie.Need-same-length-2
-same-length-2 c = search needs
-
 returns-2 : tie.Need-returns-2
 returns-2 c = let n = chained c in let y = pathed-2 (n .before) in let t = headed (y .before) in
     let a = start-2 t .args in
@@ -87,10 +78,10 @@ count-grown-spec =
     tie.close
     (tie.spec
     count-path-requires
-    same-length
+    (λ c. search needs)
     returns
     count-path-requires-2
-    add-count-ones
+    (λ c. search needs)
     count-ones-requires
-    same-length-2
+    (λ c. search needs)
     returns-2)

@@ -28,23 +28,11 @@ abbrev μ-loop : tie.MeasureT-loop
 loop-holds : tie.Need-loop-holds Inv-loop μ-loop
 loop-holds c = (omega arith, refl, refl)
 
-mul-n : tie.Need-mul-n Inv-loop μ-loop
-mul-n c = omega arith
-
-shared-slice-read-n : tie.Need-shared-slice-read-n Inv-loop μ-loop
-shared-slice-read-n c = omega arith
-
 put-filled-requires : tie.Need-put-filled-requires Inv-loop μ-loop
 put-filled-requires c κs = let z = c .before .before .before .before .before .before in
     let u = c .before .before .before .loop .u in
     let b : lastPlace (getD (z .args .nums .now) u 0) < length (z .args .pool .now) = z .pre .1 .1 u (omega arith) (omega arith) in
     omega arith
-
-add-u : tie.Need-add-u Inv-loop μ-loop
-add-u c = omega arith
-
-loop-less : tie.Need-loop-less Inv-loop μ-loop
-loop-less c = omega arith
 
 loop-again : tie.Need-loop-again Inv-loop μ-loop
 loop-again c = let v = c .before .before .before .before .before .before .loop .inv in (
@@ -52,9 +40,6 @@ loop-again c = let v = c .before .before .before .before .before .before .loop .
   c .before .before .put-filled .kept .0 ∙ v .1,
   v .2 ∙ (step _ _ _ _ (omega arith) ∙ rw (c .before .before .put-filled .ensures)),
 )
-
-same-length : tie.Need-same-length Inv-loop μ-loop
-same-length c = omega arith
 
 returns : tie.Need-returns Inv-loop μ-loop
 returns c = sym (c .before .loop .inv .2 ∙ stop _ _ _ _ (omega arith))
@@ -66,11 +51,11 @@ count-ones-spec =
     Inv-loop
     μ-loop
     loop-holds
-    mul-n
-    shared-slice-read-n
+    (λ c. omega arith)
+    (λ c. omega arith)
     put-filled-requires
-    add-u
-    loop-less
+    (λ c. omega arith)
+    (λ c. omega arith)
     loop-again
-    same-length
+    (λ c. omega arith)
     returns)

@@ -8,12 +8,12 @@ use borrow.Author.Tests.{eq-eqb, ne-eqb}
 use borrow.Author.Needs.{needs}
 use Rattle.tree.specs.Tree.{slotBits}
 use Rattle.layout.specs.Words.{filledPlace, lastPlace}
-use Rattle.write.specs.Writes.{span, ones, pathCounts}
+use Rattle.write.specs.Writes.{width, ones, pathCounts}
 use Rattle.write.proofs.count_path.Statement.{statement}
 use Rattle.write.proofs.count_path.Tie as tie
 
 -- in the code's terms
-module _ (ws ps : List ℕ) (k top f : ℕ) {c : ℕ} (c-is : c ≡ span k) where
+module _ (ws ps : List ℕ) (k top f : ℕ) {c : ℕ} (c-is : c ≡ width k) where
   one-node : {ws₁ : List ℕ} → k / slotBits + 1 ≡ top → ws₁ ≡ set ws (filledPlace (getD ps top 0)) (f + c) →
       ws₁ ≡ pathCounts ws ps k top f
   unfolding pathCounts
@@ -28,7 +28,7 @@ module _ (ws ps : List ℕ) (k top f : ℕ) {c : ℕ} (c-is : c ≡ span k) wher
       e₃ ∙ rw (ne-eqb _ _ t, two, e₂, e₁, c-is)
 
 -- THE PLACES IN THE CODE, each from one after it
-abbrev start : tie.After-span-of → tie.Start
+abbrev start : tie.After-width-of → tie.Start
 start c = c .before .before .before
 
 abbrev put-one : tie.After-slice-known2 → tie.After-put-filled
@@ -37,7 +37,7 @@ put-one c = c .before .before
 abbrev alone : tie.After-put-filled-arg → tie.Then1
 alone c = c .before
 
-abbrev spanned : tie.Then1 → tie.After-span-of
+abbrev spanned : tie.Then1 → tie.After-width-of
 spanned c = c .before .before
 
 abbrev counted : tie.After-slice-known5 → tie.After-count-ones
@@ -52,7 +52,7 @@ put-top c = c .before .before .before .before
 abbrev further : tie.After-put-filled-arg2 → tie.Else1
 further c = c .before
 
-abbrev spanned-2 : tie.Else1 → tie.After-span-of
+abbrev spanned-2 : tie.Else1 → tie.After-width-of
 spanned-2 c = c .before .before
 
 -- the node of a tier of the path is one of the pool's
@@ -60,84 +60,51 @@ node-fits : (z : tie.Start) (u : ℕ) → z .args .order / slotBits + 1 ≤ u �
     lastPlace (getD (z .args .path .now) u 0) < length (z .args .pool .now)
 node-fits z u a b = z .pre .1 u a b
 
-add-t : tie.Need-add-t
-add-t c = search needs
-
-span-of-requires : tie.Need-span-of-requires
-span-of-requires c κs = search needs
-
-mul-a : tie.Need-mul-a
-mul-a c = search needs
-
-shared-slice-read-a : tie.Need-shared-slice-read-a
-shared-slice-read-a c = search needs
-
-add-put-filled : tie.Need-add-put-filled
-add-put-filled c = search needs
-
 put-filled-requires : tie.Need-put-filled-requires
 put-filled-requires c κs = let z = start (spanned (alone c)) in omega (arith, node-fits z (z .args .top) (omega arith) (omega arith))
 
-same-length : tie.Need-same-length
-same-length c = search needs
-
 returns : tie.Need-returns
 returns c = let y = put-one c in let t = alone (y .before) in let x = spanned t in let a = start x .args in
-    one-node (a .pool .now) (a .path .now) (a .order) (a .top) (a .f) (x .span-of .ensures .0) (t .if1 .taken)
+    one-node (a .pool .now) (a .path .now) (a .order) (a .top) (a .f) (x .width-of .ensures .0) (t .if1 .taken)
     (y .put-filled .ensures)
-
-add-put-filled-2 : tie.Need-add-put-filled-2
-add-put-filled-2 c = search needs
 
 put-filled-requires-2 : tie.Need-put-filled-requires-2
 put-filled-requires-2 c κs = let z = start (spanned-2 (further c)) in
     omega (arith, node-fits z (z .args .top) (omega arith) (omega arith))
 
-mul-b : tie.Need-mul-b
-mul-b c = search needs
-
-shared-slice-read-b : tie.Need-shared-slice-read-b
-shared-slice-read-b c = search needs
-
 put-filled-requires-3 : tie.Need-put-filled-requires-3
 put-filled-requires-3 c κs = let p = put-top c in let z = start (spanned-2 (further (p .before))) in
     omega (arith, p .put-filled2 .kept .0, node-fits z (z .args .order / slotBits + 1) (omega arith) (omega arith))
-
-add-count-ones : tie.Need-add-count-ones
-add-count-ones c = search needs
 
 count-ones-requires : tie.Need-count-ones-requires
 count-ones-requires c κs = let q = put-low c in let p = put-top (q .before) in
     let z = start (spanned-2 (further (p .before))) in let e = p .put-filled2 .kept .0 in let d = q .put-filled3 .kept .0 in
     (omega arith, (omega arith, λ u a b. omega (arith, e, d, node-fits z u (omega arith) (omega arith))))
 
-same-length-2 : tie.Need-same-length-2
-same-length-2 c = search needs
-
 returns-2 : tie.Need-returns-2
 returns-2 c = let n = counted c in let q = put-low (n .before) in let p = put-top (q .before) in
     let t = further (p .before) in let x = spanned-2 t in let a = start x .args in
-    more-nodes (a .pool .now) (a .path .now) (a .order) (a .top) (a .f) (x .span-of .ensures .0) (t .if1 .left)
+    more-nodes (a .pool .now) (a .path .now) (a .order) (a .top) (a .f) (x .width-of .ensures .0) (t .if1 .left)
     (p .put-filled2 .ensures) (q .put-filled3 .ensures) (n .count-ones .ensures)
 
 pub count-path-spec : {M : Type 1} → statement M
 count-path-spec =
     tie.close
     (tie.spec
-    add-t
-    span-of-requires
-    mul-a
-    shared-slice-read-a
-    add-put-filled
+    (λ c. search needs)
+    (λ c κs. search needs)
+    (λ c. search needs)
+    (λ c. search needs)
+    (λ c. search needs)
     put-filled-requires
-    same-length
+    (λ c. search needs)
     returns
-    add-put-filled-2
+    (λ c. search needs)
     put-filled-requires-2
-    mul-b
-    shared-slice-read-b
+    (λ c. search needs)
+    (λ c. search needs)
     put-filled-requires-3
-    add-count-ones
+    (λ c. search needs)
     count-ones-requires
-    same-length-2
+    (λ c. search needs)
     returns-2)

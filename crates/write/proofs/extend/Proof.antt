@@ -29,10 +29,10 @@ counted c = c .before .before .before
 abbrev linked-at : tie.After-grow-arg → tie.After-link
 linked-at c = c .before .before .before
 
-abbrev grown-at : tie.After-enter-arg → tie.After-grow
+abbrev grown-at : tie.After-put-entry-arg → tie.After-grow
 grown-at c = c .before .before .before .before
 
-abbrev entered-at : tie.After-slice-known5 → tie.After-enter
+abbrev entered-at : tie.After-slice-known5 → tie.After-put-entry
 entered-at c = c .before .before
 
 count-grown-requires : tie.Need-count-grown-requires
@@ -56,20 +56,11 @@ grow-requires c κs = let l = linked-at c in let n = counted (l .before) in let 
       ),
     )
 
-add-a : tie.Need-add-a
-add-a c = search needs
-
-mul-a : tie.Need-mul-a
-mul-a c = search needs
-
-shared-slice-read-a : tie.Need-shared-slice-read-a
-shared-slice-read-a c = search needs
-
 seat-of-requires : tie.Need-seat-of-requires
 seat-of-requires c κs = start (counted (linked-at (grown-at c .before) .before) .before) .pre .0 .0
 
-enter-requires : tie.Need-enter-requires
-enter-requires c κs = let g = grown-at (c .before) in let l = linked-at (g .before) in let n = counted (l .before) in
+put-entry-requires : tie.Need-put-entry-requires
+put-entry-requires c κs = let g = grown-at (c .before) in let l = linked-at (g .before) in let n = counted (l .before) in
     let z = start (n .before) in let s = c .seat-of .ensures in (
       omega (
         arith,
@@ -82,15 +73,12 @@ enter-requires c κs = let g = grown-at (c .before) in let l = linked-at (g .bef
       (s .1 .0, s .1 .1),
     )
 
-same-length : tie.Need-same-length
-same-length c = search needs
-
 returns : tie.Need-returns
 returns c = let e = entered-at c in let s = e .before in let g = grown-at (s .before) in
     let l = linked-at (g .before) in let n = counted (l .before) in let a = start (n .before) .args in
     extended-is (a .pool .now) (a .path .now) (a .chain .now) (a .target .index) (a .target .order) (a .target .word)
     (a .heads .old) (a .heads .new) (a .heads .word) (a .heads .marks) (n .count-grown .ensures) (l .link .ensures)
-    (g .grow .ensures) (s .seat-of .ensures .0) (e .enter .ensures)
+    (g .grow .ensures) (s .seat-of .ensures .0) (e .put-entry .ensures)
 
 pub extend-spec : {M : Type 1} → statement M
 extend-spec =
@@ -99,10 +87,10 @@ extend-spec =
     count-grown-requires
     link-requires
     grow-requires
-    add-a
-    mul-a
-    shared-slice-read-a
+    (λ c. search needs)
+    (λ c. search needs)
+    (λ c. search needs)
     seat-of-requires
-    enter-requires
-    same-length
+    put-entry-requires
+    (λ c. search needs)
     returns)

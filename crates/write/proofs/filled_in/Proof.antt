@@ -35,23 +35,11 @@ abbrev μ-loop : tie.MeasureT-loop
 loop-holds : tie.Need-loop-holds Inv-loop μ-loop
 loop-holds c = (omega arith, omega arith, refl)
 
-add-slot-word : tie.Need-add-slot-word Inv-loop μ-loop
-add-slot-word c = omega arith
-
-slot-word-requires : tie.Need-slot-word-requires Inv-loop μ-loop
-slot-word-requires c κs = omega arith
-
 cast-r : tie.Need-cast-r Inv-loop μ-loop
 cast-r c = tt
 
 add-r : tie.Need-add-r Inv-loop μ-loop
 add-r c = omega (arith, byte-le (not (eqb (c .slot-word .result) 0)))
-
-add-j : tie.Need-add-j Inv-loop μ-loop
-add-j c = omega arith
-
-loop-less : tie.Need-loop-less Inv-loop μ-loop
-loop-less c = omega arith
 
 loop-again : tie.Need-loop-again Inv-loop μ-loop
 loop-again c = let z = c .before .before in let a = z .before .before .args in (
@@ -72,11 +60,11 @@ filled-in-spec =
     Inv-loop
     μ-loop
     loop-holds
-    add-slot-word
-    slot-word-requires
+    (λ c. omega arith)
+    (λ c κs. omega arith)
     cast-r
     add-r
-    add-j
-    loop-less
+    (λ c. omega arith)
+    (λ c. omega arith)
     loop-again
     returns)

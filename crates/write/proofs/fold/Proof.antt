@@ -13,24 +13,12 @@ small : (w o c : ℕ) → (w / 2 ^ o % 2 ^ c - 1) * 2 ^ o ≤ w
 small w o c = le-trans (mul-le-mul-right (2 ^ o) (let h : w / 2 ^ o % 2 ^ c ≤ w / 2 ^ o = mod-le (w / 2 ^ o) (2 ^ c)
     in omega arith)) (div-mul-le-self w (2 ^ o))
 
-shr-x : tie.Need-shr-x
-shr-x c = search needs
-
-pow2-requires : tie.Need-pow2-requires
-pow2-requires c κs = search needs
-
 rem-x : tie.Need-rem-x
 rem-x c = rw (c .pow2 .ensures) (pow-pos (c .before .args .c))
 
 returns : tie.Need-returns
 returns c = let q : c .before .before .args .w / 2 ^ c .before .before .args .o % 2 ^ c .before .before .args .c ≡ 0 =
     rw (c .before .pow2 .ensures) at (c .if1 .taken) in rw (eq-eqb _ _ q)
-
-sub-result : tie.Need-sub-result
-sub-result c = search needs
-
-pow2-requires-2 : tie.Need-pow2-requires-2
-pow2-requires-2 c κs = search needs
 
 mul-result : tie.Need-mul-result
 mul-result c = rw (c .before .before .pow2 .ensures, c .pow22 .ensures)
@@ -51,12 +39,12 @@ pub fold-spec : {M : Type 1} → statement M
 fold-spec =
     tie.close
     (tie.spec
-    shr-x
-    pow2-requires
+    (λ c. search needs)
+    (λ c κs. search needs)
     rem-x
     returns
-    sub-result
-    pow2-requires-2
+    (λ c. search needs)
+    (λ c κs. search needs)
     mul-result
     sub-result-2
     returns-2)

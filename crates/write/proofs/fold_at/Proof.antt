@@ -3,18 +3,6 @@ use borrow.Author.Needs.{needs}
 use Rattle.write.proofs.fold_at.Statement.{statement}
 use Rattle.write.proofs.fold_at.Tie as tie
 
-mark-word-requires : tie.Need-mark-word-requires
-mark-word-requires c κs = search needs
-
-fold-requires : tie.Need-fold-requires
-fold-requires c κs = search needs
-
-put-mark-word-requires : tie.Need-put-mark-word-requires
-put-mark-word-requires c κs = search needs
-
-same-length : tie.Need-same-length
-same-length c = search needs
-
 returns : tie.Need-returns
 returns c = cc
 
@@ -22,8 +10,8 @@ pub fold-at-spec : {M : Type 1} → statement M
 fold-at-spec =
     tie.close
     (tie.spec
-    mark-word-requires
-    fold-requires
-    put-mark-word-requires
-    same-length
+    (λ c κs. search needs)
+    (λ c κs. search needs)
+    (λ c κs. search needs)
+    (λ c. search needs)
     returns)

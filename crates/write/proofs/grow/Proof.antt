@@ -42,9 +42,6 @@ mark-all-requires c κs = let z = start-marks c in (
   ),
 )
 
-same-length : tie.Need-same-length
-same-length c = search needs
-
 returns : tie.Need-returns
 returns c = rw (eq-eqb _ 0 (empty c .if1 .taken)) (marked c .mark-all .ensures)
 
@@ -52,13 +49,10 @@ put-chain-requires : tie.Need-put-chain-requires
 put-chain-requires c κs = let p = start-chain c .pre in
     ((p .0 .0, p .0 .1, p .1 .0 .1), p .1 .1 .1 (stays-chain c .if1 .left))
 
-same-length-2 : tie.Need-same-length-2
-same-length-2 c = search needs
-
 returns-2 : tie.Need-returns-2
 returns-2 c = rw (ne-eqb _ 0 (stays c .if1 .left)) (chained c .put-chain .ensures)
 
 pub grow-spec : {M : Type 1} → statement M
 grow-spec =
     tie.close
-    (tie.spec mark-all-requires same-length returns put-chain-requires same-length-2 returns-2)
+    (tie.spec mark-all-requires (λ c. search needs) returns put-chain-requires (λ c. search needs) returns-2)

@@ -30,24 +30,6 @@ abbrev μ-loop : tie.MeasureT-loop
 loop-holds : tie.Need-loop-holds Inv-loop μ-loop
 loop-holds c = (omega arith, refl, refl)
 
-add-p : tie.Need-add-p Inv-loop μ-loop
-add-p c = omega arith
-
-mul-p : tie.Need-mul-p Inv-loop μ-loop
-mul-p c = omega arith
-
-shared-slice-read-p : tie.Need-shared-slice-read-p Inv-loop μ-loop
-shared-slice-read-p c = omega arith
-
-mul-c : tie.Need-mul-c Inv-loop μ-loop
-mul-c c = omega arith
-
-shared-slice-read-c : tie.Need-shared-slice-read-c Inv-loop μ-loop
-shared-slice-read-c c = omega arith
-
-block-of-requires : tie.Need-block-of-requires Inv-loop μ-loop
-block-of-requires c κs = omega arith
-
 join-requires : tie.Need-join-requires Inv-loop μ-loop
 join-requires c κs = let f = c .before .before .before .before .before .before .before .before .pre .1 .1 .1 in
     let a : lastPlace (getD (c .before .before .before .before .before .before .before .before .args .nums .now)
@@ -59,12 +41,6 @@ join-requires c κs = let f = c .before .before .before .before .before .before 
     (c .before .before .before .before .before .before .before .before .args .pool .now) = f
     (c .before .before .before .before .before .loop .u) (omega arith) (omega arith) in
     (omega arith, (omega arith, (omega arith, (omega arith, omega arith))))
-
-add-u : tie.Need-add-u Inv-loop μ-loop
-add-u c = omega arith
-
-loop-less : tie.Need-loop-less Inv-loop μ-loop
-loop-less c = omega arith
 
 loop-again : tie.Need-loop-again Inv-loop μ-loop
 loop-again c = (
@@ -78,9 +54,6 @@ loop-again c = (
       ),
 )
 
-same-length : tie.Need-same-length Inv-loop μ-loop
-same-length c = omega arith
-
 returns : tie.Need-returns Inv-loop μ-loop
 returns c = sym (c .before .loop .inv .2 ∙ stop _ _ _ _ _ (omega arith))
 
@@ -91,15 +64,15 @@ join-all-spec =
     Inv-loop
     μ-loop
     loop-holds
-    add-p
-    mul-p
-    shared-slice-read-p
-    mul-c
-    shared-slice-read-c
-    block-of-requires
+    (λ c. omega arith)
+    (λ c. omega arith)
+    (λ c. omega arith)
+    (λ c. omega arith)
+    (λ c. omega arith)
+    (λ c κs. omega arith)
     join-requires
-    add-u
-    loop-less
+    (λ c. omega arith)
+    (λ c. omega arith)
     loop-again
-    same-length
+    (λ c. omega arith)
     returns)

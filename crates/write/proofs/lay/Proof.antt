@@ -21,27 +21,6 @@ abbrev μ-loop : tie.MeasureT-loop
 loop-holds : tie.Need-loop-holds Inv-loop μ-loop
 loop-holds c = (omega arith, omega arith, refl, λ x a b. absurd (omega arith))
 
-sub-path : tie.Need-sub-path Inv-loop μ-loop
-sub-path c = omega arith
-
-mul-path : tie.Need-mul-path Inv-loop μ-loop
-mul-path c = omega arith
-
-shared-slice-read-path : tie.Need-shared-slice-read-path Inv-loop μ-loop
-shared-slice-read-path c = omega arith
-
-mul-path-2 : tie.Need-mul-path-2 Inv-loop μ-loop
-mul-path-2 c = omega arith
-
-slice-write-path : tie.Need-slice-write-path Inv-loop μ-loop
-slice-write-path c = omega arith
-
-sub-t : tie.Need-sub-t Inv-loop μ-loop
-sub-t c = omega arith
-
-loop-less : tie.Need-loop-less Inv-loop μ-loop
-loop-less c = omega arith
-
 loop-again : tie.Need-loop-again Inv-loop μ-loop
 loop-again c = let v = c .before .before .loop .inv in (
   omega (arith, c .before .loop-test .taken),
@@ -53,15 +32,6 @@ loop-again c = let v = c .before .before .loop .inv in (
       (λ e. let d : x ≡ c .before .before .loop .t → ⊥ = eqb-false _ _ e in
       getD-set-other (c .before .before .loop .path) (c .before .before .loop .t) x _ 0 d ∙ v .3 x (omega arith) b),
 )
-
-add-path : tie.Need-add-path Inv-loop μ-loop
-add-path c = omega arith
-
-mul-path-3 : tie.Need-mul-path-3 Inv-loop μ-loop
-mul-path-3 c = omega arith
-
-slice-write-path-2 : tie.Need-slice-write-path-2 Inv-loop μ-loop
-slice-write-path-2 c = omega arith
 
 same-length : tie.Need-same-length Inv-loop μ-loop
 same-length c = length-set (c .before .loop .path) _ _ ∙ c .before .loop .inv .2
@@ -80,16 +50,16 @@ lay-spec =
     Inv-loop
     μ-loop
     loop-holds
-    sub-path
-    mul-path
-    shared-slice-read-path
-    mul-path-2
-    slice-write-path
-    sub-t
-    loop-less
+    (λ c. omega arith)
+    (λ c. omega arith)
+    (λ c. omega arith)
+    (λ c. omega arith)
+    (λ c. omega arith)
+    (λ c. omega arith)
+    (λ c. omega arith)
     loop-again
-    add-path
-    mul-path-3
-    slice-write-path-2
+    (λ c. omega arith)
+    (λ c. omega arith)
+    (λ c. omega arith)
     same-length
     returns)

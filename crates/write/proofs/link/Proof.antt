@@ -8,17 +8,8 @@ use Rattle.layout.specs.Words.{lastPlace}
 use Rattle.write.proofs.link.Statement.{statement}
 use Rattle.write.proofs.link.Tie as tie
 
-add-join-all : tie.Need-add-join-all
-add-join-all c = search needs
-
 join-all-requires : tie.Need-join-all-requires
 join-all-requires c κs = (omega arith, (omega arith, (omega arith, c .before .before .before .pre .1 .1 .1)))
-
-mul-a : tie.Need-mul-a
-mul-a c = search needs
-
-shared-slice-read-a : tie.Need-shared-slice-read-a
-shared-slice-read-a c = search needs
 
 put-head-requires : tie.Need-put-head-requires
 put-head-requires c κs = let h : lastPlace (getD (c .before .before .before .before .before .before .before .before .args
@@ -40,10 +31,10 @@ pub link-spec : {M : Type 1} → statement M
 link-spec =
     tie.close
     (tie.spec
-    add-join-all
+    (λ c. search needs)
     join-all-requires
-    mul-a
-    shared-slice-read-a
+    (λ c. search needs)
+    (λ c. search needs)
     put-head-requires
     same-length
     returns)

@@ -29,12 +29,6 @@ abbrev μ-loop : tie.MeasureT-loop
 loop-holds : tie.Need-loop-holds Inv-loop μ-loop
 loop-holds c = (omega arith, refl, refl)
 
-mul-n : tie.Need-mul-n Inv-loop μ-loop
-mul-n c = omega arith
-
-shared-slice-read-n : tie.Need-shared-slice-read-n Inv-loop μ-loop
-shared-slice-read-n c = omega arith
-
 put-marks-requires : tie.Need-put-marks-requires Inv-loop μ-loop
 put-marks-requires c κs = let f = c .before .before .before .before .before .before .pre .1 .1 in
     let b : lastPlace (getD (c .before .before .before .before .before .before .args .nums .now)
@@ -42,12 +36,6 @@ put-marks-requires c κs = let f = c .before .before .before .before .before .be
     (c .before .before .before .before .before .before .args .pool .now) = f (c .before .before .before .loop .u)
     (omega arith) (omega arith) in
     omega arith
-
-add-u : tie.Need-add-u Inv-loop μ-loop
-add-u c = omega arith
-
-loop-less : tie.Need-loop-less Inv-loop μ-loop
-loop-less c = omega arith
 
 loop-again : tie.Need-loop-again Inv-loop μ-loop
 loop-again c = (
@@ -57,9 +45,6 @@ loop-again c = (
   c .before .before .before .before .before .before .loop .inv .2 ∙ step _ _ _ _ _ (omega arith) ∙ rw
       (c .before .before .put-marks .ensures),
 )
-
-same-length : tie.Need-same-length Inv-loop μ-loop
-same-length c = omega arith
 
 returns : tie.Need-returns Inv-loop μ-loop
 returns c = sym (c .before .loop .inv .2 ∙ stop _ _ _ _ _ (omega arith))
@@ -71,11 +56,11 @@ mark-all-spec =
     Inv-loop
     μ-loop
     loop-holds
-    mul-n
-    shared-slice-read-n
+    (λ c. omega arith)
+    (λ c. omega arith)
     put-marks-requires
-    add-u
-    loop-less
+    (λ c. omega arith)
+    (λ c. omega arith)
     loop-again
-    same-length
+    (λ c. omega arith)
     returns)

@@ -33,11 +33,8 @@ mark-all-requires c κs = let z = start c in (
   ),
 )
 
-same-length : tie.Need-same-length
-same-length c = search needs
-
 returns-2 : tie.Need-returns-2
 returns-2 c = rw (lt-ltb _ _ (higher c .if1 .left)) (marked c .mark-all .ensures)
 
 pub mark-top-spec : {M : Type 1} → statement M
-mark-top-spec = tie.close (tie.spec returns mark-all-requires same-length returns-2)
+mark-top-spec = tie.close (tie.spec returns mark-all-requires (λ c. search needs) returns-2)

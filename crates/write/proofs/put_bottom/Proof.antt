@@ -9,16 +9,10 @@ use Rattle.layout.specs.Words.{lastPlace}
 use Rattle.write.proofs.put_bottom.Statement.{statement}
 use Rattle.write.proofs.put_bottom.Tie as tie
 
-shared-slice-read-a : tie.Need-shared-slice-read-a
-shared-slice-read-a c = search needs
-
 put-slot-requires : tie.Need-put-slot-requires
 put-slot-requires c κs = let h : lastPlace (getD (c .before .before .before .before .before .args .chain .now) 1 0) <
     length (c .before .before .before .before .before .args .pool .now) = c .before .before .before .before .before
     .pre .1 (c .before .before .if1 .taken) in omega arith
-
-same-length : tie.Need-same-length
-same-length c = search needs
 
 returns : tie.Need-returns
 returns c = rw (eq-eqb (c .before .before .before .before .before .before .before .before .args .h) 0
@@ -29,4 +23,4 @@ returns-2 c = rw (ne-eqb (c .before .before .before .args .h) 0 (c .if1 .left)) 
 
 pub put-bottom-spec : {M : Type 1} → statement M
 put-bottom-spec =
-    tie.close (tie.spec shared-slice-read-a put-slot-requires same-length returns returns-2)
+    tie.close (tie.spec (λ c. search needs) put-slot-requires (λ c. search needs) returns returns-2)

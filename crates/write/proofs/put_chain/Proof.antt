@@ -30,9 +30,6 @@ marked-at c = c .before .before
 put-bottom-requires : tie.Need-put-bottom-requires
 put-bottom-requires c κs = (omega arith, λ e. start c .pre .1 1 (omega arith) (omega arith) (omega arith))
 
-at-least-1-requires : tie.Need-at-least-1-requires
-at-least-1-requires c κs = search needs
-
 join-all-requires : tie.Need-join-all-requires
 join-all-requires c κs = let m = c .at-least-1 .ensures in let o = bottom (c .before) in (
   omega arith,
@@ -48,9 +45,6 @@ join-all-requires c κs = let m = c .at-least-1 .ensures in let o = bottom (c .b
     ),
   ),
 )
-
-add-mark-all : tie.Need-add-mark-all
-add-mark-all c = search needs
 
 mark-all-requires : tie.Need-mark-all-requires
 mark-all-requires c κs = let j = joined c in let o = bottom (j .before .before) in (
@@ -81,9 +75,9 @@ put-chain-spec =
     tie.close
     (tie.spec
     put-bottom-requires
-    at-least-1-requires
+    (λ c κs. search needs)
     join-all-requires
-    add-mark-all
+    (λ c. search needs)
     mark-all-requires
     same-length
     returns)

@@ -12,21 +12,6 @@ shifted c = c .before .before .before .before .before .before .before
 abbrev owned : tie.After-node-word → tie.After-put-owner
 owned c = c .before .before .before
 
-shift-word-requires : tie.Need-shift-word-requires
-shift-word-requires c κs = search needs
-
-put-shift-requires : tie.Need-put-shift-requires
-put-shift-requires c κs = search needs
-
-put-owner-requires : tie.Need-put-owner-requires
-put-owner-requires c κs = search needs
-
-node-word-requires : tie.Need-node-word-requires
-node-word-requires c κs = search needs
-
-slice-write-pool : tie.Need-slice-write-pool
-slice-write-pool c = search needs
-
 same-length : tie.Need-same-length
 same-length c = length-set (owned c .put-owner .last .0) _ _ ∙ (owned c .put-owner .kept .0 ∙ shifted c .put-shift .kept .0)
 
@@ -37,10 +22,10 @@ pub put-head-spec : {M : Type 1} → statement M
 put-head-spec =
     tie.close
     (tie.spec
-    shift-word-requires
-    put-shift-requires
-    put-owner-requires
-    node-word-requires
-    slice-write-pool
+    (λ c κs. search needs)
+    (λ c κs. search needs)
+    (λ c κs. search needs)
+    (λ c κs. search needs)
+    (λ c. search needs)
     same-length
     returns)

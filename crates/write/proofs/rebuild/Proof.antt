@@ -10,7 +10,7 @@ use Rattle.tree.specs.Tree.{slotBits}
 use Rattle.layout.specs.Words.{filledPlace}
 use Rattle.write.specs.declared.Seat.{Seat}
 use Rattle.write.specs.Writes.{seatOf, filledThen, cleared, givenWay, linked, topMarked, entered, foldAll, rebuilt}
-use Rattle.freemap.specs.FreeMap.{Follows}
+use Rattle.freenodes.specs.FreeNodes.{Follows}
 use Rattle.write.proofs.rebuild.Statement.{statement}
 use Rattle.write.proofs.rebuild.Tie as tie
 
@@ -58,23 +58,14 @@ counted c = c .before .before .before
 abbrev linked-at : tie.After-mark-top-arg → tie.After-link
 linked-at c = c .before .before .before
 
-abbrev topped : tie.After-enter-arg → tie.After-mark-top
+abbrev topped : tie.After-put-entry-arg → tie.After-mark-top
 topped c = c .before .before .before
 
-abbrev entered-at : tie.After-fold-all-arg → tie.After-enter
+abbrev entered-at : tie.After-fold-all-arg → tie.After-put-entry
 entered-at c = c .before .before .before
 
 abbrev folded : tie.After-slice-known9 → tie.After-fold-all
 folded c = c .before .before
-
-add-a : tie.Need-add-a
-add-a c = search needs
-
-mul-a : tie.Need-mul-a
-mul-a c = search needs
-
-shared-slice-read-a : tie.Need-shared-slice-read-a
-shared-slice-read-a c = search needs
 
 seat-of-requires : tie.Need-seat-of-requires
 seat-of-requires c κs = start c .pre .1 .1 .1 .0 .0
@@ -126,8 +117,8 @@ mark-top-requires c κs = let l = linked-at c in let n = counted (l .before) in 
       ),
     )
 
-enter-requires : tie.Need-enter-requires
-enter-requires c κs = let t = topped c in let l = linked-at (t .before) in let n = counted (l .before) in
+put-entry-requires : tie.Need-put-entry-requires
+put-entry-requires c κs = let t = topped c in let l = linked-at (t .before) in let n = counted (l .before) in
     let k = cleared-at (n .before) in let s = seat-at k in (
       omega (
         arith,
@@ -151,7 +142,7 @@ fold-all-requires c κs = let e = entered-at c in let t = topped (e .before) in 
         n .put-filled .kept .0,
         l .link .kept .0,
         t .mark-top .kept .0,
-        e .enter .kept .0,
+        e .put-entry .kept .0,
         node-lt s,
       ),
       (omega (arith, q .0, q .1), q .2),
@@ -160,7 +151,7 @@ fold-all-requires c κs = let e = entered-at c in let t = topped (e .before) in 
 same-length : tie.Need-same-length
 same-length c = let f = folded c in let e = entered-at (f .before) in let t = topped (e .before) in
     let l = linked-at (t .before) in let n = counted (l .before) in let k = cleared-at (n .before) in f .fold-all .kept .0 ∙
-    (e .enter .kept .0 ∙ (t .mark-top .kept .0 ∙ (l .link .kept .0 ∙ (n .put-filled .kept .0 ∙ k .clear .kept .0))))
+    (e .put-entry .kept .0 ∙ (t .mark-top .kept .0 ∙ (l .link .kept .0 ∙ (n .put-filled .kept .0 ∙ k .clear .kept .0))))
 
 same-length-2 : tie.Need-same-length-2
 same-length-2 c = let f = folded c in let e = entered-at (f .before) in let t = topped (e .before) in
@@ -173,7 +164,7 @@ returns c = let f = folded c in let e = entered-at (f .before) in let t = topped
     let a = start (s .before) .args in let x = a .target in let h = a .heads in let q = s .seat-of .ensures .0 in (
       rebuilt-is (a .pool .now) (a .path .now) (x .index) (x .order) (x .word) (a .n) (h .old) (h .new) (h .word)
           (h .marks) q (d .filled-then .ensures) (k .clear .ensures .0) (n .put-filled .ensures) (l .link .ensures)
-          (t .mark-top .ensures) (e .enter .ensures) (f .fold-all .ensures),
+          (t .mark-top .ensures) (e .put-entry .ensures) (f .fold-all .ensures),
       follows-is (a .pool .now) (a .path .now) (x .index) (x .order) (x .word) (a .n) (h .old) (h .new) (h .word)
           (h .marks) q (k .clear .ensures .0) (k .clear .ensures .1),
     )
@@ -182,16 +173,16 @@ pub rebuild-spec : {M : Type 1} → statement M
 rebuild-spec =
     tie.close
     (tie.spec
-    add-a
-    mul-a
-    shared-slice-read-a
+    (λ c. search needs)
+    (λ c. search needs)
+    (λ c. search needs)
     seat-of-requires
     filled-then-requires
     clear-requires
     put-filled-requires
     link-requires
     mark-top-requires
-    enter-requires
+    put-entry-requires
     fold-all-requires
     same-length
     same-length-2

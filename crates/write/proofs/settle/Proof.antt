@@ -15,43 +15,28 @@ settled-is : (ws : List ℕ) (a o c w : ℕ) {ws₁ ws₂ : List ℕ} {f : ℕ} 
 settled-is ws a o c w f e₁ e₂ = e₂ ∙ rw (e₁, f)
 
 -- THE PLACES IN THE CODE, each from one after it
-abbrev entered-at : tie.After-slice-known3 → tie.After-enter
+abbrev entered-at : tie.After-slice-known3 → tie.After-put-entry
 entered-at c = c .before .before
 
-abbrev counted : tie.After-enter-arg → tie.After-put-filled
+abbrev counted : tie.After-put-entry-arg → tie.After-put-filled
 counted c = c .before .before .before
 
 abbrev read : tie.After-struct-known → tie.After-filled-of
 read c = c .before .before
 
-filled-of-requires : tie.Need-filled-of-requires
-filled-of-requires c κs = search needs
-
-add-put-filled : tie.Need-add-put-filled
-add-put-filled c = search needs
-
-put-filled-requires : tie.Need-put-filled-requires
-put-filled-requires c κs = search needs
-
-enter-requires : tie.Need-enter-requires
-enter-requires c κs = search needs
-
-same-length : tie.Need-same-length
-same-length c = search needs
-
 returns : tie.Need-returns
 returns c = let e = entered-at c in let n = counted (e .before) in let r = read (n .before) in
     let z = r .before .before .before in let s = z .args .seat in
     settled-is (z .args .pool .now) (s .node) (s .slot) (s .count) (z .args .word) (r .filled-of .ensures)
-    (n .put-filled .ensures) (e .enter .ensures)
+    (n .put-filled .ensures) (e .put-entry .ensures)
 
 pub settle-spec : {M : Type 1} → statement M
 settle-spec =
     tie.close
     (tie.spec
-    filled-of-requires
-    add-put-filled
-    put-filled-requires
-    enter-requires
-    same-length
+    (λ c κs. search needs)
+    (λ c. search needs)
+    (λ c κs. search needs)
+    (λ c κs. search needs)
+    (λ c. search needs)
     returns)

@@ -1,0 +1,5 @@
+pub mod Calls
+pub mod Refusal
+pub mod Demand
+pub mod Cases
+pub mod Running

@@ -1,0 +1,6 @@
+pub mod BelowLaws
+pub mod StandingLaws
+pub mod HeightLaws
+pub mod DecodedLaws
+pub mod SoundLaws
+pub mod ExactLaws

@@ -1,0 +1,4 @@
+pub mod LeadLaws
+pub mod ByteLaws
+pub mod SeenLaws
+pub mod LeafLaws

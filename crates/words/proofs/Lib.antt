@@ -1,0 +1,4 @@
+pub mod FillLaws
+pub mod NumberLaws
+pub mod OrLaws
+pub mod WriteLaws

@@ -1,0 +1,19 @@
+-- `put_entry`: an entry in its slots.
+use borrow.Author.Needs.{needs}
+use Rattle.write.proofs.put_entry.Statement.{statement}
+use Rattle.write.proofs.put_entry.Tie as tie
+
+returns : tie.Need-returns
+returns c = cc
+
+pub put-entry-spec : {M : Type 1} → statement M
+put-entry-spec =
+    tie.close
+    (tie.spec
+    (λ c. search needs)
+    (λ c κs. search needs)
+    (λ c. search needs)
+    (λ c κs. search needs)
+    (λ c κs. search needs)
+    (λ c. search needs)
+    returns)
