@@ -101,7 +101,7 @@ fn number1(s: &[u8], at: usize) -> u64
     wide(s[at + 0])
 }
 
-fn number2(s: &[u8], at: usize) -> u64
+pub fn number2(s: &[u8], at: usize) -> u64
     requires { ⌜ at + 2 ≤ length (now s) ⌝ }
     ensures { λ r. ⌜ (r ≡ numberAt (now (s .entry)) at 2) × (r < 65536) ⌝ }
 {
@@ -110,7 +110,7 @@ fn number2(s: &[u8], at: usize) -> u64
     a * 256 + b
 }
 
-fn number8(s: &[u8], at: usize) -> u64
+pub fn number8(s: &[u8], at: usize) -> u64
     requires { ⌜ at + 8 ≤ length (now s) ⌝ }
     ensures { λ r. ⌜ r ≡ numberAt (now (s .entry)) at 8 ⌝ }
 {
