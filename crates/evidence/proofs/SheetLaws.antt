@@ -11,7 +11,7 @@ use lib.ListN.{length, getD}
 use borrow.Author.Tests.{leb-true, leb-false, eqb-true, le-leb, lt-leb, eq-eqb}
 use Rattle.blocks.specs.Choice.{pick, both}
 use Rattle.blocks.proofs.BoolLaws.{byT, is-false, both-l, both-r}
-use Rattle.evidence.specs.Sheets.{bodyBytes, isRecord, onto, recordsFrom, restAt, soughtIn, Sought}
+use Rattle.evidence.specs.Sheets.{bodyBytes, isRecord, indexAt, onto, recordsFrom, restAt, latest, soughtIn, Sought}
 use Rattle.evidence.specs.Reading.{sizeAt, newer}
 
 -- the tests of a whole record
@@ -99,7 +99,7 @@ rest-on s at h r =
 -- WHAT IS KNOWN AFTER A RECORD
 known : (s : List ℕ) (at i : ℕ) (b : Sought) (r : Option (List ℕ)) → soughtIn s i b (onto at r) ≡ soughtIn s i (newer s at i b) r
 known s at i b none = refl
-known s at i b (some ats) = refl
+known s at i b (some ats) = ap (latest s i ats) (byT (eqb (indexAt s at) i) (λ t. rw t) (λ t. rw t))
 
 pub sought-on : (s : List ℕ) (at i : ℕ) (b : Sought) → at < length s → isRecord s at ≡ true →
     soughtIn s i b (restAt s at) ≡ soughtIn s i (newer s at i b) (restAt s (at + (3 + bodyBytes s at)))

@@ -8,7 +8,7 @@ ghost use Prim.Native.Nat.{_<_};
 ghost use lib.ListN.{length};
 ghost use Rattle.evidence.specs.Sheets.{isRecord, seek, together, look};
 ghost use Rattle.evidence.specs.Parts.{IsPart};
-ghost use Rattle.evidence.specs.Reading.{sizeAt, newer};
+ghost use Rattle.evidence.specs.Reading.{sizeAt, namedAt, over};
 
 const TAG: u8 = 48;
 
@@ -55,11 +55,11 @@ fn size_at(s: &[u8], at: usize) -> usize
     HEAD_BYTES + n
 }
 
-// What is known after the record at a place: its text, if it names the index, else what was known before.
-fn newer(s: &[u8], at: usize, size: usize, index: u64, best: Sought) -> Sought
+// The text of the record at a place, if it names the index.
+fn named_at(s: &[u8], at: usize, size: usize, index: u64) -> Sought
     requires { ⌜ isRecord (now s) at ≡ true ⌝ }
     requires { ⌜ size ≡ sizeAt (now s) at ⌝ }
-    ensures { λ r. ⌜ r ≡ newer (now (s .entry)) at index best ⌝ }
+    ensures { λ r. ⌜ r ≡ namedAt (now (s .entry)) at index ⌝ }
 {
     if batch::number8(s, at + HEAD_BYTES) == index {
         return Sought::Text {
@@ -67,7 +67,18 @@ fn newer(s: &[u8], at: usize, size: usize, index: u64, best: Sought) -> Sought
             size: size - TEXT_AT,
         };
     }
-    best
+    Sought::Nothing
+}
+
+// A later text, if there is one, takes an earlier one's place.
+fn over(later: Sought, earlier: Sought) -> Sought
+    ensures { λ r. ⌜ r ≡ over later earlier ⌝ }
+{
+    match later {
+        Sought::Text { place, size } => Sought::Text { place, size },
+        Sought::Nothing => earlier,
+        Sought::Malformed => Sought::Malformed,
+    }
 }
 
 /// The last text of an index in a sheet, which is read to its end: damage anywhere counts.
@@ -81,7 +92,8 @@ pub fn seek(s: &[u8], index: u64) -> Sought
         if size == 0 {
             return Sought::Malformed;
         }
-        best = newer(s, at, size, index, best);
+        let text = named_at(s, at, size, index);
+        best = over(text, best);
         at = at + size;
     }
     best

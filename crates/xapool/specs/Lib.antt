@@ -4,3 +4,4 @@ pub mod Demand
 pub mod Cases
 pub mod Running
 pub mod Regions
+pub mod Sheets

@@ -3,6 +3,8 @@
 //
 // pool: the borrowed words; batch: the borrowed bytes of the commands; reply: the borrowed bytes for their replies;
 // at: a place in the batch; out: a place in the reply; map: the map of the pool's free nodes.
+mod sheets;
+
 use batch::Command;
 use batch::Counted;
 use batch::REPLY_BYTES;
