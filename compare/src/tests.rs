@@ -8,6 +8,7 @@ use crate::listings::{kinds, Kind, KINDS};
 use crate::pools::recount;
 use crate::program::Input;
 use crate::reserves;
+use crate::sheets;
 use crate::stretch::{counts, FindCounts};
 use reference::batch::{read, Command, MOST_BATCH_BYTES};
 use reference::calls::{self, check, init, run};
@@ -459,5 +460,22 @@ fn what_is_smaller_differs() {
         let list = CallList::random(seed);
         let mut some = list.smaller().take(200);
         assert!(some.all(|smaller| smaller != list || list.calls.is_empty()), "seed {seed}");
+    }
+}
+
+/// Of 20,000 look-ups every kind has its share, the rarest (the longest texts) 1 in 1,000.
+#[test]
+fn every_kind_of_look_up_is_met() {
+    let mut met: Counts<sheets::Kind> = Counts::new();
+    for seed in 0..20_000 {
+        let look_up = sheets::LookUp::random(seed);
+        let (base, supplement) = (look_up.base.concat(), look_up.supplement.concat());
+        for kind in sheets::kinds(&base, &supplement, look_up.index) {
+            *met.entry(kind).or_default() += 1;
+        }
+    }
+    for (kind, name) in sheets::KINDS {
+        let least = if matches!(kind, sheets::Kind::Longest) { 20 } else { 200 };
+        assert!(met.get(&kind).is_some_and(|count| *count >= least), "{name}: {met:?}");
     }
 }

@@ -1,5 +1,5 @@
-// Written evidence (P13): the text of an index stands in a base sheet or in a later supplement, and is handed back as a
-// part of the one that has it (R127).
+// Written evidence (P13): the text of an index, looked up in a supplement and then in a base sheet, and handed back as a part
+// of the one that has it (R127).
 //
 // s, base, supplement: the borrowed bytes of a sheet; at: a place in them; size: the bytes of a record, or of a text.
 ghost use mathlib.Core.Path.{_≡_};

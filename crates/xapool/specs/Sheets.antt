@@ -1,6 +1,7 @@
 -- The call on a base sheet and a supplement: what a look-up gives a host (R256 to R261).
 use Prim.Native.Nat.{ℕ}
-use Rattle.evidence.specs.Sheets.{Found, Nowhere, InBase, InSupplement, BadSheet}
+use Rattle.evidence.specs.declared.Found.{Found}
+use Rattle.evidence.specs.declared.Found.the-variants.{Nowhere, InBase, InSupplement, BadSheet}
 pub use Rattle.xapool.specs.declared.Part.{Part}
 
 abbrev pub part : (answer sheet place length : ℕ) → Part
