@@ -23,6 +23,9 @@ pub struct Row {
     times: Vec<f64>,
 }
 
+/// What reads the whole sheet; its number keeps the work from being left out.
+type Way<'a> = &'a dyn Fn(&[u8]) -> u64;
+
 /// Index i has the records i and i + 8,192, so the last one is not the first.
 fn sheet() -> Vec<u8> {
     let mut sheet = Vec::new();
@@ -75,7 +78,7 @@ pub fn rows(rounds: u32) -> Result<[Row; 4], String> {
     if raw::evidence(&sheet, &[], wanted) != part || in_rust(&sheet, wanted) != Some(by_wrapper) {
         return Err("the ways to look up differ".into());
     }
-    let ways: [(&str, &dyn Fn(&[u8]) -> u64); 4] = [
+    let ways: [(&str, Way); 4] = [
         ("xapool_evidence", &|sheet| raw::evidence(sheet, &[], black_box(wanted)).place),
         ("the same in ordinary Rust", &|sheet| u64::from(in_rust(sheet, wanted).is_some())),
         ("every byte by a search for one that is not there", &search),

@@ -2,7 +2,7 @@
 use Prim.Native.Nat.{ℕ}
 use Rattle.evidence.specs.declared.Found.{Found}
 use Rattle.evidence.specs.declared.Found.the-variants.{Nowhere, InBase, InSupplement, BadSheet}
-pub use Rattle.xapool.specs.declared.Part.{Part}
+pub use Rattle.xapool.specs.declared.sheets.Part.{Part}
 
 abbrev pub part : (answer sheet place length : ℕ) → Part
 part a s p n = record { answer = a; sheet = s; place = p; length = n }
