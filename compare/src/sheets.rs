@@ -151,7 +151,7 @@ impl LookUp {
     }
 }
 
-fn by_reference(base: &[u8], supplement: &[u8], index: u64) -> RawPart {
+pub fn by_reference(base: &[u8], supplement: &[u8], index: u64) -> RawPart {
     let Found { answer, part } = look_up(base, supplement, index);
     let (sheet, part) = part.unwrap_or((Sheet::Base, 0..0));
     RawPart {
