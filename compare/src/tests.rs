@@ -495,7 +495,7 @@ fn wrong_look_up(fault: &str, sheets: [&[u8]; 2], index: u64) -> RawPart {
     let mut found: Vec<(u64, Record)> = Vec::new();
     for (sheet, records) in [(1, supplement), (0, base)] {
         let mut named = records.into_iter().filter(|record| record.index == index);
-        let record = if fault == "first taken" { named.next() } else { named.last() };
+        let record = if fault == "first taken" { named.next() } else { named.next_back() };
         found.extend(record.map(|record| (sheet, record)));
     }
     if fault == "empty skipped" {
