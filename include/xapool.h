@@ -1,5 +1,5 @@
 /* xapool.h: entries kept by 64-bit index in a pool of words that the host lends; and digests and
- * comparisons of regions of bytes.
+ * comparisons of regions of bytes, and texts of evidence looked up in two sheets.
  *
  * The library has no memory of its own and keeps nothing between two calls: all state is in the
  * pool. A pool may be moved, saved and loaded: it has no addresses in it.
@@ -14,17 +14,17 @@
  * Platform   x86-64 Linux. libxapool.a is position-independent, so it can go into a shared library;
  *            of other libraries it needs memset alone. It never allocates.
  * Alignment  a pool begins at a multiple of 8, as any array of uint64_t does. Batch, reply, list and
- *            regions may begin anywhere.
+ *            regions and sheets may begin anywhere.
  * Memory     all that is lent must have been written before, the space for replies and lists too: static,
  *            calloc, or = { 0 }.
  * NULL       with length 0 any pointer may be NULL: an empty batch, no reply space, no space for a
- *            list and empty regions are fine, a pool of no words is refused with 1.
+ *            list, empty regions and empty sheets are fine, a pool of no words is refused with 1.
  * Stack      a call needs less than 8 KiB of it, whatever the pool holds; xapool_crc32c and
  *            xapool_compare, which keep tables there, less than 16 KiB.
  * Threads    calls on different pools may run at the same time. Two calls at the same time must not
  *            share a pool, not even for finds, unless both are xapool_check or xapool_list, which
  *            only read it. No two buffers of one call may overlap, but for the two regions of
- *            xapool_compare, which are only read.
+ *            xapool_compare and the two sheets of xapool_evidence, which are only read.
  * Time       each run and each list checks the whole pool first, so many commands in one batch are
  *            far cheaper than one command in each of many. All else follows what is asked: a list
  *            takes its time for the entries and nodes of its range, not for those of the pool.
@@ -119,7 +119,7 @@ static inline uint64_t xapool_value(uint64_t v)
 
 /* ---- Answers ----
  *
- * 0 to 4 are the answer of a call, and of xapool_list also 8. All but 0 refuse it: nothing ran, and
+ * 0 to 4 are the answer of a call, of xapool_list also 8, and 0, 3 or 10 of xapool_evidence. All but 0 refuse it: nothing ran, and
  * pool, reply and list bytes are as they were, so the reply bytes may still hold the replies to an
  * earlier batch, which read as done: look at the call's answer first. 0 and 5 to 15 are the answer in
  * one command's reply; whatever it is, the next command runs, on a pool without what was refused. Where
@@ -130,7 +130,8 @@ enum xapool_answer {
     XAPOOL_POOL_LENGTH = 1,      /* pool_words is not XAPOOL_WORDS(N) with N from 1 to XAPOOL_MAX_NODES; number 0 */
     XAPOOL_NOT_WELL_FORMED = 2,  /* the words are not those of a pool (never initialised, or damaged); number 0 */
     XAPOOL_BAD_BATCH = 3,        /* a record is cut off, or its tag or length is none; number: the place of
-                                    its first byte. Over XAPOOL_BATCH_BYTES: that many */
+                                    its first byte. Over XAPOOL_BATCH_BYTES: that many.
+                                    evidence: a sheet is malformed */
     XAPOOL_REPLY_SPACE = 4,      /* run: reply_bytes is under 24 a command; number: commands.
                                     list: buffer_bytes is under 21 an entry; number: entries */
     XAPOOL_BAD_ORDER = 5,        /* store: the order is above 63 */
@@ -138,7 +139,8 @@ enum xapool_answer {
     XAPOOL_BAD_MARK = 7,         /* mark, unmark: above 2. find: filter above 3 */
     XAPOOL_FIRST_ABOVE_LAST = 8, /* find: first is above last. Call, list: the same; number 0 */
     XAPOOL_NO_BUDGET = 9,        /* find: budget 0 */
-    XAPOOL_ABSENT = 10,          /* load, mark, unmark: no entry covers the index. erase: nor is it reserved */
+    XAPOOL_ABSENT = 10,          /* load, mark, unmark: no entry covers the index. erase: nor is it reserved.
+                                    evidence: neither sheet names the index */
     XAPOOL_TOO_FEW_NODES = 11,   /* store, reserve: it needs more nodes than are free; nothing is changed */
     XAPOOL_ENDED = 12,           /* find: nothing more to find */
     XAPOOL_PAUSED = 13,          /* find: the budget is used up; index: where to go on */
@@ -306,6 +308,42 @@ uint32_t xapool_crc32c(uint32_t crc, const uint8_t *region, size_t region_bytes)
 XAPOOL_MUST_USE
 xapool_comparison xapool_compare(const uint8_t *old_region, size_t old_bytes,
                                  const uint8_t *new_region, size_t new_bytes);
+
+/* ---- Written evidence ----
+ *
+ * What was written down about regions stands in a base sheet, and what was added later in a supplement. Each
+ * is records in a row, of any length, also none:
+ *
+ *   place 0  tag 48        1 byte
+ *         1  length        2   of index and text, so 8 or more
+ *         3  index         8
+ *        11  text              length - 8 bytes, also none
+ *
+ * each number highest byte first. Of several records of an index in one sheet the last counts, and one
+ * in the supplement before those of the base sheet, also where its text is empty. */
+#define XAPOOL_EVIDENCE_TAG 48
+#define XAPOOL_EVIDENCE_AT_INDEX 3
+#define XAPOOL_EVIDENCE_AT_TEXT 11
+
+enum xapool_sheet {
+    XAPOOL_BASE_SHEET = 0,
+    XAPOOL_SUPPLEMENT = 1
+};
+
+typedef struct xapool_part {
+    uint64_t answer; /* enum xapool_answer: 0, 3 or 10. With 3 and 10 all else is 0 */
+    uint64_t sheet;  /* enum xapool_sheet: which of the two has the text */
+    uint64_t place;  /* where the text begins there */
+    uint64_t length; /* its bytes; 0 is a text too, if the answer is 0 */
+} xapool_part;
+
+/* Where the text of an index stands: a part of your own sheet, never a copy. Answer 0: found. 10: neither
+ * sheet names the index, which is no evidence of anything. 3: a sheet is malformed, wherever the damage lies (a
+ * record cut off, another tag, a length under 8), and nothing of either is to be relied on. It reads both
+ * sheets whole, once each. */
+XAPOOL_MUST_USE
+xapool_part xapool_evidence(const uint8_t *base, size_t base_bytes,
+                            const uint8_t *supplement, size_t supplement_bytes, uint64_t index);
 
 /* ---- Building a batch ----
  *

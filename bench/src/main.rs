@@ -1,7 +1,8 @@
 //! bench: loads through xapool_run beside the engines of engine/, three of them also over a BTreeMap,
-//! the cost by nodes, that of free nodes, lists, digests and comparisons, and the check beside an OR.
-//! With `engines` that with the engines alone, with `checks` that of the check; with `against` two
-//! builds of the library in one run; with `redraw` the pictures of the figures in BENCHMARKS.md.
+//! the cost by nodes, that of free nodes, lists, digests and comparisons, the check beside an OR, and
+//! look-ups of evidence.
+//! With `engines` that with the engines alone, with `checks` that of the check, with `evidence` a look-up
+//! in a sheet; with `against` two builds of the library in one run; with `redraw` the pictures of the figures in BENCHMARKS.md.
 
 mod against;
 mod beside_or;
@@ -19,6 +20,7 @@ mod measure;
 mod plain;
 mod plot;
 mod regions;
+mod sheets;
 mod stores;
 mod table;
 #[cfg(test)]
@@ -44,6 +46,7 @@ usage: bench [--indices N] [--repeats N] [--small-repeats N] [--rounds N] [--wri
   --write     writes BENCHMARKS.md, engines.svg and benchmarks.svg to this folder
        bench engines ..   the loads beside the engines alone
        bench checks ..    the check of pools of many kinds beside an OR of their words
+       bench evidence ..  a look-up in a sheet of 1 MB beside plain reading
        bench against ..   two builds in one run: scripts/bench-against
        bench redraw DIR   engines.svg and benchmarks.svg anew, from DIR/BENCHMARKS.md; nothing is measured
 Exit status: 0 fine, 1 a call was refused or a file could not be written, 2 bad usage.";
@@ -81,6 +84,7 @@ fn main() -> ExitCode {
     let (measured, usage) = match mode.as_str() {
         "against" => (against::run(env::args().skip(2)), against::USAGE),
         "checks" => (beside_or::measure(env::args().skip(2)), beside_or::USAGE),
+        "evidence" => (sheets::measure(env::args().skip(2)), sheets::USAGE),
         "engines" => (engines::measure(env::args().skip(2)), engines::USAGE),
         "redraw" => (env::args().nth(2).map(|folder| redraw(&folder)), USAGE),
         _ => (options().map(|options| measure_all(&options)), USAGE),
@@ -139,6 +143,7 @@ fn measure_alone(options: &Options) -> Result<String, String> {
         checks_text,
         table::lists(&lists),
         table::regions(&regions),
+        sheets::table(&sheets::rows(options.small_repeats)?),
     ];
     Ok(texts.join("\n"))
 }

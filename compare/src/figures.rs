@@ -4,12 +4,13 @@ use crate::lend::{Call, Given};
 use crate::listings::{kinds, KINDS};
 use crate::os::shared_numbers;
 use crate::reserves;
+use crate::sheets;
 use crate::stretch::{counts, FindCounts};
 use std::sync::atomic::{AtomicU64, Ordering::Relaxed};
 
 #[derive(Clone, Copy)]
 pub struct Figures {
-    numbers: &'static [AtomicU64; 160],
+    numbers: &'static [AtomicU64; 192],
 }
 
 /// Which number is what.
@@ -41,6 +42,8 @@ pub enum Of {
     EngineLists = 66,
     EngineBatches = 67,
     EngineReplyBytes = 68,
+    LookUps = 69,
+    SheetBytes = 70,
 }
 
 /// The first number of the answers of calls and of those in replies.
@@ -56,6 +59,9 @@ const LISTING_KINDS: usize = 96;
 
 /// The first number of the kinds of commands about reservations.
 const RESERVE_KINDS: usize = 128;
+
+/// The first number of the kinds of look-ups in sheets.
+const SHEET_KINDS: usize = 160;
 
 impl Figures {
     pub fn new() -> Figures {
@@ -226,6 +232,22 @@ impl Figures {
     pub fn print_reserves(self) {
         println!("reservations: {} reserves in lists of both kinds", self.get(Of::Reserves));
         self.print_kinds(RESERVE_KINDS, &reserves::KINDS.map(|(_, name)| name));
+    }
+
+    /// Counts a look-up by its kinds.
+    pub fn count_sheets(self, kinds: &[sheets::Kind]) {
+        for kind in kinds {
+            self.numbers[SHEET_KINDS + *kind as usize].fetch_add(1, Relaxed);
+        }
+    }
+
+    pub fn print_sheets(self) {
+        println!(
+            "evidence: {} look-ups, {} bytes of sheets, each result compared",
+            self.get(Of::LookUps),
+            self.get(Of::SheetBytes)
+        );
+        self.print_kinds(SHEET_KINDS, &sheets::KINDS.map(|(_, name)| name));
     }
 
     pub fn print_engine(self) {

@@ -23,6 +23,8 @@ mod program;
 mod reserve_cases;
 mod reserves;
 mod shapes;
+mod sheet_cases;
+mod sheets;
 mod stretch;
 #[cfg(test)]
 mod tests;
@@ -40,9 +42,11 @@ usage: compare [SECONDS [SEED]]     all of it, in about so many seconds (100 if 
        compare cases                cases 2 to 15, the empty batch, the longest batches, those of requests
        compare changes              every single-word change of some pools
        compare engine SECONDS [SEED]   the engines of engine/ alone
+       compare evidence SECONDS [SEED]   look-ups in sheets alone
        compare again calls SEED     one list of calls, by the seed that was printed
        compare again finds SEED     one list of calls made for finds
        compare again engine SEED    one list of calls by the engines
+       compare again evidence SEED  one look-up in sheets
        compare again program SEED   one input of the program
 The long run: compare 3600
 Exit status: 0 no difference, 1 a difference, 2 bad usage or no program.";
@@ -59,6 +63,10 @@ fn main() -> ExitCode {
         ["engine", seconds] => number(seconds).map(|seconds| compare_engine(seconds, clock())),
         ["engine", seconds, seed] => {
             number(seconds).and_then(|s| Ok(compare_engine(s, number(seed)?)))
+        }
+        ["evidence", seconds] => number(seconds).map(|s| compare_evidence(s, clock())),
+        ["evidence", seconds, seed] => {
+            number(seconds).and_then(|s| Ok(compare_evidence(s, number(seed)?)))
         }
         ["again", kind, seed] => again(kind, seed),
         [seconds] => number(seconds).and_then(|seconds| compare(seconds, clock())),
@@ -112,8 +120,9 @@ fn compare(seconds: u64, seed: u64) -> Result<bool, String> {
     let all = Duration::from_secs(seconds);
     let left = all.saturating_sub(started.elapsed()).max(all / 2);
     let programs = if program { left / 4 } else { Duration::ZERO };
-    let (finds, engines) = (left / 4, left / 8);
-    same &= random_trials(Kind::Calls, seed, left - programs - finds - engines, figures);
+    let (finds, engines, evidence) = (left / 4, left / 8, left / 16);
+    let calls = left - programs - finds - engines - evidence;
+    same &= random_trials(Kind::Calls, seed, calls, figures);
     figures.print_calls();
     same &= random_trials(Kind::Finds, seed, finds, figures);
     figures.print_finds();
@@ -121,6 +130,8 @@ fn compare(seconds: u64, seed: u64) -> Result<bool, String> {
     figures.print_reserves();
     same &= random_trials(Kind::Engine, seed, engines, figures);
     figures.print_engine();
+    same &= random_trials(Kind::Evidence, seed, evidence, figures);
+    figures.print_sheets();
     if program {
         same &= random_trials(Kind::Program, seed, programs, figures);
         figures.print_program();
@@ -137,6 +148,14 @@ fn compare_engine(seconds: u64, seed: u64) -> bool {
     let figures = Figures::new();
     let same = random_trials(Kind::Engine, seed, Duration::from_secs(seconds), figures);
     figures.print_engine();
+    same
+}
+
+fn compare_evidence(seconds: u64, seed: u64) -> bool {
+    println!("compare evidence: {seconds} seconds, seed {seed}");
+    let figures = Figures::new();
+    let same = random_trials(Kind::Evidence, seed, Duration::from_secs(seconds), figures);
+    figures.print_sheets();
     same
 }
 
@@ -209,6 +228,7 @@ fn again(kind: &str, seed: &str) -> Result<bool, String> {
         "calls" => Kind::Calls,
         "finds" => Kind::Finds,
         "engine" => Kind::Engine,
+        "evidence" => Kind::Evidence,
         "program" => Kind::Program,
         _ => return Err(USAGE.into()),
     };

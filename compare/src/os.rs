@@ -91,9 +91,9 @@ pub fn guards_hold() -> bool {
 }
 
 /// Numbers that a child process shares with its parent, all 0 at first.
-pub fn shared_numbers() -> &'static [AtomicU64; 160] {
+pub fn shared_numbers() -> &'static [AtomicU64; 192] {
     let at = map(PAGE, MAP_SHARED);
-    // SAFETY: a page of zeros that is never unmapped; it holds 160 such numbers.
+    // SAFETY: a page of zeros that is never unmapped; it holds 192 such numbers.
     unsafe { &*at.cast() }
 }
 

@@ -8,10 +8,12 @@ use crate::listings::{kinds, Kind, KINDS};
 use crate::pools::recount;
 use crate::program::Input;
 use crate::reserves;
+use crate::sheets;
 use crate::stretch::{counts, FindCounts};
 use reference::batch::{read, Command, MOST_BATCH_BYTES};
 use reference::calls::{self, check, init, run};
 use reference::command::{execute, needed, needed_to_reserve, Done};
+use reference::evidence::{records, Record};
 use reference::model::{
     self, beginning_in, covering, is_aligned, is_entry_word, marks_of, Entry, RESERVED,
 };
@@ -23,6 +25,7 @@ use std::sync::OnceLock;
 use xapool_host::layout::{
     count_place, ANCHOR_WORDS, COUNT_FIELD, MARK_FIELD, NODE_WORDS, SLOT_FIELD,
 };
+use xapool_host::raw::RawPart;
 use xapool_host::PROGRAM_BATCH_BYTES;
 
 type Counts<T> = BTreeMap<T, usize>;
@@ -459,5 +462,66 @@ fn what_is_smaller_differs() {
         let list = CallList::random(seed);
         let mut some = list.smaller().take(200);
         assert!(some.all(|smaller| smaller != list || list.calls.is_empty()), "seed {seed}");
+    }
+}
+
+/// Of 20,000 look-ups every kind has its share, the rarest (the longest texts) 1 in 1,000.
+#[test]
+fn every_kind_of_look_up_is_met() {
+    let mut met: Counts<sheets::Kind> = Counts::new();
+    for seed in 0..20_000 {
+        let look_up = sheets::LookUp::random(seed);
+        let (base, supplement) = (look_up.base.concat(), look_up.supplement.concat());
+        for kind in sheets::kinds(&base, &supplement, look_up.index) {
+            *met.entry(kind).or_default() += 1;
+        }
+    }
+    for (kind, name) in sheets::KINDS {
+        let least = if matches!(kind, sheets::Kind::Longest) { 20 } else { 200 };
+        assert!(met.get(&kind).is_some_and(|count| *count >= least), "{name}: {met:?}");
+    }
+}
+
+/// The record of an index that a wrong program takes, in sheets of which it reads what is whole.
+fn wrong_look_up(fault: &str, sheets: [&[u8]; 2], index: u64) -> RawPart {
+    let whole = |sheet: &[u8]| {
+        let end = (0..=sheet.len()).rev().find(|end| records(&sheet[..*end]).is_some());
+        (end == Some(sheet.len()), records(&sheet[..end.unwrap_or(0)]).unwrap_or_default())
+    };
+    let [(base_whole, base), (supplement_whole, supplement)] = sheets.map(whole);
+    if !(base_whole && supplement_whole) && fault != "damage overlooked" {
+        return RawPart { answer: 3, sheet: 0, place: 0, length: 0 };
+    }
+    let mut found: Vec<(u64, Record)> = Vec::new();
+    for (sheet, records) in [(1, supplement), (0, base)] {
+        let mut named = records.into_iter().filter(|record| record.index == index);
+        let record = if fault == "first taken" { named.next() } else { named.next_back() };
+        found.extend(record.map(|record| (sheet, record)));
+    }
+    if fault == "empty skipped" {
+        found.retain(|(sheet, record)| *sheet == 0 || !record.text.is_empty());
+    }
+    let taken = if fault == "base first" { found.pop() } else { found.into_iter().next() };
+    let Some((sheet, Record { text, .. })) = taken else {
+        return RawPart { answer: 10, sheet: 0, place: 0, length: 0 };
+    };
+    let length = if fault == "one byte short" { text.len().max(1) - 1 } else { text.len() };
+    RawPart { answer: 0, sheet, place: text.start as u64, length: length as u64 }
+}
+
+/// Each of these faults shows in one look-up of fifty or more often; without one there is no difference.
+#[test]
+fn planted_faults_of_look_ups_show() {
+    let faults =
+        ["", "first taken", "empty skipped", "damage overlooked", "base first", "one byte short"];
+    for fault in faults {
+        let differs = |seed: &u64| {
+            let look_up = sheets::LookUp::random(*seed);
+            let (base, supplement) = (look_up.base.concat(), look_up.supplement.concat());
+            let wanted = sheets::by_reference(&base, &supplement, look_up.index);
+            wanted != wrong_look_up(fault, [&base, &supplement], look_up.index)
+        };
+        let seen = (0..2000).filter(differs).count();
+        assert!(if fault.is_empty() { seen == 0 } else { seen >= 40 }, "{fault}: {seen} of 2000");
     }
 }

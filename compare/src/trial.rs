@@ -6,6 +6,7 @@ use crate::finds;
 use crate::list::CallList;
 use crate::os::{end_after, in_child, End};
 use crate::program::Input;
+use crate::sheets::LookUp;
 use std::time::{Duration, Instant};
 
 #[derive(Clone, Copy, Debug, PartialEq, Eq)]
@@ -13,6 +14,7 @@ pub enum Kind {
     Calls,
     Finds,
     Engine,
+    Evidence,
     Program,
 }
 
@@ -22,6 +24,7 @@ impl Kind {
             Kind::Calls => "calls",
             Kind::Finds => "finds",
             Kind::Engine => "engine",
+            Kind::Evidence => "evidence",
             Kind::Program => "program",
         }
     }
@@ -33,6 +36,7 @@ pub enum Trial {
     Finds(CallList),
     /// By the engines of engine/.
     Engine(CallList),
+    Evidence(LookUp),
     Program(Input),
 }
 
@@ -46,6 +50,7 @@ impl Trial {
             Kind::Calls => Trial::Calls(CallList::random(seed)),
             Kind::Finds => Trial::Finds(finds::random_list(seed)),
             Kind::Engine => Trial::Engine(engines::random_list(seed)),
+            Kind::Evidence => Trial::Evidence(LookUp::random(seed)),
             Kind::Program => Trial::Program(Input::random(seed)),
         }
     }
@@ -55,6 +60,7 @@ impl Trial {
             Trial::Calls(list) => list.difference(figures),
             Trial::Finds(list) => list.difference_in_finds(figures),
             Trial::Engine(list) => engines::difference(list, figures),
+            Trial::Evidence(look_up) => look_up.difference(figures),
             Trial::Program(input) => input.difference(figures),
         }
     }
@@ -64,6 +70,7 @@ impl Trial {
             Trial::Calls(list) => Box::new(list.smaller().map(Trial::Calls)),
             Trial::Finds(list) => Box::new(list.smaller().map(Trial::Finds)),
             Trial::Engine(list) => Box::new(list.smaller().map(Trial::Engine)),
+            Trial::Evidence(look_up) => Box::new(look_up.smaller().map(Trial::Evidence)),
             Trial::Program(input) => Box::new(input.smaller().map(Trial::Program)),
         }
     }
@@ -71,6 +78,7 @@ impl Trial {
     fn show(&self) -> String {
         match self {
             Trial::Calls(list) | Trial::Finds(list) | Trial::Engine(list) => list.show(),
+            Trial::Evidence(look_up) => look_up.show(),
             Trial::Program(input) => input.show(),
         }
     }

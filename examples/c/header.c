@@ -445,6 +445,7 @@ static void null_with_length_0_is_fine(void)
     CHECK(xapool_count(NULL, 0).answer == XAPOOL_DONE);
     CHECK(xapool_crc32c(7, NULL, 0) == 7);
     CHECK(xapool_compare(NULL, 0, NULL, 0).verdict == XAPOOL_NOTHING_TO_COMPARE);
+    CHECK(xapool_evidence(NULL, 0, NULL, 0, 7).answer == XAPOOL_ABSENT);
     CHECK(xapool_init(pool, XAPOOL_WORDS(1)).answer == XAPOOL_DONE);
     CHECK(xapool_run(pool, XAPOOL_WORDS(1), NULL, 0, NULL, 0).answer == XAPOOL_DONE);
 }

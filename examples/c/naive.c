@@ -78,6 +78,7 @@ static int nothing_looked_at(void)
 {
     xapool_compare(bytes, 64, replies, 64); /* dropped */
     xapool_crc32c(0, bytes, 64); /* dropped */
+    xapool_evidence(bytes, 64, replies, 64, 7); /* dropped */
     xapool_list(pool, XAPOOL_WORDS(NODES), 0, UINT64_MAX, bytes, sizeof bytes); /* dropped */
     return 1;
 }

@@ -66,6 +66,19 @@ static int may_go(const uint8_t *old_region, size_t old_bytes, const uint8_t *ne
     }
 }
 
+/* What was written about a region */
+
+/* The text of an index where it stands in its own sheet, and its length, which may be 0; NULL if there is none. */
+static const uint8_t *text_of(const uint8_t *base, size_t base_bytes, const uint8_t *supplement,
+                              size_t supplement_bytes, uint64_t index, size_t *length)
+{
+    xapool_part part = xapool_evidence(base, base_bytes, supplement, supplement_bytes, index);
+    *length = part.length;
+    if (part.answer != XAPOOL_DONE)
+        return NULL; /* 10: neither sheet names it. 3: a sheet is malformed. Neither is evidence of anything */
+    return (part.sheet == XAPOOL_SUPPLEMENT ? supplement : base) + part.place;
+}
+
 /* Before you sign */
 
 typedef struct run {
@@ -274,6 +287,19 @@ static void comparison(void)
     CHECK(!may_go(page, 0, page, 0) && !may_go(NULL, 0, NULL, 0) && !may_go(page, 4, NULL, 0));
 }
 
+static void written(void)
+{
+    static const uint8_t base[] = { 48, 0, 11, 0, 0, 0, 0, 0, 0, 0, 7, 'o', 'l', 'd', 48, 0, 9, 0, 0, 0, 0, 0, 0, 0, 8, 'x' };
+    static const uint8_t later[] = { 48, 0, 8, 0, 0, 0, 0, 0, 0, 0, 7 };
+    size_t length = 1;
+    CHECK(text_of(base, sizeof base, NULL, 0, 7, &length) == base + 11 && length == 3);
+    CHECK(text_of(base, sizeof base, later, sizeof later, 7, &length) == later + 11 && length == 0);
+    CHECK(text_of(base, sizeof base, later, sizeof later, 8, &length) == base + 25 && length == 1);
+    CHECK(!text_of(base, sizeof base, later, sizeof later, 9, &length) && length == 0);
+    CHECK(!text_of(base, sizeof base - 1, later, sizeof later, 7, &length) && length == 0);
+    CHECK(!text_of(base, sizeof base, later, sizeof later - 1, 7, &length) && !text_of(NULL, 0, NULL, 0, 7, &length));
+}
+
 /* Whether it is signed, with all marked on both sides but one (200: none is left out). */
 static int signs(const run *plan, size_t runs, uint64_t on_old, uint64_t on_new)
 {
@@ -378,6 +404,7 @@ int main(void)
     evidence();
     room();
     comparison();
+    written();
     signature();
     whole_batches();
     large_pools();

@@ -23,7 +23,8 @@
 //! [`Reply`], whose [`Answer`] says whether it was done: [`Replies::all_done`] looks at all of them. A
 //! call that the library refuses is a [`Refusal`]: nothing ran. [`Pool::save`] and [`Pool::load`] keep a
 //! pool in a file with a digest. [`compare`] says whether two regions match, and [`Crc32c`] is their
-//! digest. A record that is not there is never a match: see 'Before you sign' in docs/HOST.md and
+//! digest. [`evidence`] is the text that a base sheet or its supplement has of a region. A record that is
+//! not there is never a match: see 'Before you sign' in docs/HOST.md and
 //! examples/inspection.rs. Nothing here panics, whatever it is given, but for an index past the end of
 //! [`Replies`]; `unsafe` is in [`raw`] alone.
 
@@ -32,6 +33,7 @@
 mod answer;
 mod batch;
 mod command;
+mod evidence;
 mod file;
 mod find;
 pub mod layout;
@@ -50,6 +52,9 @@ pub use batch::{
     MOST_BATCH_BYTES, PROGRAM_BATCH_BYTES,
 };
 pub use command::{Command, Tag, FIND_ANY, MOST_ORDER};
+pub use evidence::{
+    evidence, put_evidence, MalformedSheet, Sheet, TextTooLong, EVIDENCE_TAG, MOST_TEXT_BYTES,
+};
 pub use file::FileError;
 pub use find::{Finds, MOST_FINDS};
 pub use list::{BadListed, ListFault, Listing, LISTED_BYTES};

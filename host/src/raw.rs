@@ -24,6 +24,21 @@ pub struct RawComparison {
     pub new_crc: u64,
 }
 
+/// What a look-up of evidence gives: where the text stands; all 0 but the answer if there is none.
+#[repr(C)]
+#[derive(Clone, Copy, Debug, PartialEq, Eq)]
+#[must_use]
+pub struct RawPart {
+    /// 0 found, 3 a sheet is malformed, 10 neither names the index.
+    pub answer: u64,
+    /// 0 base sheet, 1 supplement.
+    pub sheet: u64,
+    /// Where the text begins in that sheet.
+    pub place: u64,
+    /// Its bytes.
+    pub length: u64,
+}
+
 extern "C" {
     fn xapool_init(pool: *mut u64, pool_words: usize) -> RawResult;
     fn xapool_check(pool: *const u64, pool_words: usize) -> RawResult;
@@ -51,6 +66,13 @@ extern "C" {
         new: *const u8,
         new_bytes: usize,
     ) -> RawComparison;
+    fn xapool_evidence(
+        base: *const u8,
+        base_bytes: usize,
+        supplement: *const u8,
+        supplement_bytes: usize,
+        index: u64,
+    ) -> RawPart;
 }
 
 /// Makes the words an empty pool, whatever stood there.
@@ -105,4 +127,11 @@ pub fn crc32c(crc: u32, region: &[u8]) -> u32 {
 pub fn compare(old: &[u8], new: &[u8]) -> RawComparison {
     // SAFETY: two slices borrowed for the call, which only reads.
     unsafe { xapool_compare(old.as_ptr(), old.len(), new.as_ptr(), new.len()) }
+}
+
+/// Where the text of an index stands in a base sheet or a supplement.
+pub fn evidence(base: &[u8], supplement: &[u8], index: u64) -> RawPart {
+    let (base_bytes, bytes) = (base.len(), supplement.len());
+    // SAFETY: two slices borrowed for the call, which only reads.
+    unsafe { xapool_evidence(base.as_ptr(), base_bytes, supplement.as_ptr(), bytes, index) }
 }

@@ -8,6 +8,7 @@ pub mod awkward;
 pub mod batch;
 pub mod calls;
 pub mod command;
+pub mod evidence;
 pub mod find;
 pub mod listing;
 pub mod lists;

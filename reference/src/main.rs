@@ -1,8 +1,9 @@
-//! The program: one batch from standard input on a fresh pool of 40 nodes; also `lists`.
+//! The program: one batch from standard input on a fresh pool of 40 nodes; also `lists` and `evidence`.
 
 use reference::answers::{BAD_BATCH, DONE};
 use reference::batch::REPLY_BYTES;
 use reference::calls::{init, run, Outcome};
+use reference::evidence::{look_up, Sheet};
 use reference::lists;
 use reference::pool::pool_length;
 use std::io::{self, BufWriter, Read, Write};
@@ -21,7 +22,8 @@ fn main() -> ExitCode {
     let written = match arguments.as_slice() {
         [] => run_program(),
         [name, seed, count, most] if name == "lists" => print_lists([seed, count, most]),
-        _ => Err(io::Error::other("usage: reference [lists SEED COUNT MAXLEN]")),
+        [name] if name == "evidence" => look_ups(),
+        _ => Err(io::Error::other("usage: reference [lists SEED COUNT MAXLEN | evidence]")),
     };
     match written {
         Ok(()) => ExitCode::SUCCESS,
@@ -63,6 +65,26 @@ fn run_program() -> io::Result<()> {
 fn refusal(outcome: Outcome) -> Vec<u8> {
     let place = (outcome.number as u16).to_be_bytes();
     vec![255, 0, 3, outcome.answer as u8, place[0], place[1]]
+}
+
+/// For scripts/planted-faults, small look-ups in a row: a byte each of index and of the sheets' lengths,
+/// the base sheet, the supplement. Of each is written: answer, sheet, and two bytes each of place and
+/// length.
+fn look_ups() -> io::Result<()> {
+    let (mut all, mut out) = (Vec::new(), Vec::new());
+    io::stdin().read_to_end(&mut all)?;
+    let mut rest = &all[..];
+    while let [index, base, supplement, sheets @ ..] = rest {
+        let cut = || io::Error::other("a look-up is cut");
+        let (base, after) = sheets.split_at_checked((*base).into()).ok_or_else(cut)?;
+        let (supplement, after) = after.split_at_checked((*supplement).into()).ok_or_else(cut)?;
+        let found = look_up(base, supplement, (*index).into());
+        let (sheet, part) = found.part.unwrap_or((Sheet::Base, 0..0));
+        out.extend([found.answer, u8::from(sheet == Sheet::Supplement)]);
+        out.extend([part.start as u16, part.len() as u16].map(u16::to_be_bytes).as_flattened());
+        rest = after;
+    }
+    io::stdout().write_all(&out)
 }
 
 fn print_lists(arguments: [&String; 3]) -> io::Result<()> {

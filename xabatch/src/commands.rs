@@ -6,7 +6,7 @@ mod pools;
 
 use crate::args::Arguments;
 use crate::failure::{usage, Failure};
-use crate::{files, help, pool_file, regions};
+use crate::{evidence, files, help, pool_file, regions};
 use std::ffi::OsString;
 
 pub fn act(name: &str, words: &[OsString]) -> Result<(), Failure> {
@@ -36,6 +36,7 @@ pub fn act(name: &str, words: &[OsString]) -> Result<(), Failure> {
         "compare" => {
             regions::compare(Arguments::of(words, &[("--bytes", false), ("--json", false)])?)
         }
+        "evidence" => evidence::evidence(Arguments::of(words, &[])?),
         _ => Err(usage(format!("'{name}': no such command; try 'xabatch --help'"))),
     }
 }

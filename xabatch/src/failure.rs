@@ -20,5 +20,6 @@ pub fn usage(message: impl Into<String>) -> Failure {
 /// Status 3: a flush failed, so what the file holds may not be on disk.
 pub const NOT_FLUSHED: u8 = 3;
 
-/// Status 4: not every command was done, and `--strict` keeps nothing then.
+/// Status 4: not every command was done, and `--strict` keeps nothing then; or neither sheet names the
+/// index.
 pub const NOT_DONE: u8 = 4;

@@ -15,6 +15,7 @@ usage: xabatch encode [--long | --split PREFIX] [FILE]     text to a batch
        xabatch run [OPTIONS] POOLFILE [FILE]               a batch on a pool file; replies to standard output
        xabatch crc [FILE..]                                the digest CRC-32C of each file
        xabatch compare [OPTIONS] OLD NEW                   whether two files match: before you erase one
+       xabatch evidence BASE SUPPLEMENT INDEX              the text that was written about an index
        xabatch help COMMAND                                more on one of these; also xabatch COMMAND -h
        xabatch --version
 
@@ -24,7 +25,8 @@ are one JSON value; numbers of 64 bits are numbers there, also above 2^53, which
 Exit status: 0 fine; 1 the input is malformed, the pool is not well-formed, the call was refused,
 or a file or the output cannot be read or written; 2 bad usage or a syntax error in the text, which
 is named by FILE:LINE:COLUMN; 3 of run and new: a flush to disk failed; 4 of run --strict: not every
-command was done, and nothing is kept. Of compare: 0 matched; 1 different; 2 nothing to compare, or a fault.
+command was done, and nothing is kept; of evidence: neither sheet names the index. Of compare: 0 matched;
+1 different; 2 nothing to compare, or a fault.
 ";
 
 const ENCODE: &str = "\
@@ -207,6 +209,23 @@ One of both may be -, standard input. Files may be larger than memory. Where sta
 terminal, large files have a bar there.
 ";
 
+const EVIDENCE: &str = "\
+usage: xabatch evidence BASE SUPPLEMENT INDEX
+
+Writes the text that the supplement has of an index, or, only if that does not name it, the one that
+the base sheet has: its bytes and nothing else. A sheet is records in a row, also none:
+
+  tag 48, length of index and text (2 bytes), index (8), text; each number highest byte first
+
+Of several records of an index in one sheet the last counts. A text may be empty: it is found, and that is
+told on standard error. INDEX is decimal or hex (0x40), or max. One of both sheets may be -, standard
+input, and either may be empty.
+
+Exit status: 0 found, and the text is written; 4 neither sheet names the index, which is no evidence of
+anything; 1 a sheet is malformed, wherever the damage is (a record cut off, another tag, a length under 8),
+or a file or the output cannot be read or written; 2 bad usage. Unless it is 0, no text is given.
+";
+
 fn text_of(command: &str) -> Option<&'static str> {
     Some(match command {
         "encode" => ENCODE,
@@ -217,6 +236,7 @@ fn text_of(command: &str) -> Option<&'static str> {
         "run" => RUN,
         "crc" => CRC,
         "compare" => COMPARE,
+        "evidence" => EVIDENCE,
         _ => return None,
     })
 }

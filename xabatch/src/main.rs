@@ -1,7 +1,9 @@
-//! xabatch: batches and replies as text, pool files, and digests and comparisons of files.
+//! xabatch: batches and replies as text, pool files, digests and comparisons of files, and texts of
+//! evidence.
 
 mod args;
 mod commands;
+mod evidence;
 mod failure;
 mod files;
 mod help;

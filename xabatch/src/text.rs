@@ -107,6 +107,16 @@ pub fn range_of(text: &str) -> Result<(u64, u64), String> {
     }
 }
 
+/// An index by itself, as in a command.
+pub fn index_of(text: &str) -> Result<u64, String> {
+    let mut words = Words::of(text, 1);
+    let index = words.number("an index").map_err(|error| error.message)?;
+    match words.rest() {
+        "" => Ok(index),
+        rest => Err(format!("'{rest}' after the index")),
+    }
+}
+
 /// The words of one line and how far they were read.
 struct Words<'a> {
     line: usize,

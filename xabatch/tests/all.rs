@@ -391,7 +391,8 @@ well-formed
     assert_eq!(tool(&["show", "--summary", "--findings", "-"], &[]).0, 2);
 }
 
-const COMMANDS: [&str; 8] = ["encode", "decode", "show", "list", "new", "run", "crc", "compare"];
+const COMMANDS: [&str; 9] =
+    ["encode", "decode", "show", "list", "new", "run", "crc", "compare", "evidence"];
 
 #[test]
 fn version_help_and_the_man_page() {

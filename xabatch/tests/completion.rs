@@ -36,7 +36,7 @@ fn commands_options_and_files_are_offered() {
     let none: [&str; 0] = [];
     let cases: [(&[&str], &[&str]); 10] = [
         (&["comp"], &["compare"]),
-        (&["e"], &["encode"]),
+        (&["e"], &["encode", "evidence"]),
         (&["--v"], &["--version"]),
         (&["help", "sh"], &["show"]),
         (&["xyz"], &none),
@@ -56,7 +56,9 @@ fn commands_options_and_files_are_offered() {
 fn what_is_offered_is_known() {
     let folder = Folder::new();
     let all = offered(&folder, &[""]);
-    for command in ["encode", "decode", "show", "list", "new", "run", "crc", "compare", "help"] {
+    let commands =
+        ["encode", "decode", "show", "list", "new", "run", "crc", "compare", "evidence", "help"];
+    for command in commands {
         assert!(all.iter().any(|name| name == command), "{command}: {all:?}");
     }
     for command in all.iter().filter(|name| !name.starts_with('-') && *name != "help") {

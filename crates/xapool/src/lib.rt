@@ -1,3 +1,4 @@
 // The exports of the library, a file for each family: an archive has those of one crate.
 mod pool;
 mod regions;
+mod sheets;

@@ -4,6 +4,7 @@ mod cases;
 mod cells;
 mod counts;
 mod damaged;
+mod evidence;
 mod finds;
 mod helpers;
 mod invariants;

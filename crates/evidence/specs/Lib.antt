@@ -1,0 +1,4 @@
+pub mod Sheets
+pub mod Parts
+pub mod Claims
+pub mod Reading
