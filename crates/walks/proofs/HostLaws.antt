@@ -34,7 +34,21 @@ use Rattle.execute.specs.Execute.{execute, finding}
 use Rattle.commands.specs.Commands.{Executed}
 use Rattle.execute.proofs.ReplyLaws.{find-runs}
 use Rattle.calls.specs.Calls.{run, replies}
-use Rattle.calls.specs.Demand.{Call, Call.batch, wordsAfterAll, executeAll, listAfterAll, Bytewise, Stands, AtCommand, Ran, AtBatch, Demand3, Starts, Starts.checked}
+use Rattle.calls.specs.Demand.{
+  Call,
+  Call.batch,
+  wordsAfterAll,
+  executeAll,
+  listAfterAll,
+  Bytewise,
+  Stands,
+  AtCommand,
+  Ran,
+  AtBatch,
+  Demand3,
+  Starts,
+  Starts.checked,
+}
 use Rattle.calls.proofs.RunningLaws.{replies-length}
 use Rattle.calls.proofs.DemandLaws.{Started, started, sized}
 use Rattle.calls.proofs.ClaimLaws.{demand-3-whole}

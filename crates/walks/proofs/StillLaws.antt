@@ -41,7 +41,8 @@ module _ (l : List Entry) (f z : ℕ) where
   shift : (k p n m : ℕ) → findFrom l f z k p (n + m) ≡ later n (findFrom l f z k p m)
   unfolding findFrom
   shift zero p n m = refl
-  shift (suc k) p n m = go (step l f z p) (λ q. subst (λ (x : ℕ). findFrom l f z k q x ≡ later n (findFrom l f z k q (suc m))) (add-suc n m) (shift k q n (suc m)))
+  shift (suc k) p n m = go (step l f z p) (λ q. subst (λ (x : ℕ). findFrom l f z k q x ≡ later n (findFrom l f z k q (suc m)))
+      (add-suc n m) (shift k q n (suc m)))
     where
       go : (t : Turn) → ((q : ℕ) → findFrom l f z k q (suc (n + m)) ≡ later n (findFrom l f z k q (suc m))) →
           proceed t (λ q. findFrom l f z k q (suc (n + m))) (suc (n + m)) ≡ later n (proceed t (λ q. findFrom l f z k q (suc m)) (suc m))

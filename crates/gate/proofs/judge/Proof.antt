@@ -19,11 +19,29 @@ returns-3 c = rw (← c .before .before .before .bad-limits .ensures, c .before 
 
 returns-4 : tie.Need-returns-4
 unfolding judge
-returns-4 c = rw (← c .before .before .before .before .before .before .bad-limits .ensures, c .before .before .before .before .before .if1 .left, ne-eqb _ _ (c .before .before .before .before .if2 .left), le-ltb _ _ (c .before .before .before .if3 .left), ← c .before .before .share .ensures, ← c .before .holds .ensures, c .if4 .taken)
+returns-4 c = rw (
+  ← c .before .before .before .before .before .before .bad-limits .ensures,
+  c .before .before .before .before .before .if1 .left,
+  ne-eqb _ _ (c .before .before .before .before .if2 .left),
+  le-ltb _ _
+      (c .before .before .before .if3 .left),
+  ← c .before .before .share .ensures,
+  ← c .before .holds .ensures,
+  c .if4 .taken,
+)
 
 returns-5 : tie.Need-returns-5
 unfolding judge
-returns-5 c = rw (← c .before .before .before .before .before .before .bad-limits .ensures, c .before .before .before .before .before .if1 .left, ne-eqb _ _ (c .before .before .before .before .if2 .left), le-ltb _ _ (c .before .before .before .if3 .left), ← c .before .before .share .ensures, ← c .before .holds .ensures, c .if4 .left)
+returns-5 c = rw (
+  ← c .before .before .before .before .before .before .bad-limits .ensures,
+  c .before .before .before .before .before .if1 .left,
+  ne-eqb _ _ (c .before .before .before .before .if2 .left),
+  le-ltb _ _
+      (c .before .before .before .if3 .left),
+  ← c .before .before .share .ensures,
+  ← c .before .holds .ensures,
+  c .if4 .left,
+)
 
 pub judge-spec : {M : Type 1} → statement M
 judge-spec =
