@@ -1,5 +1,5 @@
 /* xapool.h: entries kept by 64-bit index in a pool of words that the host lends; and digests and
- * comparisons of regions of bytes, and texts of evidence looked up in two sheets.
+ * comparisons of regions of bytes, texts of evidence looked up in two sheets, and gates over counts.
  *
  * The library has no memory of its own and keeps nothing between two calls: all state is in the
  * pool. A pool may be moved, saved and loaded: it has no addresses in it.
@@ -28,6 +28,9 @@
  * Time       each run and each list checks the whole pool first, so many commands in one batch are
  *            far cheaper than one command in each of many. All else follows what is asked: a list
  *            takes its time for the entries and nodes of its range, not for those of the pool.
+ * Floats     xapool_gate alone has any. It is proved for floats as IEEE 754 has them: rounded to nearest,
+ *            subnormals kept. Where fesetround or -ffast-math (at the link, too) set the thread to
+ *            something else, its answer is worth nothing: ask xapool_floats_are_ieee first.
  * Power cut  a run writes word by word and is not atomic: a pool in a mapped file that loses power
  *            in mid-run may be lost. Where that matters, run on a copy and put the copy in place
  *            when it is on disk, as the tool 'xabatch run' does.
@@ -119,7 +122,8 @@ static inline uint64_t xapool_value(uint64_t v)
 
 /* ---- Answers ----
  *
- * 0 to 4 are the answer of a call, of xapool_list also 8, and 0, 3 or 10 of xapool_evidence. All but 0 refuse it: nothing ran, and
+ * 0 to 4 are the answer of a call, of xapool_list also 8, 0, 3 or 10 of xapool_evidence, and 0 or 18 to 20
+ * of xapool_gate. All but 0 refuse it: nothing ran, and
  * pool, reply and list bytes are as they were, so the reply bytes may still hold the replies to an
  * earlier batch, which read as done: look at the call's answer first. 0 and 5 to 15 are the answer in
  * one command's reply; whatever it is, the next command runs, on a pool without what was refused. Where
@@ -146,6 +150,10 @@ enum xapool_answer {
     XAPOOL_PAUSED = 13,          /* find: the budget is used up; index: where to go on */
     XAPOOL_NOT_ALIGNED = 14,     /* store: the index is not a multiple of 2^order */
     XAPOOL_COVERED = 15,         /* reserve: an entry covers the index, or it is reserved already */
+    XAPOOL_BAD_GATE = 18,        /* gate: a limit is no number from 0 to 1, or the first is above the second;
+                                    or there is no such kind; number 0 */
+    XAPOOL_NO_TOTAL = 19,        /* gate: the total is 0, of which nothing passes; number 0 */
+    XAPOOL_PART_ABOVE_TOTAL = 20, /* gate: the part is above the total; number 0 */
     XAPOOL_NO_REPLY = 255        /* no answer of the library: xapool_read_reply found no reply */
 };
 
@@ -344,6 +352,37 @@ typedef struct xapool_part {
 XAPOOL_MUST_USE
 xapool_part xapool_evidence(const uint8_t *base, size_t base_bytes,
                             const uint8_t *supplement, size_t supplement_bytes, uint64_t index);
+
+/* ---- Gates ----
+ *
+ * Whether a share of a job, part by total, is within its limits, from 0 to 1. The share is one division of
+ * doubles, rounded once: a share that is exactly at its limit passes, and a limit of 1.0 for matched, or of
+ * 0.0 for unread, passes only if all is matched, or none unread, up to the largest total. Each kind looks at its
+ * own limits alone. */
+enum xapool_gate_kind {
+    XAPOOL_MATCHED_AT_LEAST = 1, /* the share is at least a; b is not looked at */
+    XAPOOL_UNREAD_AT_MOST = 2,   /* the share is at most b; a is not looked at */
+    XAPOOL_MATCHED_BETWEEN = 3   /* the share is from a to b, both included */
+};
+
+/* Answer 0: number 1 pass, 0 fail. 18, 19 and 20 refuse, tested in that order, with number 0: so the number
+ * is 1 only for a pass, and a total of 0 never passes. Which kind the part is of, matched or unread, the
+ * host must know: it is counted by no one here. */
+XAPOOL_MUST_USE
+xapool_result xapool_gate(uint64_t kind, double a, double b, uint32_t part, uint32_t total);
+
+/* 1 if the calling thread has floats as xapool_gate needs them, else 0: then do not ask it. Divisions are
+ * rounded to nearest (1/3 down and 1/5 up: no one division tells all modes), and a subnormal is not read as 0. */
+XAPOOL_MUST_USE
+static inline int xapool_floats_are_ieee(void)
+{
+    /* Volatile, so that the thread divides and not the compiler. What it is held to is exact: a whole number
+     * by 2^54. */
+    volatile double one = 1.0, three = 3.0, five = 5.0, least = 4.9406564584124654e-324, nought = 0.0;
+    volatile double third = one / three, fifth = one / five;
+    return third == 6004799503160661.0 / 18014398509481984.0 && fifth == 3602879701896397.0 / 18014398509481984.0 &&
+           least > nought;
+}
 
 /* ---- Building a batch ----
  *
@@ -627,7 +666,9 @@ static inline xapool_result xapool_read_list(const uint8_t *list, size_t bytes)
 
 /* Where a find up to 'last' goes on after this reply to it: after the run of the entry that it found,
  * or where it paused. Gives 1 and sets *first, or 0 if there is nowhere to go: that is the end with
- * answer 12, and with answer 0 where the entry reaches to last; with any other it is trouble. */
+ * answer 12, and with answer 0 where the entry reaches to last; with any other it is trouble.
+ * That this is where to go on is the theorem host-next of crates/walks; finds that go this way, also
+ * while the pool changes in between, miss nothing that was there throughout: no-index-missed. */
 XAPOOL_MUST_USE
 static inline int xapool_next_first(const xapool_reply *reply, uint64_t last, uint64_t *first)
 {
@@ -672,6 +713,9 @@ static inline const char *xapool_answer_text(uint64_t answer)
     case XAPOOL_PAUSED: return "paused";
     case XAPOOL_NOT_ALIGNED: return "index is not a multiple of 2^order";
     case XAPOOL_COVERED: return "index is covered by an entry or reserved";
+    case XAPOOL_BAD_GATE: return "limit is not a number from 0 to 1, a above b, or no such kind of gate";
+    case XAPOOL_NO_TOTAL: return "total 0: there is nothing to pass";
+    case XAPOOL_PART_ABOVE_TOTAL: return "part above the total";
     case XAPOOL_NO_REPLY: return "no reply";
     default: return "no answer of this library";
     }

@@ -7,6 +7,7 @@
 
 use crate::batches::{hex, show};
 use crate::count_cases::count_cases;
+use crate::gate_cases::gate_cases;
 use crate::large_cases::large_cases;
 use crate::lend::{Call, Given, Lender};
 use crate::list::CallList;
@@ -268,6 +269,7 @@ pub fn run_all(with_program: bool) -> (usize, Vec<(&'static str, String)>) {
         count_cases(),
         large_cases(),
         sheet_cases(),
+        gate_cases(),
     ]
     .concat();
     let all = [starred(), figures, programs(with_program)].concat();

@@ -1,5 +1,6 @@
 //! What was compared so far, counted in memory that the child process shares with us.
 
+use crate::gates;
 use crate::lend::{Call, Given};
 use crate::listings::{kinds, KINDS};
 use crate::os::shared_numbers;
@@ -10,7 +11,7 @@ use std::sync::atomic::{AtomicU64, Ordering::Relaxed};
 
 #[derive(Clone, Copy)]
 pub struct Figures {
-    numbers: &'static [AtomicU64; 192],
+    numbers: &'static [AtomicU64; 224],
 }
 
 /// Which number is what.
@@ -44,6 +45,7 @@ pub enum Of {
     EngineReplyBytes = 68,
     LookUps = 69,
     SheetBytes = 70,
+    Gates = 71,
 }
 
 /// The first number of the answers of calls and of those in replies.
@@ -62,6 +64,9 @@ const RESERVE_KINDS: usize = 128;
 
 /// The first number of the kinds of look-ups in sheets.
 const SHEET_KINDS: usize = 160;
+
+/// The first number of the kinds of gates.
+const GATE_KINDS: usize = 192;
 
 impl Figures {
     pub fn new() -> Figures {
@@ -248,6 +253,18 @@ impl Figures {
             self.get(Of::SheetBytes)
         );
         self.print_kinds(SHEET_KINDS, &sheets::KINDS.map(|(_, name)| name));
+    }
+
+    /// Counts a gate by its kinds.
+    pub fn count_gate(self, kinds: &[gates::Kind]) {
+        for kind in kinds {
+            self.numbers[GATE_KINDS + *kind as usize].fetch_add(1, Relaxed);
+        }
+    }
+
+    pub fn print_gates(self) {
+        println!("gates: {} calls, each result compared", self.get(Of::Gates));
+        self.print_kinds(GATE_KINDS, &gates::KINDS.map(|(_, name)| name));
     }
 
     pub fn print_engine(self) {

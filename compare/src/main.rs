@@ -11,6 +11,8 @@ mod engines;
 mod exhaustive;
 mod figures;
 mod finds;
+mod gate_cases;
+mod gates;
 mod indices;
 mod large_cases;
 mod lend;
@@ -31,6 +33,7 @@ mod tests;
 mod trial;
 
 use figures::{Figures, Of};
+use gates::LEAST_ROWS;
 use os::{end_after, in_child, End};
 use reference::random::Random;
 use std::process::ExitCode;
@@ -43,10 +46,12 @@ usage: compare [SECONDS [SEED]]     all of it, in about so many seconds (100 if 
        compare changes              every single-word change of some pools
        compare engine SECONDS [SEED]   the engines of engine/ alone
        compare evidence SECONDS [SEED]   look-ups in sheets alone
+       compare gates SECONDS [SEED]   gates alone, 12 million at least
        compare again calls SEED     one list of calls, by the seed that was printed
        compare again finds SEED     one list of calls made for finds
        compare again engine SEED    one list of calls by the engines
        compare again evidence SEED  one look-up in sheets
+       compare again gates SEED     one row of gates
        compare again program SEED   one input of the program
 The long run: compare 3600
 Exit status: 0 no difference, 1 a difference, 2 bad usage or no program.";
@@ -67,6 +72,10 @@ fn main() -> ExitCode {
         ["evidence", seconds] => number(seconds).map(|s| compare_evidence(s, clock())),
         ["evidence", seconds, seed] => {
             number(seconds).and_then(|s| Ok(compare_evidence(s, number(seed)?)))
+        }
+        ["gates", seconds] => number(seconds).map(|s| compare_gates(s, clock())),
+        ["gates", seconds, seed] => {
+            number(seconds).and_then(|s| Ok(compare_gates(s, number(seed)?)))
         }
         ["again", kind, seed] => again(kind, seed),
         [seconds] => number(seconds).and_then(|seconds| compare(seconds, clock())),
@@ -120,8 +129,8 @@ fn compare(seconds: u64, seed: u64) -> Result<bool, String> {
     let all = Duration::from_secs(seconds);
     let left = all.saturating_sub(started.elapsed()).max(all / 2);
     let programs = if program { left / 4 } else { Duration::ZERO };
-    let (finds, engines, evidence) = (left / 4, left / 8, left / 16);
-    let calls = left - programs - finds - engines - evidence;
+    let (finds, engines, evidence, gates) = (left / 4, left / 8, left / 16, left / 64);
+    let calls = left - programs - finds - engines - evidence - gates;
     same &= random_trials(Kind::Calls, seed, calls, figures);
     figures.print_calls();
     same &= random_trials(Kind::Finds, seed, finds, figures);
@@ -132,6 +141,8 @@ fn compare(seconds: u64, seed: u64) -> Result<bool, String> {
     figures.print_engine();
     same &= random_trials(Kind::Evidence, seed, evidence, figures);
     figures.print_sheets();
+    same &= random_trials(Kind::Gates, seed, gates, figures);
+    figures.print_gates();
     if program {
         same &= random_trials(Kind::Program, seed, programs, figures);
         figures.print_program();
@@ -156,6 +167,14 @@ fn compare_evidence(seconds: u64, seed: u64) -> bool {
     let figures = Figures::new();
     let same = random_trials(Kind::Evidence, seed, Duration::from_secs(seconds), figures);
     figures.print_sheets();
+    same
+}
+
+fn compare_gates(seconds: u64, seed: u64) -> bool {
+    println!("compare gates: {seconds} seconds, seed {seed}");
+    let figures = Figures::new();
+    let same = random_trials(Kind::Gates, seed, Duration::from_secs(seconds), figures);
+    figures.print_gates();
     same
 }
 
@@ -196,13 +215,15 @@ fn compare_changes(figures: Figures) -> bool {
     end == End::Status(0)
 }
 
-/// Random trials for this long in a child process. If it ends otherwise than well, the trial whose
+/// Random trials for this long in a child process, of gates so many at least. If it ends otherwise than well, the trial whose
 /// seed it noted last is the one to report.
 fn random_trials(kind: Kind, seed: u64, time: Duration, figures: Figures) -> bool {
     let deadline = Instant::now() + time;
     let end = in_child(|| {
         let mut seeds = Random::new(seed);
-        while Instant::now() < deadline {
+        let mut left = if kind == Kind::Gates { LEAST_ROWS } else { 0 };
+        while left > 0 || Instant::now() < deadline {
+            left = left.saturating_sub(1);
             let seed = seeds.word();
             figures.set(Of::Seed, seed);
             end_after(LONGEST_SECONDS);
@@ -229,6 +250,7 @@ fn again(kind: &str, seed: &str) -> Result<bool, String> {
         "finds" => Kind::Finds,
         "engine" => Kind::Engine,
         "evidence" => Kind::Evidence,
+        "gates" => Kind::Gates,
         "program" => Kind::Program,
         _ => return Err(USAGE.into()),
     };

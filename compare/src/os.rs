@@ -91,9 +91,9 @@ pub fn guards_hold() -> bool {
 }
 
 /// Numbers that a child process shares with its parent, all 0 at first.
-pub fn shared_numbers() -> &'static [AtomicU64; 192] {
+pub fn shared_numbers() -> &'static [AtomicU64; 224] {
     let at = map(PAGE, MAP_SHARED);
-    // SAFETY: a page of zeros that is never unmapped; it holds 192 such numbers.
+    // SAFETY: a page of zeros that is never unmapped; it holds 224 such numbers.
     unsafe { &*at.cast() }
 }
 

@@ -2,6 +2,7 @@
 
 use crate::engines;
 use crate::finds::random_list;
+use crate::gates;
 use crate::lend::{by_reference, Call};
 use crate::list::CallList;
 use crate::listings::{kinds, Kind, KINDS};
@@ -523,5 +524,77 @@ fn planted_faults_of_look_ups_show() {
         };
         let seen = (0..2000).filter(differs).count();
         assert!(if fault.is_empty() { seen == 0 } else { seen >= 40 }, "{fault}: {seen} of 2000");
+    }
+}
+
+/// Of 100,000 gates more than a third have a limit at the share or next to it, and every kind has one in 500.
+#[test]
+fn every_kind_of_gate_is_met() {
+    let mut met: Counts<gates::Kind> = Counts::new();
+    let (mut all, mut near) = (0, 0);
+    for seed in 0..10 {
+        for ask in gates::Asks::random(seed).0 {
+            let kinds = gates::kinds(ask);
+            all += 1;
+            let is_near = |kind| matches!(kind, gates::Kind::AtLimit | gates::Kind::BesideLimit);
+            near += usize::from(kinds.iter().copied().any(is_near));
+            kinds.into_iter().for_each(|kind| *met.entry(kind).or_default() += 1);
+        }
+    }
+    assert!(near * 3 > all, "{near} of {all}");
+    for (kind, name) in gates::KINDS {
+        assert!(met.get(&kind).is_some_and(|count| *count >= 200), "{name}: {met:?}");
+    }
+}
+
+/// What a wrong program gives.
+fn wrong_gate(fault: &str, ask: gates::Ask) -> [u64; 2] {
+    let [a, b] = [ask.a, ask.b].map(f64::from_bits);
+    let mut share = f64::from(ask.part) / f64::from(ask.total);
+    if fault == "rounded up" && !ask.part.is_multiple_of(ask.total.max(1)) {
+        share = share.next_up();
+    }
+    let bad = |limit: f64| match limit.is_nan() {
+        true => fault != "NaN let through",
+        false => !(0.0..=1.0).contains(&limit),
+    };
+    let own = match ask.kind {
+        1 => bad(a),
+        2 => bad(b),
+        3 => bad(a) || bad(b) || (a > b && fault != "a above b"),
+        _ => true,
+    };
+    let above = ask.part > ask.total;
+    let least = if fault == "at least is above" { share > a } else { share >= a };
+    let holds = [false, least, share <= b, least && share <= b];
+    match () {
+        () if own || (fault == "b looked at" && ask.kind == 1 && bad(b)) => [18, 0],
+        () if fault == "20 first" && above => [20, 0],
+        () if ask.total == 0 => {
+            [if fault == "nothing passes" { 0 } else { 19 }, u64::from(fault == "nothing passes")]
+        }
+        () if above => [20, 0],
+        () => [0, holds[ask.kind as usize].into()],
+    }
+}
+
+/// Each of these faults shows in one gate of five hundred or more often; without one there is no difference.
+#[test]
+fn planted_faults_of_gates_show() {
+    let faults = [
+        "",
+        "at least is above",
+        "NaN let through",
+        "20 first",
+        "nothing passes",
+        "a above b",
+        "b looked at",
+        "rounded up",
+    ];
+    let asks = gates::Asks::random(1).0;
+    for fault in faults {
+        let differs = |ask: &&gates::Ask| ask.by_reference() != wrong_gate(fault, **ask);
+        let seen = asks.iter().filter(differs).count();
+        assert!(if fault.is_empty() { seen == 0 } else { seen >= 20 }, "{fault}: {seen}");
     }
 }

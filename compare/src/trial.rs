@@ -3,6 +3,7 @@
 use crate::engines;
 use crate::figures::Figures;
 use crate::finds;
+use crate::gates::Asks;
 use crate::list::CallList;
 use crate::os::{end_after, in_child, End};
 use crate::program::Input;
@@ -15,6 +16,7 @@ pub enum Kind {
     Finds,
     Engine,
     Evidence,
+    Gates,
     Program,
 }
 
@@ -25,6 +27,7 @@ impl Kind {
             Kind::Finds => "finds",
             Kind::Engine => "engine",
             Kind::Evidence => "evidence",
+            Kind::Gates => "gates",
             Kind::Program => "program",
         }
     }
@@ -37,6 +40,7 @@ pub enum Trial {
     /// By the engines of engine/.
     Engine(CallList),
     Evidence(LookUp),
+    Gates(Asks),
     Program(Input),
 }
 
@@ -51,6 +55,7 @@ impl Trial {
             Kind::Finds => Trial::Finds(finds::random_list(seed)),
             Kind::Engine => Trial::Engine(engines::random_list(seed)),
             Kind::Evidence => Trial::Evidence(LookUp::random(seed)),
+            Kind::Gates => Trial::Gates(Asks::random(seed)),
             Kind::Program => Trial::Program(Input::random(seed)),
         }
     }
@@ -61,6 +66,7 @@ impl Trial {
             Trial::Finds(list) => list.difference_in_finds(figures),
             Trial::Engine(list) => engines::difference(list, figures),
             Trial::Evidence(look_up) => look_up.difference(figures),
+            Trial::Gates(asks) => asks.difference(figures),
             Trial::Program(input) => input.difference(figures),
         }
     }
@@ -71,6 +77,7 @@ impl Trial {
             Trial::Finds(list) => Box::new(list.smaller().map(Trial::Finds)),
             Trial::Engine(list) => Box::new(list.smaller().map(Trial::Engine)),
             Trial::Evidence(look_up) => Box::new(look_up.smaller().map(Trial::Evidence)),
+            Trial::Gates(asks) => Box::new(asks.smaller().map(Trial::Gates)),
             Trial::Program(input) => Box::new(input.smaller().map(Trial::Program)),
         }
     }
@@ -79,6 +86,7 @@ impl Trial {
         match self {
             Trial::Calls(list) | Trial::Finds(list) | Trial::Engine(list) => list.show(),
             Trial::Evidence(look_up) => look_up.show(),
+            Trial::Gates(asks) => asks.show(),
             Trial::Program(input) => input.show(),
         }
     }

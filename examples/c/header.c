@@ -410,6 +410,8 @@ static void answers_have_texts(void)
 {
     for (unsigned a = XAPOOL_DONE; a <= XAPOOL_COVERED; a++)
         CHECK(strcmp(xapool_answer_text(a), xapool_answer_text(16)) != 0);
+    for (unsigned a = XAPOOL_BAD_GATE; a <= XAPOOL_PART_ABOVE_TOTAL; a++)
+        CHECK(strcmp(xapool_answer_text(a), xapool_answer_text(16)) != 0);
     CHECK(strcmp(xapool_answer_text(XAPOOL_TOO_FEW_NODES), "too few free nodes") == 0);
     CHECK(strcmp(xapool_answer_text(XAPOOL_POOL_LENGTH), "pool length is not 4 + 70 N words, N from 1 to 16384") == 0);
     CHECK(strcmp(xapool_answer_text(UINT64_MAX), xapool_answer_text(16)) == 0);
@@ -434,6 +436,44 @@ static void verdicts_have_texts(void)
     CHECK(xapool_compare(page, 4, page, 3).verdict == XAPOOL_DIFFERENT);
     CHECK(xapool_compare(page, 3, page + 1, 3).verdict == XAPOOL_DIFFERENT);
     CHECK(xapool_compare(page, 0, page, 0).verdict == XAPOOL_NOTHING_TO_COMPARE);
+}
+
+static void gives(uint64_t kind, double a, double b, uint32_t part, uint32_t total, uint64_t answer, uint64_t number)
+{
+    xapool_result r = xapool_gate(kind, a, b, part, total);
+    CHECK(r.answer == answer && r.number == number);
+}
+
+/* Figures by hand. A result of zeros that nobody wrote reads as a fail. */
+static void gates_are_as_said(void)
+{
+    static xapool_result nobody_wrote;
+    volatile double large = 1e308, infinite = large * 10;
+    /* The float nearest a third, and its neighbours: each is a whole number by a power of 2. */
+    const double minus_nought = -0.0, third = 6004799503160661.0 / 18014398509481984.0;
+    const double above = 3002399751580331.0 / 9007199254740992.0, below = 1501199875790165.0 / 4503599627370496.0;
+    CHECK(nobody_wrote.answer == XAPOOL_DONE && nobody_wrote.number == 0);
+    CHECK(xapool_floats_are_ieee());
+    gives(XAPOOL_MATCHED_AT_LEAST, 0, 2, 0, 1, XAPOOL_DONE, 1);
+    gives(XAPOOL_MATCHED_AT_LEAST, 1, 0, 1, 1, XAPOOL_DONE, 1);
+    gives(XAPOOL_MATCHED_AT_LEAST, third, 0, 1, 3, XAPOOL_DONE, 1);
+    gives(XAPOOL_MATCHED_AT_LEAST, above, 0, 1, 3, XAPOOL_DONE, 0);
+    gives(XAPOOL_UNREAD_AT_MOST, 2, third, 1, 3, XAPOOL_DONE, 1);
+    gives(XAPOOL_UNREAD_AT_MOST, 2, below, 1, 3, XAPOOL_DONE, 0);
+    gives(XAPOOL_MATCHED_BETWEEN, third, third, 1, 3, XAPOOL_DONE, 1);
+    gives(XAPOOL_MATCHED_AT_LEAST, 1, 0, UINT32_MAX - 1, UINT32_MAX, XAPOOL_DONE, 0);
+    gives(XAPOOL_MATCHED_AT_LEAST, 1, 0, UINT32_MAX, UINT32_MAX, XAPOOL_DONE, 1);
+    gives(XAPOOL_UNREAD_AT_MOST, 0, minus_nought, 0, 1, XAPOOL_DONE, 1);
+    gives(XAPOOL_MATCHED_AT_LEAST, -4.9406564584124654e-324, 0, 1, 1, XAPOOL_BAD_GATE, 0);
+    gives(XAPOOL_MATCHED_AT_LEAST, 4503599627370497.0 / 4503599627370496.0, 0, 1, 1, XAPOOL_BAD_GATE, 0);
+    gives(XAPOOL_MATCHED_AT_LEAST, infinite, 0, 1, 1, XAPOOL_BAD_GATE, 0);
+    gives(XAPOOL_MATCHED_AT_LEAST, infinite - infinite, 0, 0, 0, XAPOOL_BAD_GATE, 0);
+    gives(XAPOOL_MATCHED_BETWEEN, 0.5, 0.25, 2, 1, XAPOOL_BAD_GATE, 0);
+    gives(0, 0, 1, 1, 1, XAPOOL_BAD_GATE, 0);
+    gives(XAPOOL_MATCHED_AT_LEAST + (UINT64_C(1) << 32), 0, 1, 1, 1, XAPOOL_BAD_GATE, 0);
+    gives(XAPOOL_MATCHED_AT_LEAST, 0, 0, 0, 0, XAPOOL_NO_TOTAL, 0);
+    gives(XAPOOL_UNREAD_AT_MOST, 0, 1, 1, 0, XAPOOL_NO_TOTAL, 0);
+    gives(XAPOOL_MATCHED_AT_LEAST, 0, 0, 2, 1, XAPOOL_PART_ABOVE_TOTAL, 0);
 }
 
 static void null_with_length_0_is_fine(void)
@@ -492,6 +532,7 @@ int main(void)
     limits();
     answers_have_texts();
     verdicts_have_texts();
+    gates_are_as_said();
     null_with_length_0_is_fine();
     bytes_may_begin_anywhere();
     puts(failures ? "some do not hold" : "all hold");

@@ -295,6 +295,32 @@ static void a_pause_is_never_the_end(void)
     walked(0, UINT64_MAX, 1, 0, 1);
 }
 
+/* While it walks, what it found is taken out, and what comes next is moved to an entry of order 1 over it: every region is
+ * met all the same, for some entry with the mark covers it at each find until it is reported. */
+static void a_walk_over_changes(void)
+{
+    const uint64_t first = 262144 - 1100, count = 1100;
+    static unsigned char met[1100];
+    fill_for_a_walk();
+    memset(met, 0, sizeof met);
+    xapool_walk walk = xapool_walk_over(pool, XAPOOL_WORDS(NODES), 0, UINT64_MAX, XAPOOL_MATCHED_MARK);
+    walk.budget = 3;
+    while (xapool_walk_next(&walk) == XAPOOL_WALK_FOUND) {
+        xapool_job job = xapool_job_over(pool, XAPOOL_WORDS(NODES), bytes, sizeof bytes, replies, sizeof replies);
+        uint64_t index = walk.reply.index, last = xapool_last_index(index, walk.reply.order), next = (last + 1) & ~UINT64_C(1);
+        for (uint64_t i = index; i <= last && i < first + count; i++)
+            met[i - first] = 1;
+        int put = xapool_job_erase(&job, index);
+        if (next > last && next < first + count)
+            put = put && xapool_job_store(&job, next, 1, 3) && xapool_job_mark(&job, next, XAPOOL_MATCHED_MARK);
+        CHECK(put && xapool_job_end(&job));
+        walk.budget = 1 + walk.found % 7;
+    }
+    CHECK(walk.outcome == XAPOOL_WALK_ENDED && walk.pauses > 0);
+    for (uint64_t i = 0; i < count; i++)
+        CHECK(met[i]);
+}
+
 /* Trouble is no end either. */
 static void trouble_is_not_the_end(void)
 {
@@ -472,6 +498,7 @@ int main(void)
     nodes_of_a_range_hold_it();
     nodes_of_two_ranges();
     a_pause_is_never_the_end();
+    a_walk_over_changes();
     trouble_is_not_the_end();
     a_list_has_its_memory();
     files();

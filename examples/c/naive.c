@@ -79,6 +79,8 @@ static int nothing_looked_at(void)
     xapool_compare(bytes, 64, replies, 64); /* dropped */
     xapool_crc32c(0, bytes, 64); /* dropped */
     xapool_evidence(bytes, 64, replies, 64, 7); /* dropped */
+    xapool_gate(XAPOOL_MATCHED_AT_LEAST, 1, 1, 64, 64); /* dropped */
+    xapool_floats_are_ieee(); /* dropped */
     xapool_list(pool, XAPOOL_WORDS(NODES), 0, UINT64_MAX, bytes, sizeof bytes); /* dropped */
     return 1;
 }

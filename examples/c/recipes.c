@@ -79,6 +79,17 @@ static const uint8_t *text_of(const uint8_t *base, size_t base_bytes, const uint
     return (part.sheet == XAPOOL_SUPPLEMENT ? supplement : base) + part.place;
 }
 
+/* How to put a job through a gate */
+
+/* Whether enough of a job is matched and little enough unread. All that is no pass is 0, also what cannot be told. */
+static int job_passes(uint32_t matched, uint32_t unread, uint32_t total, double least, double most)
+{
+    if (!xapool_floats_are_ieee())
+        return 0;
+    return xapool_gate(XAPOOL_MATCHED_AT_LEAST, least, 0, matched, total).number == 1 &&
+           xapool_gate(XAPOOL_UNREAD_AT_MOST, 0, most, unread, total).number == 1;
+}
+
 /* Before you sign */
 
 typedef struct run {
@@ -182,6 +193,20 @@ static int find_in_each(xapool_job *job, const run *ranges, size_t count, unsign
     return xapool_job_flush(job) && put;
 }
 
+/* A walk while the pool changes */
+
+/* How many entries with mark 2 a walk meets while others work on the pool between its finds; -1 if it did not come to its
+ * end. A small budget bounds how long one find takes and loses nothing. */
+static int64_t walk_matched(uint64_t *pool, size_t pool_words, int (*meanwhile)(uint64_t *pool, size_t pool_words, uint64_t met))
+{
+    xapool_walk walk = xapool_walk_over(pool, pool_words, 0, UINT64_MAX, XAPOOL_MATCHED_MARK);
+    walk.budget = 5;
+    while (xapool_walk_next(&walk) == XAPOOL_WALK_FOUND)
+        if (!meanwhile(pool, pool_words, walk.reply.index))
+            return -1;
+    return walk.outcome == XAPOOL_WALK_ENDED ? (int64_t)walk.found : -1;
+}
+
 /* Saving and loading */
 
 /* Saves a pool, and loads it into other words. */
@@ -251,6 +276,14 @@ static void fill(uint64_t *words, uint64_t unmarked)
             put = put && xapool_job_mark(&job, index, XAPOOL_MATCHED_MARK);
     }
     CHECK(xapool_job_end(&job) && put);
+}
+
+static void gates(void)
+{
+    CHECK(job_passes(9990, 10, 10000, 0.999, 0.001) && !job_passes(9989, 10, 10000, 0.999, 0.001));
+    CHECK(!job_passes(9990, 11, 10000, 0.999, 0.001) && !job_passes(0, 0, 0, 0, 1));
+    CHECK(job_passes(UINT32_MAX, 0, UINT32_MAX, 1, 0) && !job_passes(UINT32_MAX - 1, 0, UINT32_MAX, 1, 0));
+    CHECK(!job_passes(2, 0, 1, 0, 1) && !job_passes(1, 0, 1, 2, 1));
 }
 
 static void evidence(void)
@@ -365,6 +398,27 @@ static void many_finds(void)
         CHECK(i < 100 ? found[i].answer == XAPOOL_DONE && found[i].index == i + (i == 70) : found[i].answer == XAPOOL_ENDED);
 }
 
+/* One entry far away comes, and one behind the walk goes. */
+static int come_and_go(uint64_t *words, size_t pool_words, uint64_t met)
+{
+    xapool_job job = xapool_job_over(words, pool_words, bytes, sizeof bytes, replies, sizeof replies);
+    return xapool_job_store(&job, 8192 + met % 64, 0, 3) && xapool_job_erase(&job, met) && xapool_job_end(&job);
+}
+
+static int refuse(uint64_t *words, size_t pool_words, uint64_t met)
+{
+    (void)words, (void)pool_words;
+    return met != 50;
+}
+
+static void walks(void)
+{
+    fill(pool, 70);
+    CHECK(walk_matched(pool, WORDS, refuse) == -1);
+    CHECK(walk_matched(pool, WORDS, come_and_go) == 100);
+    CHECK(walk_matched(pool, WORDS, come_and_go) == 0);
+}
+
 static void pool_files(void)
 {
     char path[] = "/tmp/xapool-recipe-XXXXXX";
@@ -402,6 +456,7 @@ int main(void)
     if (!freopen("/dev/null", "w", stderr)) /* what the recipes say where they must fail */
         return 1;
     evidence();
+    gates();
     room();
     comparison();
     written();
@@ -409,6 +464,7 @@ int main(void)
     whole_batches();
     large_pools();
     many_finds();
+    walks();
     pool_files();
     halves();
     puts(failures ? "some do not hold" : "all hold");

@@ -65,6 +65,7 @@ static void *calls(void *argument)
         must(xapool_check(pool, XAPOOL_WORDS(XAPOOL_MAX_NODES)));
         must(xapool_count(b.bytes, b.used));
         *ran += xapool_evidence(b.bytes, b.used, NULL, 0, round).answer == XAPOOL_DONE; /* a batch is no sheet */
+        must(xapool_gate(XAPOOL_MATCHED_BETWEEN, 0, 1, round, 40));
         must(xapool_list(pool, XAPOOL_WORDS(XAPOOL_MAX_NODES), 0, UINT64_MAX, list, sizeof list));
     }
     return NULL;

@@ -19,12 +19,12 @@
 //!
 //! A [`Pool`] owns or borrows its words and runs [`Command`]s: [`Pool::run_all`] any number,
 //! [`Pool::run`] one batch that a [`BatchBuilder`] gathered, [`Pool::find`] the finds that go through
-//! a range; [`Pool::list`] gives a range's entries in one call, as bytes to keep. Each command has one
+//! a range, [`Walk`] the same with a pool that may change in between; [`Pool::list`] gives a range's entries in one call, as bytes to keep. Each command has one
 //! [`Reply`], whose [`Answer`] says whether it was done: [`Replies::all_done`] looks at all of them. A
 //! call that the library refuses is a [`Refusal`]: nothing ran. [`Pool::save`] and [`Pool::load`] keep a
 //! pool in a file with a digest. [`compare`] says whether two regions match, and [`Crc32c`] is their
-//! digest. [`evidence`] is the text that a base sheet or its supplement has of a region. A record that is
-//! not there is never a match: see 'Before you sign' in docs/HOST.md and
+//! digest. [`evidence`] is the text that a base sheet or its supplement has of a region. A [`Gate`] says
+//! whether a share of the job is within its limits. A record that is not there is never a match: see 'Before you sign' in docs/HOST.md and
 //! examples/inspection.rs. Nothing here panics, whatever it is given, but for an index past the end of
 //! [`Replies`]; `unsafe` is in [`raw`] alone.
 
@@ -36,6 +36,7 @@ mod command;
 mod evidence;
 mod file;
 mod find;
+mod gate;
 pub mod layout;
 mod list;
 mod pool;
@@ -44,6 +45,7 @@ mod region;
 mod reply;
 #[cfg(test)]
 mod tests;
+mod walk;
 mod word;
 
 pub use answer::{Answer, Error, Refusal, RefusedBatch};
@@ -57,6 +59,7 @@ pub use evidence::{
 };
 pub use file::FileError;
 pub use find::{Finds, MOST_FINDS};
+pub use gate::{floats_are_ieee, Gate, GateRefusal};
 pub use list::{BadListed, ListFault, Listing, LISTED_BYTES};
 pub use pool::{
     bytes_of_words, node_count, nodes_for, pool_words, words_of_bytes, Pool, MOST_NODES,
@@ -66,6 +69,7 @@ pub use reply::{
     BadRecord, Entry, Marks, NotDone, Place, ProgramError, Record, Records, Replies, Reply,
     REPLY_BYTES,
 };
+pub use walk::Walk;
 pub use word::{Kind, NotAHandle, TooLarge, Word};
 
 /// The Rust blocks of docs/HOST.md are run as tests.

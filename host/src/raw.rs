@@ -5,9 +5,9 @@
 #[derive(Clone, Copy, Debug, PartialEq, Eq)]
 #[must_use]
 pub struct RawResult {
-    /// 0 done, 1 to 4 refused; of a list also 8.
+    /// 0 done, 1 to 4 refused; of a list also 8, of a gate 18 to 20.
     pub answer: u64,
-    /// Commands, entries, or the place of a bad record; see [`Refusal`](crate::Refusal).
+    /// Commands, entries, or the place of a bad record; see [`Refusal`](crate::Refusal). Of a gate 1 is a pass.
     pub number: u64,
 }
 
@@ -73,6 +73,7 @@ extern "C" {
         supplement_bytes: usize,
         index: u64,
     ) -> RawPart;
+    fn xapool_gate(kind: u64, a: f64, b: f64, part: u32, total: u32) -> RawResult;
 }
 
 /// Makes the words an empty pool, whatever stood there.
@@ -134,4 +135,10 @@ pub fn evidence(base: &[u8], supplement: &[u8], index: u64) -> RawPart {
     let (base_bytes, bytes) = (base.len(), supplement.len());
     // SAFETY: two slices borrowed for the call, which only reads.
     unsafe { xapool_evidence(base.as_ptr(), base_bytes, supplement.as_ptr(), bytes, index) }
+}
+
+/// Whether a gate of this kind passes. Its answer is worth nothing unless [`floats_are_ieee`](crate::floats_are_ieee).
+pub fn gate(kind: u64, a: f64, b: f64, part: u32, total: u32) -> RawResult {
+    // SAFETY: numbers alone.
+    unsafe { xapool_gate(kind, a, b, part, total) }
 }

@@ -10,6 +10,7 @@ pub mod calls;
 pub mod command;
 pub mod evidence;
 pub mod find;
+pub mod gates;
 pub mod listing;
 pub mod lists;
 pub mod model;

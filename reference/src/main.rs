@@ -1,9 +1,10 @@
-//! The program: one batch from standard input on a fresh pool of 40 nodes; also `lists` and `evidence`.
+//! The program: one batch from standard input on a fresh pool of 40 nodes; also `lists`, `evidence` and `gates`.
 
 use reference::answers::{BAD_BATCH, DONE};
 use reference::batch::REPLY_BYTES;
 use reference::calls::{init, run, Outcome};
 use reference::evidence::{look_up, Sheet};
+use reference::gates::verdict;
 use reference::lists;
 use reference::pool::pool_length;
 use std::io::{self, BufWriter, Read, Write};
@@ -23,7 +24,8 @@ fn main() -> ExitCode {
         [] => run_program(),
         [name, seed, count, most] if name == "lists" => print_lists([seed, count, most]),
         [name] if name == "evidence" => look_ups(),
-        _ => Err(io::Error::other("usage: reference [lists SEED COUNT MAXLEN | evidence]")),
+        [name] if name == "gates" => gates(),
+        _ => Err(io::Error::other("usage: reference [lists SEED COUNT MAXLEN | evidence | gates]")),
     };
     match written {
         Ok(()) => ExitCode::SUCCESS,
@@ -83,6 +85,21 @@ fn look_ups() -> io::Result<()> {
         out.extend([found.answer, u8::from(sheet == Sheet::Supplement)]);
         out.extend([part.start as u16, part.len() as u16].map(u16::to_be_bytes).as_flattened());
         rest = after;
+    }
+    io::stdout().write_all(&out)
+}
+
+/// For scripts/planted-faults, gates in a row: a byte of kind, eight bytes each of the limits' bits, four each of
+/// part and total. Of each is written: answer, and 1 for a pass.
+fn gates() -> io::Result<()> {
+    let (mut all, mut out) = (Vec::new(), Vec::new());
+    io::stdin().read_to_end(&mut all)?;
+    for ask in all.chunks_exact(25) {
+        let number = |bytes: &[u8]| bytes.iter().fold(0, |n, byte| n * 256 + u64::from(*byte));
+        let [a, b] = [&ask[1..9], &ask[9..17]].map(|bits| f64::from_bits(number(bits)));
+        let [part, total] = [&ask[17..21], &ask[21..25]].map(|count| number(count) as u32);
+        let given = verdict(ask[0].into(), a, b, part, total);
+        out.extend([given.answer, given.pass.into()]);
     }
     io::stdout().write_all(&out)
 }

@@ -6,7 +6,7 @@ mod pools;
 
 use crate::args::Arguments;
 use crate::failure::{usage, Failure};
-use crate::{evidence, files, help, pool_file, regions};
+use crate::{evidence, files, gate, help, pool_file, regions};
 use std::ffi::OsString;
 
 pub fn act(name: &str, words: &[OsString]) -> Result<(), Failure> {
@@ -30,6 +30,10 @@ pub fn act(name: &str, words: &[OsString]) -> Result<(), Failure> {
             ],
         )?),
         "list" => pools::list(Arguments::of(words, &[("--bytes", false), ("--json", false)])?),
+        "find" => pools::find(Arguments::of(
+            words,
+            &[("--all", false), ("--mark", true), ("--budget", true), ("--json", false)],
+        )?),
         "new" => pool_file::create(Arguments::of(words, &[])?),
         "run" => pool_file::run(Arguments::of(words, &pool_file::RUN_OPTIONS)?),
         "crc" => regions::crc(Arguments::of(words, &[])?),
@@ -37,6 +41,7 @@ pub fn act(name: &str, words: &[OsString]) -> Result<(), Failure> {
             regions::compare(Arguments::of(words, &[("--bytes", false), ("--json", false)])?)
         }
         "evidence" => evidence::evidence(Arguments::of(words, &[])?),
+        "gate" => gate::gate(words),
         _ => Err(usage(format!("'{name}': no such command; try 'xabatch --help'"))),
     }
 }

@@ -11,11 +11,13 @@ usage: xabatch encode [--long | --split PREFIX] [FILE]     text to a batch
        xabatch decode [OPTIONS] [FILE]                     replies, a refused call, a batch or a list to text
        xabatch show [OPTIONS] POOLFILE                     a pool as a tree, and what is wrong with it
        xabatch list [OPTIONS] POOLFILE [FIRST..LAST]       the entries of a pool, as evidence
+       xabatch find [OPTIONS] POOLFILE [FIRST..LAST]       the entries of a pool with a mark, the first or all
        xabatch new NODES [POOLFILE]                        an empty pool of 1 to 16,384 nodes
        xabatch run [OPTIONS] POOLFILE [FILE]               a batch on a pool file; replies to standard output
        xabatch crc [FILE..]                                the digest CRC-32C of each file
        xabatch compare [OPTIONS] OLD NEW                   whether two files match: before you erase one
        xabatch evidence BASE SUPPLEMENT INDEX              the text that was written about an index
+       xabatch gate KIND LIMIT.. PART TOTAL                whether a share of a job is within its limits
        xabatch help COMMAND                                more on one of these; also xabatch COMMAND -h
        xabatch --version
 
@@ -26,7 +28,7 @@ Exit status: 0 fine; 1 the input is malformed, the pool is not well-formed, the 
 or a file or the output cannot be read or written; 2 bad usage or a syntax error in the text, which
 is named by FILE:LINE:COLUMN; 3 of run and new: a flush to disk failed; 4 of run --strict: not every
 command was done, and nothing is kept; of evidence: neither sheet names the index. Of compare: 0 matched;
-1 different; 2 nothing to compare, or a fault.
+1 different; 2 nothing to compare, or a fault. Of gate: 0 pass; 1 fail; 2 refused, or a fault.
 ";
 
 const ENCODE: &str = "\
@@ -114,6 +116,24 @@ held, and there is no entry. The pool is only read.
             index. Keep it as evidence; 'xabatch decode' writes its lines
   --json    one object: first, last and entries, each with its index, order, word, value or handle, and
             marks; a reserved index has 'reserved' in their place
+
+The exit status is 1, and nothing is written, if the pool is not well-formed: 'xabatch show' says
+what is wrong.
+";
+
+const FIND: &str = "\
+usage: xabatch find [--all] [--mark MARK] [--budget STEPS] [--json] POOLFILE [FIRST..LAST]
+
+Writes a line for the first entry that covers an index from FIRST to LAST, both included (all if they
+are not named), and has the mark, as 'xabatch list' writes it. An entry that begins before FIRST or ends
+after LAST is written whole. A reserved index is no entry. The pool is only read. Where there is none
+nothing is written: that says nothing of an index without an entry.
+
+  --all      not the first alone, but all of them, in index order and each once
+  --mark     0, 1 or 2 (2 is 'matched'); any entry if it is not named
+  --budget   so many steps a find, 1 to 65,535, which it is if not named. A find that pauses goes on where it
+             paused, so what is written is the same with any
+  --json     one object: first, last and entries, as of 'xabatch list'
 
 The exit status is 1, and nothing is written, if the pool is not well-formed: 'xabatch show' says
 what is wrong.
@@ -226,17 +246,39 @@ anything; 1 a sheet is malformed, wherever the damage is (a record cut off, anot
 or a file or the output cannot be read or written; 2 bad usage. Unless it is 0, no text is given.
 ";
 
+const GATE: &str = "\
+usage: xabatch gate at-least A MATCHED TOTAL
+       xabatch gate at-most B UNREAD TOTAL
+       xabatch gate between A B MATCHED TOTAL
+
+Says whether a share of a job is within its limits, and writes 'pass: ..' or 'fail: ..':
+
+  at-least A    the matched share is at least A
+  at-most B     the unread share is at most B
+  between A B   the matched share is at least A and at most B
+
+A limit is a decimal from 0 to 1, or the bits of a float as 0x and 16 digits; MATCHED, UNREAD and TOTAL are
+counts up to 4,294,967,295, decimal or hex. The share is one division of 64-bit floats, rounded once: one that is
+exactly at its limit passes, and 'at-least 1' passes only if all is matched.
+
+Exit status: 0 pass, and nothing else; 1 fail; 2 refused, or a fault: a limit that is not a number from 0 to 1,
+or A above B; a total of 0, which never passes; a part above its total; floats that do not round to nearest or
+lose subnormals, before anything else; bad usage; a verdict that cannot be written.
+";
+
 fn text_of(command: &str) -> Option<&'static str> {
     Some(match command {
         "encode" => ENCODE,
         "decode" => DECODE,
         "show" => SHOW,
         "list" => LIST,
+        "find" => FIND,
         "new" => NEW,
         "run" => RUN,
         "crc" => CRC,
         "compare" => COMPARE,
         "evidence" => EVIDENCE,
+        "gate" => GATE,
         _ => return None,
     })
 }

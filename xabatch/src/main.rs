@@ -1,11 +1,12 @@
-//! xabatch: batches and replies as text, pool files, digests and comparisons of files, and texts of
-//! evidence.
+//! xabatch: batches and replies as text, pool files, digests and comparisons of files, texts of evidence,
+//! and gates.
 
 mod args;
 mod commands;
 mod evidence;
 mod failure;
 mod files;
+mod gate;
 mod help;
 mod os;
 mod pool_file;

@@ -391,8 +391,9 @@ well-formed
     assert_eq!(tool(&["show", "--summary", "--findings", "-"], &[]).0, 2);
 }
 
-const COMMANDS: [&str; 9] =
-    ["encode", "decode", "show", "list", "new", "run", "crc", "compare", "evidence"];
+const COMMANDS: [&str; 11] = [
+    "encode", "decode", "show", "list", "find", "new", "run", "crc", "compare", "evidence", "gate",
+];
 
 #[test]
 fn version_help_and_the_man_page() {

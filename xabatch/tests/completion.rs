@@ -56,8 +56,10 @@ fn commands_options_and_files_are_offered() {
 fn what_is_offered_is_known() {
     let folder = Folder::new();
     let all = offered(&folder, &[""]);
-    let commands =
-        ["encode", "decode", "show", "list", "new", "run", "crc", "compare", "evidence", "help"];
+    let commands = [
+        "encode", "decode", "show", "list", "find", "new", "run", "crc", "compare", "evidence",
+        "gate", "help",
+    ];
     for command in commands {
         assert!(all.iter().any(|name| name == command), "{command}: {all:?}");
     }

@@ -1,5 +1,5 @@
--- The answers of calls and replies (R68 to R80, R181, R205), under the names of include/xapool.h, and the result that a call
--- gives. 16 to 20 come with the requests that use them: P10 to P14.
+-- The answers of calls and replies (R68 to R80, R181, R205, R272 to R274), under the names of include/xapool.h, and the result that a
+-- call gives. 16 and 17 come with the requests that use them: P10, P11.
 use Prim.Native.Nat.{ℕ}
 pub use Rattle.answers.specs.declared.Result.{Result}
 
@@ -53,6 +53,16 @@ notAligned = 14
 -- (`covered` is the model's)
 abbrev pub isCovered : ℕ
 isCovered = 15
+
+-- OF A GATE
+abbrev pub badGate : ℕ
+badGate = 18
+
+abbrev pub noTotal : ℕ
+noTotal = 19
+
+abbrev pub partAboveTotal : ℕ
+partAboveTotal = 20
 
 -- THE RESULT: the answer, and the number that goes with it (R68 to R72)
 abbrev pub result : (answer number : ℕ) → Result

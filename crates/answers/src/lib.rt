@@ -1,5 +1,5 @@
-// The answers of calls and replies, under the names of include/xapool.h (R68 to R80, R181, R205), and the result that a call
-// gives. 16 to 20 come with the requests that use them: P10 to P14.
+// The answers of calls and replies, under the names of include/xapool.h (R68 to R80, R181, R205, R272 to R274), and the result that
+// a call gives. 16 and 17 come with the requests that use them: P10, P11.
 pub const DONE: u64 = 0;
 
 pub const POOL_LENGTH: u64 = 1;
@@ -31,6 +31,12 @@ pub const PAUSED: u64 = 13;
 pub const NOT_ALIGNED: u64 = 14;
 
 pub const COVERED: u64 = 15;
+
+pub const BAD_GATE: u64 = 18;
+
+pub const NO_TOTAL: u64 = 19;
+
+pub const PART_ABOVE_TOTAL: u64 = 20;
 
 // What a call answers: the number of the answer, and the number that goes with it (R68 to R72).
 #[repr(C)]

@@ -43,7 +43,22 @@ use Rattle.execute.proofs.TableLaws.{rows, row-sole}
 use Rattle.calls.specs.Calls.{Called, run, runParsed, replies, listOver}
 use Rattle.answers.specs.Answers.{result, done}
 use Rattle.calls.specs.Running.{wordsOf}
-use Rattle.calls.specs.Demand.{Call, Call.init, Call.check, Call.batch, Call.list, Bytewise, ShortExact, ReserveShort, Commanded, AtCommand, AtBatch, AtCall, Demand3, Starts}
+use Rattle.calls.specs.Demand.{
+  Call,
+  Call.init,
+  Call.check,
+  Call.batch,
+  Call.list,
+  Bytewise,
+  ShortExact,
+  ReserveShort,
+  Commanded,
+  AtCommand,
+  AtBatch,
+  AtCall,
+  Demand3,
+  Starts,
+}
 use Rattle.calls.proofs.ListCallLaws.{list-checked}
 use Rattle.calls.proofs.DemandLaws.{
   states-list,

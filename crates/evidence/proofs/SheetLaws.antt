@@ -65,7 +65,14 @@ module _ (s : List ℕ) (at : ℕ) where
 
   pub size-full : {n : ℕ} → at < length s → getD s at 0 ≡ 48 → n ≡ bodyBytes s at → 8 ≤ n → 3 + n ≤ length s - at → 3 + n ≡ sizeAt s at
   unfolding sizeAt
-  size-full {n} h g e b l = rw (← e, le-leb (at + 3) (length s) (omega arith), eq-eqb (getD s at 0) 48 g, le-leb 8 n b, le-leb (at + 3 + n) (length s) (omega arith))
+  size-full {n} h g e b l = rw (
+    ← e,
+    le-leb (at + 3) (length s) (omega arith),
+    eq-eqb (getD s at 0) 48 g,
+    le-leb 8 n b,
+    le-leb
+        (at + 3 + n) (length s) (omega arith),
+  )
 
 -- THE RECORDS IN ORDER
 -- more than enough places to read change nothing

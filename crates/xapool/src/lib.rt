@@ -1,4 +1,5 @@
 // The exports of the library, a file for each family: an archive has those of one crate.
+mod gates;
 mod pool;
 mod regions;
 mod sheets;

@@ -6,6 +6,7 @@ mod counts;
 mod damaged;
 mod evidence;
 mod finds;
+mod gates;
 mod helpers;
 mod invariants;
 mod listing;

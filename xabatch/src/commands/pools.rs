@@ -1,12 +1,14 @@
-//! `show` and `list`: what a pool file holds.
+//! `show`, `list` and `find`: what a pool file holds.
 
 use crate::args::Arguments;
 use crate::failure::{malformed, usage, Failure};
 use crate::files::{self, of_file};
 use std::ffi::{OsStr, OsString};
+use std::fmt::Display;
+use std::ops::RangeInclusive;
 use xabatch::kind::FileKind;
 use xabatch::{decode, draw, inspect, json, text};
-use xapool_host::{node_count, Pool};
+use xapool_host::{node_count, Entry, Pool, FIND_ANY};
 
 pub fn show(arguments: Arguments) -> Result<(), Failure> {
     let file = &arguments.between(1, 1)?[0];
@@ -70,6 +72,43 @@ pub fn list(arguments: Arguments) -> Result<(), Failure> {
         return files::write_lines(&[object.with("entries", entries).end()]);
     }
     files::write_lines(&list.map(|entry| entry.to_string()).collect::<Vec<_>>())
+}
+
+/// The walk of `Pool::find`, over the pauses of any budget: it misses no entry (`no-index-missed` and
+/// `budgets-agree` of crates/walks). The file is read once, so nothing changes in between.
+pub fn find(arguments: Arguments) -> Result<(), Failure> {
+    let named = arguments.between(1, 2)?;
+    let (first, last) = range_of("", named.get(1).map(OsString::as_os_str))?;
+    let filter = number_of(&arguments, "--mark", 0..=2, FIND_ANY)?;
+    let budget = number_of(&arguments, "--budget", 1..=u16::MAX, u16::MAX)?;
+    let file = &named[0];
+    let mut pool = Pool::from_words(read_words(file)?);
+    let most = if arguments.has("--all") { usize::MAX } else { 1 };
+    let found = pool.find(first..=last, filter).with_budget(budget).take(most);
+    let found: Vec<Entry> =
+        found.collect::<Result<_, _>>().map_err(|error| of_file(file, error))?;
+    if arguments.has("--json") {
+        let entries = found.iter().map(|entry| format!("\n{}", decode::entry_json(*entry)));
+        let object = json::Object::new().with("first", first).with("last", last);
+        return files::write_lines(&[object.with("entries", json::array(entries)).end()]);
+    }
+    files::write_lines(&found.iter().map(Entry::to_string).collect::<Vec<_>>())
+}
+
+/// The number that an option names, of these; another if it is not given.
+fn number_of<T: TryFrom<u64> + PartialOrd + Display>(
+    arguments: &Arguments,
+    name: &str,
+    of: RangeInclusive<T>,
+    else_is: T,
+) -> Result<T, Failure> {
+    let Some(value) = arguments.value(name).map(OsStr::to_string_lossy) else {
+        return Ok(else_is);
+    };
+    let number = text::index_of(&value).ok().and_then(|number| T::try_from(number).ok());
+    let refused =
+        || usage(format!("{name} {value}: not a number from {} to {}", of.start(), of.end()));
+    number.filter(|number| of.contains(number)).ok_or_else(refused)
 }
 
 /// The words of a pool file; a file of another kind is named.

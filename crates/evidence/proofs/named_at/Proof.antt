@@ -15,13 +15,26 @@ number8-requires : tie.Need-number8-requires
 number8-requires c κs = let w = good (c .before .args .s .now) (c .before .args .at) (c .before .pre .0) in omega (arith, w .ends, w .body)
 
 add-t8 : tie.Need-add-t8
-add-t8 c = let w = good (c .before .before .before .args .s .now) (c .before .before .before .args .at) (c .before .before .before .pre .0) in omega (arith, w .ends, w .body)
+add-t8 c = let w = good (c .before .before .before .args .s .now) (c .before .before .before .args .at)
+    (c .before .before .before .pre .0) in omega (arith, w .ends, w .body)
 
 sub-t9 : tie.Need-sub-t9
-sub-t9 c = let w = good (c .before .before .before .args .s .now) (c .before .before .before .args .at) (c .before .before .before .pre .0) in omega (arith, c .before .before .before .pre .1, size-yes (c .before .before .before .args .s .now) (c .before .before .before .args .at) (c .before .before .before .pre .0), w .body)
+sub-t9 c = let w = good (c .before .before .before .args .s .now) (c .before .before .before .args .at)
+    (c .before .before .before .pre .0) in omega (
+      arith,
+      c .before .before .before .pre .1,
+      size-yes
+          (c .before .before .before .args .s .now) (c .before .before .before .args .at) (c .before .before .before .pre .0),
+      w .body,
+    )
 
 returns : tie.Need-returns
-returns c = rw (← c .before .number8 .ensures, eq-eqb _ _ (c .if1 .taken), text-size _ _ (c .before .before .before .pre .0) (c .before .before .before .pre .1))
+returns c = rw (
+  ← c .before .number8 .ensures,
+  eq-eqb _ _ (c .if1 .taken),
+  text-size _ _ (c .before .before .before .pre .0)
+      (c .before .before .before .pre .1),
+)
 
 returns-2 : tie.Need-returns-2
 returns-2 c = rw (← c .before .number8 .ensures, ne-eqb _ _ (c .if1 .left))

@@ -22,25 +22,34 @@ loop-holds c = (omega arith, refl)
 
 returns : tie.Need-returns Inv-loop μ-loop
 returns c = let s = c .before .before .before .before .before .args .s .now in let at = c .before .before .before .loop .at in
-    sym (sym (c .before .before .before .loop .inv .1) ∙ ap (soughtIn s (c .before .before .before .before .before .args .index) (c .before .before .before .loop .best)) (rest-bad s at (c .before .before .loop-test .taken) (no-size s at (c .before .size-at .ensures) (c .if1 .taken))))
+    sym (sym (c .before .before .before .loop .inv .1) ∙ ap (soughtIn s
+    (c .before .before .before .before .before .args .index) (c .before .before .before .loop .best)) (rest-bad s at
+    (c .before .before .loop-test .taken) (no-size s at (c .before .size-at .ensures) (c .if1 .taken))))
 
 named-at-requires : tie.Need-named-at-requires Inv-loop μ-loop
 named-at-requires c κs = (has-size _ _ (c .before .size-at .ensures) (c .if1 .left), c .before .size-at .ensures)
 
 add-at : tie.Need-add-at Inv-loop μ-loop
-add-at c = let s = c .before .before .before .before .before .before .before .args .s .now in let at = c .before .before .before .before .before .loop .at in let r = has-size s at (c .before .before .before .size-at .ensures) (c .before .before .if1 .left) in
+add-at c = let s = c .before .before .before .before .before .before .before .args .s .now in
+    let at = c .before .before .before .before .before .loop .at in
+    let r = has-size s at (c .before .before .before .size-at .ensures) (c .before .before .if1 .left) in
     omega (arith, good s at r .ends, size-yes s at r, c .before .before .before .size-at .ensures)
 
 loop-less : tie.Need-loop-less Inv-loop μ-loop
-loop-less c = let s = c .before .before .before .before .before .before .before .args .s .now in let at = c .before .before .before .before .before .loop .at in let r = has-size s at (c .before .before .before .size-at .ensures) (c .before .before .if1 .left) in
+loop-less c = let s = c .before .before .before .before .before .before .before .args .s .now in
+    let at = c .before .before .before .before .before .loop .at in
+    let r = has-size s at (c .before .before .before .size-at .ensures) (c .before .before .if1 .left) in
     omega (arith, good s at r .ends, size-yes s at r, c .before .before .before .size-at .ensures)
 
 loop-again : tie.Need-loop-again Inv-loop μ-loop
-loop-again c = let s = c .before .before .before .before .before .before .before .args .s .now in let at = c .before .before .before .before .before .loop .at in let i = c .before .before .before .before .before .before .before .args .index in
+loop-again c = let s = c .before .before .before .before .before .before .before .args .s .now in
+    let at = c .before .before .before .before .before .loop .at in
+    let i = c .before .before .before .before .before .before .before .args .index in
     let r = has-size s at (c .before .before .before .size-at .ensures) (c .before .before .if1 .left) in
     let e : c .before .before .before .size-at .result ≡ 3 + bodyBytes s at = c .before .before .before .size-at .ensures ∙ size-yes s at r in
     let go : soughtIn s i (newer s at i (c .before .before .before .before .before .loop .best)) (restAt s (at + (3 + bodyBytes s at))) ≡ seek s i =
-    sym (sought-on s at i (c .before .before .before .before .before .loop .best) (c .before .before .before .before .loop-test .taken) r) ∙ c .before .before .before .before .before .loop .inv .1 in
+    sym (sought-on s at i (c .before .before .before .before .before .loop .best)
+    (c .before .before .before .before .loop-test .taken) r) ∙ c .before .before .before .before .before .loop .inv .1 in
     (omega (arith, good s at r .ends), rw (c .over .ensures, c .before .named-at .ensures, e) go)
 
 returns-2 : tie.Need-returns-2 Inv-loop μ-loop

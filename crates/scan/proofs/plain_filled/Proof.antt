@@ -18,4 +18,5 @@ returns-4 c = both-plain _ _ _ _ _ _ (omega arith) (omega arith) (c .before .bef
     (omega arith) (omega arith)
 
 pub plain-filled-spec : {M : Type 1} → statement M
-plain-filled-spec = tie.close (tie.spec (λ c κs. omega arith) returns (λ c κs. omega arith) returns-2 (λ c κs. omega arith) returns-3 (λ c. omega arith) returns-4)
+plain-filled-spec = tie.close (tie.spec (λ c κs. omega arith) returns (λ c κs. omega arith) returns-2
+    (λ c κs. omega arith) returns-3 (λ c. omega arith) returns-4)

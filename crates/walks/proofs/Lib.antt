@@ -1,0 +1,5 @@
+pub mod MissLaws
+pub mod StillLaws
+pub mod ReadLaws
+pub mod HostLaws
+pub mod Example
