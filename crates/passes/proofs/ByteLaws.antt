@@ -5,7 +5,7 @@ use mathlib.Core.Bool.{Bool, true, false, not}
 use mathlib.Core.Logic.{_≢_}
 use mathlib.Core.List.{List}
 use native.Mathlib.Omega.{arith}
-use native.Mathlib.Nat.{div-one, pow-suc, zero-div, mod-eq-of-lt}
+use native.Mathlib.Nat.{div-one, pow-suc, zero-div}
 use lib.Pow.{pow-mono}
 use lib.Dec.{eqb, ltb}
 use lib.ListN.{length, getD, set, length-set}
@@ -17,10 +17,12 @@ use Rattle.blocks.specs.Blocks.{bit}
 use Rattle.blocks.proofs.BoolLaws.{byT}
 use Rattle.blocks.proofs.TwoWordLaws.{or-none, and-odd}
 use Rattle.decode.proofs.CoverLaws.{bit-suc}
+use Rattle.model.specs.Model.{reservedWord}
 use Rattle.tree.specs.Tree.{slots}
 use Rattle.layout.specs.Pool.{Pool}
 use Rattle.layout.specs.Reading.{Internal}
-use Rattle.passes.specs.Bytes.{Weighs, Framed, Bytes, unfitOf, Chained, ChainedTo, HeldTo, NoneLead}
+use Rattle.passes.specs.Bytes.{shortOf, Shorts, byteBy, notLeaf, notUpper, Weighs, Framed, Bytes, BytesFrom}
+use Rattle.passes.specs.Bytes.{unfitOf, Chained, ChainedTo, HeldTo, NoneLead}
 use Rattle.steps.specs.Steps.{filledTo}
 use Rattle.decode.proofs.ChainLaws.{bit-lt}
 
@@ -81,37 +83,156 @@ weighs large w f i b t ef ei eb et =
           (λ z. omega (arith, ltb-false 255 w z));
     }
 
--- THE BYTE OF A WORD ABOVE THE LEAVES
-pub upper-inner : (w b t : ℕ) → b ≡ pick (ltb w 256) 1 0 → t ≡ pick (ltb 255 w) 1 0 → (w * b + 5 * t) % 256 ≡ pick (ltb w 256) w 5
-upper-inner w b t eb et =
-    byT (ltb w 256)
-    (λ z. let l : w < 256 = ltb-true w 256 z in
-    let b1 : b ≡ 1 = eb ∙ ap (λ (x : Bool). pick x 1 0) z in
-    let t0 : t ≡ 0 = et ∙ ap (λ (x : Bool). pick x 1 0) (le-ltb 255 w (omega arith)) in
-    let k : w * b + 5 * t ≡ w = ap (λ (x : ℕ). w * x + 5 * t) b1 ∙ omega arith in
-    rw z (ap (λ (x : ℕ). x % 256) k ∙ mod-eq-of-lt l))
-    (λ z. let l : 256 ≤ w = ltb-false w 256 z in
-    let b0 : b ≡ 0 = eb ∙ ap (λ (x : Bool). pick x 1 0) z in
-    let t1 : t ≡ 1 = et ∙ ap (λ (x : Bool). pick x 1 0) (lt-ltb 255 w (omega arith)) in
-    let k : w * b + 5 * t ≡ 5 = ap (λ (x : ℕ). w * x + 5 * t) b0 ∙ omega arith in
-    rw z (ap (λ (x : ℕ). x % 256) k))
+-- THE BYTE OF A SHORT NUMBER
+pub times-le : (x b : ℕ) → b ≤ 1 → x * b ≤ x
+times-le x zero h = omega arith
+times-le x (suc zero) h = omega arith
+times-le x (suc (suc b)) h = absurd (omega arith)
 
--- so that the sum fits
-pub upper-once : (w b : ℕ) → b ≡ pick (ltb w 256) 1 0 → w * b < 256
-upper-once w b eb =
-    byT (ltb w 256)
-    (λ z. let l : w < 256 = ltb-true w 256 z in
-    let b1 : b ≡ 1 = eb ∙ ap (λ (x : Bool). pick x 1 0) z in
-    let e : w * b ≡ w = ap (λ (x : ℕ). w * x) b1 ∙ omega arith in omega arith)
+pub once-lt : (y b : ℕ) → b ≡ pick (ltb y 256) 1 0 → y * b < 256
+once-lt y b eb =
+    byT (ltb y 256)
+    (λ z. let h : y < 256 = ltb-true y 256 z in omega (arith, times-le y b (pick-le (ltb y 256) b eb)))
     (λ z. let b0 : b ≡ 0 = eb ∙ ap (λ (x : Bool). pick x 1 0) z in
-    let e : w * b ≡ 0 = ap (λ (x : ℕ). w * x) b0 ∙ omega arith in omega arith)
+    let k : y * b ≡ 0 = ap (λ (x : ℕ). y * x) b0 ∙ omega arith in omega arith)
 
-pub upper-fits : (w b t : ℕ) → b ≡ pick (ltb w 256) 1 0 → t ≡ pick (ltb 255 w) 1 0 → w * b + 5 * t < 512
-upper-fits w b t eb et = omega (arith, pick-le (ltb 255 w) t et, upper-once w b eb)
+module _ (t y b l : ℕ) (eb : b ≡ pick (ltb y 256) 1 0) (el : l ≡ pick (ltb 255 y) 1 0) where
+  inner-is : y * b + t * l ≡ pick (ltb y 256) y t
+  inner-is =
+      byT (ltb y 256)
+      (λ z. let h : y < 256 = ltb-true y 256 z in
+      let b1 : b ≡ 1 = eb ∙ ap (λ (x : Bool). pick x 1 0) z in
+      let l0 : l ≡ 0 = el ∙ ap (λ (x : Bool). pick x 1 0) (le-ltb 255 y (omega arith)) in
+      rw (z, b1, l0) (omega arith))
+      (λ z. let h : 256 ≤ y = ltb-false y 256 z in
+      let b0 : b ≡ 0 = eb ∙ ap (λ (x : Bool). pick x 1 0) z in
+      let l1 : l ≡ 1 = el ∙ ap (λ (x : Bool). pick x 1 0) (lt-ltb 255 y (omega arith)) in
+      rw (z, b0, l1) (omega arith))
+
+  pub inner-lt : t < 256 → y * b + t * l < 256
+  inner-lt h =
+      byT (ltb y 256)
+      (λ z. let k : y < 256 = ltb-true y 256 z in
+      let q : y * b + t * l ≡ y = inner-is ∙ ap (λ (x : Bool). pick x y t) z in omega (arith, q))
+      (λ z. let q : y * b + t * l ≡ t = inner-is ∙ ap (λ (x : Bool). pick x y t) z in omega (arith, q))
+
+  module _ (i e : ℕ) (ei : i ≡ pick (eqb (y % 4) 2) 1 0) (ee : e ≡ pick (not (eqb y 0)) 1 0) where
+    pub inner-once : t < 256 → (y * b + t * l) * i < 256
+    inner-once h = omega (arith, inner-lt h, times-le (y * b + t * l) i (pick-le (eqb (y % 4) 2) i ei))
+
+    pub outer-once : e * (1 - i) ≤ 1
+    outer-once = omega (arith, times-le e (1 - i) (omega arith), pick-le (not (eqb y 0)) e ee)
+
+    -- which of the two it is
+    chosen : (y * b + t * l) * i + e * (1 - i) ≡ pick (eqb (y % 4) 2) (y * b + t * l) e
+    chosen =
+        byT (eqb (y % 4) 2)
+        (λ z. let i1 : i ≡ 1 = ei ∙ ap (λ (x : Bool). pick x 1 0) z in rw (z, i1) (omega arith))
+        (λ z. let i0 : i ≡ 0 = ei ∙ ap (λ (x : Bool). pick x 1 0) z in rw (z, i0) (omega arith))
+
+    pub byte-by-is : (y * b + t * l) * i + e * (1 - i) ≡ byteBy t y
+    byte-by-is = chosen ∙ ap (λ (x : ℕ). pick (eqb (y % 4) 2) x e) inner-is ∙ ap (λ (x : ℕ). pick (eqb (y % 4) 2) (pick (ltb y 256) y t) x) ee
+
+    pub byte-by-lt : t < 256 → (y * b + t * l) * i + e * (1 - i) < 256
+    byte-by-lt h =
+        byT (eqb (y % 4) 2)
+        (λ z. let k : (y * b + t * l) * i + e * (1 - i) ≡ y * b + t * l = chosen ∙ ap (λ (x : Bool). pick x (y * b + t * l) e) z in
+        omega (arith, k, inner-lt h))
+        (λ z. let k : (y * b + t * l) * i + e * (1 - i) ≡ e = chosen ∙ ap (λ (x : Bool). pick x (y * b + t * l) e) z in
+        omega (arith, k, pick-le (not (eqb y 0)) e ee))
+
+-- A SHORT NUMBER SHOWS WHAT ITS WORD DOES
+short-small : (w : ℕ) → w < 8192 → shortOf w ≡ w
+short-small w h = rw (lt-ltb w 8192 h)
+
+short-large : (w : ℕ) → 8192 ≤ w → shortOf w ≡ 8192 + w % 4
+short-large w h = rw (le-ltb w 8192 h)
+
+-- a property of words that knows all large ones by their two lowest bits
+short-as : {A : Type 0} (f : ℕ → A) → ((w : ℕ) → 8192 ≤ w → f (8192 + w % 4) ≡ f w) → (w : ℕ) → f (shortOf w) ≡ f w
+short-as f h w =
+    byT (ltb w 8192)
+    (λ z. ap f (short-small w (ltb-true w 8192 z)))
+    (λ z. ap f (short-large w (ltb-false w 8192 z)) ∙ h w (ltb-false w 8192 z))
+
+short-filled : (w : ℕ) → eqb (shortOf w) 0 ≡ eqb w 0
+short-filled = short-as (λ (x : ℕ). eqb x 0) (λ w h. ne-eqb (8192 + w % 4) 0 (omega arith) ∙ sym (ne-eqb w 0 (omega arith)))
+
+short-inner : (w : ℕ) → shortOf w % 4 ≡ w % 4
+short-inner = short-as (λ (x : ℕ). x % 4) (λ w h. omega arith)
+
+short-low : (w : ℕ) → shortOf w < 256 → w < 256
+short-low w l =
+    byT (ltb w 8192)
+    (λ z. let e : shortOf w ≡ w = short-small w (ltb-true w 8192 z) in omega arith)
+    (λ z. let e : shortOf w ≡ 8192 + w % 4 = short-large w (ltb-false w 8192 z) in absurd (omega arith))
+
+pub short-byte : (t w : ℕ) → byteBy t (shortOf w) ≡ byteBy t w
+short-byte t = short-as (byteBy t) (λ w h.
+    let m : (8192 + w % 4) % 4 ≡ w % 4 = omega arith in
+    rw (m, le-ltb (8192 + w % 4) 256 (omega arith), le-ltb w 256 (omega arith), ne-eqb (8192 + w % 4) 0 (omega arith), ne-eqb w 0 (omega arith)))
+
+pub short-not-leaf : (w : ℕ) → notLeaf (shortOf w) ≡ notLeaf w
+short-not-leaf = short-as notLeaf (λ w h.
+    rw (ne-eqb (8192 + w % 4) reservedWord (omega arith), ne-eqb w reservedWord (omega arith)))
+
+pub short-not-upper : (w : ℕ) → notUpper (shortOf w) ≡ notUpper w
+short-not-upper = short-as notUpper (λ w h. le-ltb (8192 + w % 4) 4096 (omega arith) ∙ sym (le-ltb w 4096 (omega arith)))
+
+weighs-word : (large : ℕ → Bool) (w y r : ℕ) → large y ≡ large w → y ≡ shortOf w → Weighs large y r → Weighs large w r
+weighs-word large w y r same e g = record {
+  few = g .few;
+  is = λ h. g .is h ∙ ap (λ (x : Bool). pick (not x) 1 0) (ap (λ (x : ℕ). eqb x 0) e ∙ short-filled w);
+  small = λ h inner other. short-low w (subst (λ (x : ℕ). x < 256) e
+      (g .small h (ap (λ (x : ℕ). x % 4) e ∙ short-inner w ∙ inner) (same ∙ other)));
+}
+
+-- from both halves of a word
+pub short-none : (w : ℕ) → bitOr (w / 4294967296) (w % 4294967296 / 8192) ≡ 0 → w < 8192
+short-none w e = let p = or-none (w / 4294967296) (w % 4294967296 / 8192) e in omega (arith, p .0, p .1)
+
+pub short-some : (w : ℕ) → bitOr (w / 4294967296) (w % 4294967296 / 8192) ≢ 0 → w % 4294967296 % 4 + 8192 ≡ shortOf w
+short-some w e =
+    byT (ltb w 8192)
+    (λ z. let h : w < 8192 = ltb-true w 8192 z in
+    let a : w / 4294967296 ≡ 0 = omega arith in
+    let b : w % 4294967296 / 8192 ≡ 0 = omega arith in
+    absurd (e (ap (λ (x : ℕ). bitOr x (w % 4294967296 / 8192)) a ∙ or-zero-l (w % 4294967296 / 8192) ∙ b)))
+    (λ z. let k : w % 4294967296 % 4 + 8192 ≡ 8192 + w % 4 = omega arith in k ∙ sym (short-large w (ltb-false w 8192 z)))
+
+pub short-low-half : (w : ℕ) → bitOr (w / 4294967296) (w % 4294967296 / 8192) ≡ 0 → w % 4294967296 ≡ shortOf w
+short-low-half w e =
+    let h : w < 8192 = short-none w e in
+    let k : w % 4294967296 ≡ w = omega arith in k ∙ sym (short-small w h)
+
+module _ (P : Pool) (n : ℕ) where
+  pub shorts-start : (ss : List ℕ) → length ss ≡ slots → Shorts P n 0 ss
+  shorts-start ss e = record { size = e; each = λ i h. absurd (omega arith) }
+
+  pub shorts-on : (j : ℕ) (ss : List ℕ) (w y : ℕ) → Shorts P n j ss → j < slots → w ≡ P .slot n j → y ≡ shortOf w → Shorts P n (j + 1) (set ss j y)
+  shorts-on j ss w y g lt e d =
+      let size : length ss ≡ 64 = g .size in
+      record {
+        size = length-set ss j y ∙ size;
+        each = λ i h. byT (eqb i j)
+            (λ q. subst (λ (x : ℕ). getD (set ss j y) x 0 ≡ shortOf (P .slot n x)) (sym (eqb-true i j q))
+            (getD-set-same ss j y 0 (omega arith) ∙ d ∙ ap shortOf e))
+            (λ q. let z : i ≢ j = eqb-false i j q in getD-set-other ss j i y 0 (omega arith) ∙ g .each i (omega arith));
+      }
+
+  pub shorts-all : (j : ℕ) (ss : List ℕ) → Shorts P n j ss → j ≡ slots → Shorts P n slots ss
+  shorts-all j ss g e = subst (λ (x : ℕ). Shorts P n x ss) e g
 
 -- THE BYTES
+framed-on : (j : ℕ) (bs : List ℕ) (b : ℕ) → Framed bs → j < slots → Framed (set bs (j + 1) b)
+framed-on j bs b g lt = record {
+  size = length-set bs (j + 1) b ∙ g .size;
+  first = getD-set-other bs (j + 1) 0 b 0 (omega arith) ∙ g .first;
+  last = getD-set-other bs (j + 1) 65 b 0 (omega arith) ∙ g .last;
+}
+
 module _ (byte : ℕ → ℕ) (large : ℕ → Bool) (P : Pool) (n : ℕ) where
-  pub bytes-start : (bs : List ℕ) → Framed bs → Bytes byte large P n 0 bs 0
+  bytes-start : (bs : List ℕ) → Framed bs → Bytes byte large P n 0 bs 0
   bytes-start bs f = record {
     framed = f;
     few = omega arith;
@@ -120,16 +241,12 @@ module _ (byte : ℕ → ℕ) (large : ℕ → Bool) (P : Pool) (n : ℕ) where
     small = λ h i l. absurd (omega arith);
   }
 
-  pub bytes-on : (j : ℕ) (bs : List ℕ) (c w b t : ℕ) → Bytes byte large P n j bs c → j < slots → w ≡ P .slot n j → b ≡ byte w →
+  bytes-on : (j : ℕ) (bs : List ℕ) (c w b t : ℕ) → Bytes byte large P n j bs c → j < slots → w ≡ P .slot n j → b ≡ byte w →
       Weighs large w t → Bytes byte large P n (j + 1) (set bs (j + 1) b) (c + t)
   bytes-on j bs c w b t g lt e d o =
       let size : length bs ≡ 66 = g .framed .size in
       record {
-        framed = record {
-          size = length-set bs (j + 1) b ∙ size;
-          first = getD-set-other bs (j + 1) 0 b 0 (omega arith) ∙ g .framed .first;
-          last = getD-set-other bs (j + 1) 65 b 0 (omega arith) ∙ g .framed .last;
-        };
+        framed = framed-on j bs b (g .framed) lt;
         few = omega (arith, g .few, o .few);
         each = λ i h. byT (eqb i j)
             (λ q. let z : i ≡ j = eqb-true i j q in
@@ -150,8 +267,32 @@ module _ (byte : ℕ → ℕ) (large : ℕ → Bool) (P : Pool) (n : ℕ) where
             (λ q. let z : i ≢ j = eqb-false i j q in g .small (omega arith) i (omega arith));
       }
 
-  pub bytes-all : (j : ℕ) (bs : List ℕ) (c : ℕ) → Bytes byte large P n j bs c → j ≡ slots → Bytes byte large P n slots bs c
-  bytes-all j bs c g e = subst (λ (x : ℕ). Bytes byte large P n x bs c) e g
+-- the bytes before slot j from the short numbers ss, for the loop
+pub record Read (byte : ℕ → ℕ) (large : ℕ → Bool) (ss : List ℕ) (j : ℕ) (bs : List ℕ) (c : ℕ) : Type 0 where
+  pub most : j ≤ slots
+  pub framed : Framed bs
+  pub few : c ≤ (slots + 1) * j
+  pub bytes : BytesFrom byte large ss j bs c
+
+module _ (byte : ℕ → ℕ) (large : ℕ → Bool) (ss : List ℕ) where
+  pub read-start : (bs : List ℕ) → Framed bs → Read byte large ss 0 bs 0
+  read-start bs f = record { most = omega arith; framed = f; few = omega arith; bytes = λ P n s. bytes-start byte large P n bs f }
+
+  pub read-on : ((w : ℕ) → byte (shortOf w) ≡ byte w) → ((w : ℕ) → large (shortOf w) ≡ large w) → (j : ℕ) (bs : List ℕ) (c y b t : ℕ) →
+      Read byte large ss j bs c → j < slots → y ≡ getD ss j 0 → b ≡ byte y → Weighs large y t →
+      Read byte large ss (j + 1) (set bs (j + 1) b) (c + t)
+  read-on same alike j bs c y b t g lt e d o = record {
+    most = omega arith;
+    framed = framed-on j bs b (g .framed) lt;
+    few = omega (arith, g .few, o .few);
+    bytes = λ P n s.
+        let k : y ≡ shortOf (P .slot n j) = e ∙ s .each j lt in
+        bytes-on byte large P n j bs c (P .slot n j) b t (g .bytes P n s) lt refl (d ∙ ap byte k ∙ same (P .slot n j))
+        (weighs-word large (P .slot n j) y t (ap large k ∙ alike (P .slot n j)) k o);
+  }
+
+  pub read-all : (j : ℕ) (bs : List ℕ) (c : ℕ) → Read byte large ss j bs c → j ≡ slots → BytesFrom byte large ss slots bs c
+  read-all j bs c g e P n s = subst (λ (x : ℕ). Bytes byte large P n x bs c) e (g .bytes P n s)
 
 -- A FAULT
 module _ (y x z j s a b c d u e g : ℕ) (es : s ≡ pick (eqb (x / 2 % 2) 1) 1 0) (ea : a ≡ pick (eqb x y) 1 0)

@@ -5,7 +5,7 @@ use mathlib.Core.Bool.{not}
 use mathlib.Core.Logic.{_⊎_, inl, inr, _≢_}
 use mathlib.Core.List.{List}
 use native.Mathlib.Omega.{arith}
-use native.Mathlib.Nat.{zero-div, mod-eq-of-lt}
+use native.Mathlib.Nat.{zero-div}
 use lib.Dec.{eqb, ltb}
 use lib.ListN.{getD}
 use borrow.Author.Tests.{eqb-true, eqb-false, eq-eqb, ne-eqb, ltb-true, ltb-false, lt-ltb, le-ltb}
@@ -19,60 +19,63 @@ use Rattle.layout.specs.declared.Slot.the-variants.{Reserved, Held, Sibling, Ch
 use Rattle.layout.proofs.SaysLaws.{said, word-of}
 use Rattle.local.specs.Local.{topLevel}
 use Rattle.steps.specs.Steps.{AllMarks, SlotsFilled}
-use Rattle.passes.specs.Bytes.{byteOf, upperByteOf, notLeaf, notUpper, Bytes, ChainedTo, HeldTo, NoneLead, ChildrenTo}
+use Rattle.passes.specs.Bytes.{byteBy, byteOf, upperByteOf, notLeaf, notUpper, Bytes, ChainedTo, HeldTo, NoneLead, ChildrenTo}
 use Rattle.steps.proofs.RunLaws.{cap-other}
 use Rattle.passes.proofs.SeenLaws.{Seen, seen-ok}
 
--- THE BYTE OF A WORD IN A LEAF
-abbrev Small : ℕ → Type 0
-Small w = w % 4 ≡ 2 → w ≢ reservedWord → w < 256
+-- THE BYTE OF A WORD
+byte-outer : (t w : ℕ) → w % 4 ≢ 2 → byteBy t w ≡ pick (not (eqb w 0)) 1 0
+byte-outer t w h = rw (ne-eqb (w % 4) 2 h)
 
-byte-inner : (w : ℕ) → w % 4 ≡ 2 → byteOf w ≡ (w - w / 512) % 256
-byte-inner w h = rw (eq-eqb (w % 4) 2 h)
+byte-small : (t w : ℕ) → w % 4 ≡ 2 → w < 256 → byteBy t w ≡ w
+byte-small t w h l = rw (eq-eqb (w % 4) 2 h, lt-ltb w 256 l)
 
-byte-outer : (w : ℕ) → w % 4 ≢ 2 → byteOf w ≡ pick (not (eqb w 0)) 1 0
-byte-outer w h = rw (ne-eqb (w % 4) 2 h)
-
-byte-small : (w : ℕ) → w % 4 ≡ 2 → w < 256 → byteOf w ≡ w
-byte-small w h l =
-    let a : w / 512 ≡ 0 = omega arith in
-    let b : w - w / 512 ≡ w = omega arith in byte-inner w h ∙ ap (λ (x : ℕ). x % 256) b ∙ mod-eq-of-lt l
-
-byte-reserved : (w : ℕ) → w ≡ reservedWord → byteOf w ≡ 4
-byte-reserved w e = ap byteOf e
+byte-large : (t w : ℕ) → w % 4 ≡ 2 → 256 ≤ w → byteBy t w ≡ t
+byte-large t w h l = rw (eq-eqb (w % 4) 2 h, le-ltb w 256 l)
 
 outer-le : (w : ℕ) → pick (not (eqb w 0)) 1 0 ≤ 1
 outer-le w = byT (eqb w 0) (λ t. rw t (omega arith)) (λ t. rw t (omega arith))
 
-byte-held : (w : ℕ) → Small w → byteOf w % 4 ≡ 1 → (w ≢ 0) × (w % 4 ≢ 2)
-byte-held w s e =
+byte-is : (t w x : ℕ) → t % 4 ≢ 2 → byteBy t w ≡ x → x % 4 ≡ 2 → w ≡ x
+byte-is t w x o e h =
     byT (eqb (w % 4) 2)
-    (λ t. let i : w % 4 ≡ 2 = eqb-true (w % 4) 2 t in
-    byT (eqb w reservedWord)
-    (λ u. let k : byteOf w ≡ 4 = byte-reserved w (eqb-true w reservedWord u) in absurd (omega arith))
-    (λ u. let k : byteOf w ≡ w = byte-small w i (s i (eqb-false w reservedWord u)) in absurd (omega arith)))
-    (λ t. let i : w % 4 ≢ 2 = eqb-false (w % 4) 2 t in
-    ((λ (z : w ≡ 0). let k : byteOf w ≡ 0 = byte-outer w i ∙ ap (λ (v : ℕ). pick (not (eqb v 0)) 1 0) z in omega arith), i))
-
-byte-is : (w x : ℕ) → Small w → byteOf w ≡ x → x % 4 ≡ 2 → w ≡ x
-byte-is w x s e h =
-    byT (eqb (w % 4) 2)
-    (λ t. let i : w % 4 ≡ 2 = eqb-true (w % 4) 2 t in
-    byT (eqb w reservedWord)
-    (λ u. let k : byteOf w ≡ 4 = byte-reserved w (eqb-true w reservedWord u) in absurd (omega arith))
-    (λ u. let k : byteOf w ≡ w = byte-small w i (s i (eqb-false w reservedWord u)) in omega arith))
-    (λ t. let k : byteOf w ≡ pick (not (eqb w 0)) 1 0 = byte-outer w (eqb-false (w % 4) 2 t) in
+    (λ z. let i : w % 4 ≡ 2 = eqb-true (w % 4) 2 z in
+    byT (ltb w 256)
+    (λ u. sym (byte-small t w i (ltb-true w 256 u)) ∙ e)
+    (λ u. absurd (o (ap (λ (v : ℕ). v % 4) (sym (byte-large t w i (ltb-false w 256 u)) ∙ e) ∙ h))))
+    (λ z. let k : _≡_ {A = ℕ} (pick (not (eqb w 0)) 1 0) x = sym (byte-outer t w (eqb-false (w % 4) 2 z)) ∙ e in
     absurd (omega (arith, outer-le w)))
+
+-- an entry or a large word
+byte-one : (t w : ℕ) → byteBy t w % 4 ≡ 1 → ((w ≢ 0) × (w % 4 ≢ 2)) ⊎ ((w % 4 ≡ 2) × (256 ≤ w))
+byte-one t w e =
+    byT (eqb (w % 4) 2)
+    (λ z. let i : w % 4 ≡ 2 = eqb-true (w % 4) 2 z in
+    byT (ltb w 256)
+    (λ u. let k : w % 4 ≡ 1 = ap (λ (v : ℕ). v % 4) (sym (byte-small t w i (ltb-true w 256 u))) ∙ e in absurd (omega arith))
+    (λ u. inr (i, ltb-false w 256 u)))
+    (λ z. let i : w % 4 ≢ 2 = eqb-false (w % 4) 2 z in
+    inl (
+      (λ (q : w ≡ 0). let k : pick (not (eqb w 0)) 1 0 % 4 ≡ 1 = ap (λ (v : ℕ). v % 4) (sym (byte-outer t w i)) ∙ e in
+          let k0 : _≡_ {A = ℕ} (pick (not (eqb w 0)) 1 0) 0 = ap (λ (v : ℕ). pick (not (eqb v 0)) 1 0) q in omega arith),
+      i,
+    ))
 
 -- A LEAF
 module _ (P : Pool) (n m : ℕ) (bs : List ℕ) (c : ℕ) (g : Bytes byteOf notLeaf P n slots bs c) (le : c ≤ slots) (hd : HeldTo bs m slots) where
-  small-at : (j : ℕ) → j < slots → Small (P .slot n j)
+  small-at : (j : ℕ) → j < slots → P .slot n j % 4 ≡ 2 → P .slot n j ≢ reservedWord → P .slot n j < 256
   small-at j lt i ne = g .small le j lt i (rw (ne-eqb (P .slot n j) reservedWord ne))
 
   held-at : (j : ℕ) → j < slots → getD bs (j + 1) 0 % 4 ≡ 1 → slotAt P n j ≡ Held
   held-at j lt e =
       let d : byteOf (P .slot n j) % 4 ≡ 1 = ap (λ (x : ℕ). x % 4) (sym (g .each j lt)) ∙ e in
-      said (P .slot n j) Held (byte-held (P .slot n j) (small-at j lt) d)
+      pick-one d (byte-one 4 (P .slot n j) d)
+    where
+      pick-one : byteOf (P .slot n j) % 4 ≡ 1 → ((P .slot n j ≢ 0) × (P .slot n j % 4 ≢ 2)) ⊎ ((P .slot n j % 4 ≡ 2) × (256 ≤ P .slot n j)) →
+          slotAt P n j ≡ Held
+      pick-one d (inl h) = said (P .slot n j) Held h
+      pick-one d (inr (i, l)) =
+          let k : 4 % 4 ≡ 1 = ap (λ (x : ℕ). x % 4) (sym (byte-large 4 (P .slot n j) i l)) ∙ d in absurd (omega arith)
 
   pub leaf-seen : Seen P n 0 m bs
   leaf-seen = record {
@@ -86,8 +89,8 @@ module _ (P : Pool) (n m : ℕ) (bs : List ℕ) (c : ℕ) (g : Bytes byteOf notL
         let a : P .slot n j ≡ 4 * o + 2 = w .0 in
         let i : P .slot n j % 4 ≡ 2 = omega arith in
         let s : P .slot n j < 256 = small-at j lt i (w .2) in
-        (omega arith, g .each j lt ∙ byte-small (P .slot n j) i s ∙ a);
-    word = λ j o lt e. byte-is (P .slot n j) (4 * o + 2) (small-at j lt) (sym (g .each j lt) ∙ e) (omega arith);
+        (omega arith, g .each j lt ∙ byte-small 4 (P .slot n j) i s ∙ a);
+    word = λ j o lt e. byte-is 4 (P .slot n j) (4 * o + 2) (λ z. omega arith) (sym (g .each j lt) ∙ e) (omega arith);
     clear = λ j lt ne nc. hd j lt (λ e. ne (held-at j lt e));
     bottom = λ j lt e. refl;
     child = λ j lt d e.
@@ -107,57 +110,23 @@ pub leaf-unmarked : (P : Pool) (n m : ℕ) (bs : List ℕ) (c : ℕ) → Bytes b
     AllMarks P n m → m ≡ 0 → (k : ℕ) → c ≡ k → SlotsFilled P n 0 k
 leaf-unmarked P n m bs c g le ch am z k e = leaf-filled P n m bs c g le (held-none bs m z) ch am k e
 
--- THE BYTE OF A WORD ABOVE THE LEAVES
-abbrev Apart : ℕ → Type 0
-Apart w = w % 4 ≡ 2 → w < 4096 → w < 256
-
-upper-outer : (w : ℕ) → w % 4 ≢ 2 → upperByteOf w ≡ pick (not (eqb w 0)) 1 0
-upper-outer w h = rw (ne-eqb (w % 4) 2 h)
-
-upper-small : (w : ℕ) → w % 4 ≡ 2 → w < 256 → upperByteOf w ≡ w
-upper-small w h l = rw (eq-eqb (w % 4) 2 h, lt-ltb w 256 l)
-
-upper-large : (w : ℕ) → w % 4 ≡ 2 → 256 ≤ w → upperByteOf w ≡ 5
-upper-large w h l = rw (eq-eqb (w % 4) 2 h, le-ltb w 256 l)
-
--- an entry or a large word
-upper-one : (w : ℕ) → upperByteOf w % 4 ≡ 1 → ((w ≢ 0) × (w % 4 ≢ 2)) ⊎ ((w % 4 ≡ 2) × (256 ≤ w))
-upper-one w e =
-    byT (eqb (w % 4) 2)
-    (λ t. let i : w % 4 ≡ 2 = eqb-true (w % 4) 2 t in
-    byT (ltb w 256)
-    (λ u. let k : upperByteOf w ≡ w = upper-small w i (ltb-true w 256 u) in absurd (omega arith))
-    (λ u. inr (i, ltb-false w 256 u)))
-    (λ t. let i : w % 4 ≢ 2 = eqb-false (w % 4) 2 t in
-    inl ((λ (z : w ≡ 0). let k : upperByteOf w ≡ 0 = upper-outer w i ∙ ap (λ (v : ℕ). pick (not (eqb v 0)) 1 0) z in omega arith), i))
-
-upper-is : (w x : ℕ) → upperByteOf w ≡ x → x % 4 ≡ 2 → w ≡ x
-upper-is w x e h =
-    byT (eqb (w % 4) 2)
-    (λ t. let i : w % 4 ≡ 2 = eqb-true (w % 4) 2 t in
-    byT (ltb w 256)
-    (λ u. let k : upperByteOf w ≡ w = upper-small w i (ltb-true w 256 u) in omega arith)
-    (λ u. let k : upperByteOf w ≡ 5 = upper-large w i (ltb-false w 256 u) in absurd (omega arith)))
-    (λ t. let k : upperByteOf w ≡ pick (not (eqb w 0)) 1 0 = upper-outer w (eqb-false (w % 4) 2 t) in
-    absurd (omega (arith, outer-le w)))
-
 -- A NODE ABOVE THE LEAVES
 -- without a child
 pub lead-none : (P : Pool) (n v : ℕ) (bs : List ℕ) (c : ℕ) → Bytes upperByteOf notUpper P n slots bs c → NoneLead bs slots →
     ChildrenTo P n v slots
 lead-none P n v bs c g h j lt d e =
     let w : P .slot n j ≡ 4 * (1024 + d) + 2 = word-of (P .slot n j) (Child d) e in
-    absurd (h j lt (g .each j lt ∙ upper-large (P .slot n j) (omega arith) (omega arith)))
+    absurd (h j lt (g .each j lt ∙ byte-large 5 (P .slot n j) (omega arith) (omega arith)))
 
 module _ (P : Pool) (n v m : ℕ) (bs : List ℕ) (c : ℕ) (g : Bytes upperByteOf notUpper P n slots bs c) (le : c ≤ slots) (hv : v < topLevel)
     (hd : HeldTo bs m slots) (cs : ChildrenTo P n v slots) where
-  apart : (j : ℕ) → j < slots → Apart (P .slot n j)
+  apart : (j : ℕ) → j < slots → P .slot n j % 4 ≡ 2 → P .slot n j < 4096 → P .slot n j < 256
   apart j lt i l = g .small le j lt i (lt-ltb (P .slot n j) 4096 l)
 
   -- where it is no node's, an entry's
   held-upper : (j : ℕ) → j < slots → ((d : ℕ) → slotAt P n j ≢ Child d) → getD bs (j + 1) 0 % 4 ≡ 1 → slotAt P n j ≡ Held
   held-upper j lt nc e =
-      pick-one (upper-one (P .slot n j) (ap (λ (x : ℕ). x % 4) (sym (g .each j lt)) ∙ e))
+      pick-one (byte-one 5 (P .slot n j) (ap (λ (x : ℕ). x % 4) (sym (g .each j lt)) ∙ e))
     where
       pick-one : ((P .slot n j ≢ 0) × (P .slot n j % 4 ≢ 2)) ⊎ ((P .slot n j % 4 ≡ 2) × (256 ≤ P .slot n j)) → slotAt P n j ≡ Held
       pick-one (inl h) = said (P .slot n j) Held h
@@ -170,7 +139,7 @@ module _ (P : Pool) (n v m : ℕ) (bs : List ℕ) (c : ℕ) (g : Bytes upperByte
   not-one : (j : ℕ) → j < slots → getD bs (j + 1) 0 ≡ 1 → (d : ℕ) → slotAt P n j ≢ Child d
   not-one j lt e d q =
       let w : P .slot n j ≡ 4 * (1024 + d) + 2 = word-of (P .slot n j) (Child d) q in
-      let k : upperByteOf (P .slot n j) ≡ 5 = upper-large (P .slot n j) (omega arith) (omega arith) in
+      let k : upperByteOf (P .slot n j) ≡ 5 = byte-large 5 (P .slot n j) (omega arith) (omega arith) in
       let f : getD bs (j + 1) 0 ≡ upperByteOf (P .slot n j) = g .each j lt in omega arith
 
   pub upper-seen : Seen P n v m bs
@@ -185,8 +154,8 @@ module _ (P : Pool) (n v m : ℕ) (bs : List ℕ) (c : ℕ) (g : Bytes upperByte
         let a : P .slot n j ≡ 4 * o + 2 = w .0 in
         let i : P .slot n j % 4 ≡ 2 = omega arith in
         let s : P .slot n j < 256 = apart j lt i (omega (arith, w .1)) in
-        (omega arith, g .each j lt ∙ upper-small (P .slot n j) i s ∙ a);
-    word = λ j o lt e. upper-is (P .slot n j) (4 * o + 2) (sym (g .each j lt) ∙ e) (omega arith);
+        (omega arith, g .each j lt ∙ byte-small 5 (P .slot n j) i s ∙ a);
+    word = λ j o lt e. byte-is 5 (P .slot n j) (4 * o + 2) (λ z. omega arith) (sym (g .each j lt) ∙ e) (omega arith);
     clear = λ j lt ne nc. hd j lt (λ e. ne (held-upper j lt nc e));
     bottom = λ j lt e.
         let w : P .slot n j ≡ reservedWord = word-of (P .slot n j) Reserved e in

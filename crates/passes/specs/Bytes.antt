@@ -17,13 +17,26 @@ use Rattle.layout.specs.Reading.{Internal}
 use Rattle.local.specs.Local.{ChildOk}
 use Rattle.steps.specs.Steps.{filledTo}
 
--- the byte of a slot of a leaf: 0 if it is empty, 1 for an entry, 4 for a reservation, and the word of a sibling, all of it
-abbrev pub byteOf : ℕ → ℕ
-byteOf w = pick (eqb (w % 4) 2) ((w - w / 512) % 256) (pick (not (eqb w 0)) 1 0)
+-- a short number for each word: all of it if it is small, else 8192 with its two lowest bits
+abbrev pub shortOf : ℕ → ℕ
+shortOf w = pick (ltb w 8192) w (8192 + w % 4)
 
--- the same above the leaves, with 5 for a node
+-- ss has the short numbers of the slots of node n before slot j
+pub record Shorts (P : Pool) (n j : ℕ) (ss : List ℕ) : Type 0 where
+  pub size : length ss ≡ slots
+  pub each : (i : ℕ) → i < j → getD ss i 0 ≡ shortOf (P .slot n i)
+
+-- the byte of a slot: 0 if it is empty, 1 for an entry, the word of a sibling, all of it, and t for every other internal word
+abbrev pub byteBy : (t w : ℕ) → ℕ
+byteBy t w = pick (eqb (w % 4) 2) (pick (ltb w 256) w t) (pick (not (eqb w 0)) 1 0)
+
+-- in a leaf, with 4 for a reservation
+abbrev pub byteOf : ℕ → ℕ
+byteOf = byteBy 4
+
+-- above the leaves, with 5 for a node
 abbrev pub upperByteOf : ℕ → ℕ
-upperByteOf w = pick (eqb (w % 4) 2) (pick (ltb w 256) w 5) (pick (not (eqb w 0)) 1 0)
+upperByteOf = byteBy 5
 
 -- internal words that no leaf has, and that no node above the leaves has, if they are no sibling's
 abbrev pub notLeaf : ℕ → Bool
@@ -51,6 +64,10 @@ pub record Bytes (byte : ℕ → ℕ) (large : ℕ → Bool) (P : Pool) (n j : �
   pub each : (i : ℕ) → i < j → getD bs (i + 1) 0 ≡ byte (P .slot n i)
   pub count : c ≤ slots → c ≡ filledTo P n j
   pub small : c ≤ slots → (i : ℕ) → i < j → Internal (P .slot n i) → large (P .slot n i) ≡ true → P .slot n i < 256
+
+-- the same, of any node whose short numbers are ss
+abbrev pub BytesFrom : (byte : ℕ → ℕ) (large : ℕ → Bool) → List ℕ → ℕ → List ℕ → ℕ → Type 0
+BytesFrom byte large ss j bs c = (P : Pool) (n : ℕ) → Shorts P n slots ss → Bytes byte large P n j bs c
 
 -- 0 if slots o to j are as many as a power of two up to 32, and aligned
 abbrev pub unfitOf : ℕ → ℕ → ℕ

@@ -14,27 +14,23 @@ use steps::child_ok;
 use steps::one_if;
 ghost use mathlib.Core.Path.{_≡_};
 ghost use mathlib.Core.Bool.{true};
-ghost use Prim.Native.Nat.{_%_, _<_, _≤_};
+ghost use Prim.Native.Nat.{_<_, _≤_};
 ghost use Rattle.blocks.specs.Choice.{pick};
 ghost use Rattle.tree.specs.Tree.{slots};
 ghost use Rattle.layout.specs.Pool.{poolOf};
 ghost use Rattle.local.specs.Local.{HasNode, topLevel};
 ghost use Rattle.steps.specs.Steps.{SlotsFilled};
-ghost use Rattle.passes.specs.Bytes.{byteOf, upperByteOf, notLeaf, notUpper, Weighs, Framed, Bytes};
+ghost use Rattle.passes.specs.Bytes.{shortOf, Shorts, byteBy, byteOf, upperByteOf, notLeaf, notUpper, Weighs, Framed, BytesFrom};
 ghost use Rattle.passes.specs.Bytes.{unfitOf, Chained, ChainedTo, HeldTo, NoneLead, LeadsOk, ChildrenTo};
 
 // The word of a slot that is reserved.
-const RESERVED: u64 = 1030;
+const RESERVED: u16 = 1030;
+
+// Half a word has 32 bits.
+const HALVES: u64 = 4294967296;
 
 // Fewer slots than these are soonest gone through one by one.
 const FEW: u64 = 8;
-
-// The lowest byte of w.
-fn low_byte(w: u64) -> u8
-    ensures { λ r. ⌜ r ≡ w % 256 ⌝ }
-{
-    (w % 256) as u8
-}
 
 // 1 if b, else 0.
 fn bit_of(b: bool) -> u8
@@ -43,71 +39,95 @@ fn bit_of(b: bool) -> u8
     if b { 1 } else { 0 }
 }
 
-// The byte for the word of a slot of a leaf.
-fn byte_of(w: u64) -> u8
-    ensures { λ r. ⌜ r ≡ byteOf w ⌝ }
+// The same in 16 bits.
+fn one_of(b: bool) -> u16
+    ensures { λ r. ⌜ r ≡ pick b 1 0 ⌝ }
 {
-    if w % 4 == 2 {
-        low_byte(w - w / 512)
+    if b { 1 } else { 0 }
+}
+
+// The short number for the word w. By halves: SSE2 compares no 64 bits.
+fn short_of(w: u64) -> u16
+    ensures { λ r. ⌜ r ≡ shortOf w ⌝ }
+{
+    let hi = (w / HALVES) as u32;
+    let lo = (w % HALVES) as u32;
+    let x = lo % 4 + 8192;
+    if (hi | (lo / 8192)) == 0 {
+        lo as u16
     } else {
-        bit_of(w != 0)
+        x as u16
     }
 }
 
-// 1 if the slot with word w is filled, else 0; more than SLOTS if w is internal and too large for a leaf.
-fn weight_of(w: u64) -> u64
-    ensures { λ r. ⌜ Weighs notLeaf w r ⌝ }
+// The short numbers for the words of node n's slots.
+fn shorts_of(pool: &[u64], n: u64, s: &mut [u16])
+    requires { ⌜ HasNode n (now pool) ⌝ ∗ do ⌜ (← ⟦s.len()⟧) ≡ slots ⌝ }
+    ensures { λ _. ⌜ Shorts (poolOf (now (pool .entry))) n slots (now (s .exit)) ⌝ }
 {
-    one_if(w != 0) + SLOTS * (one_if(w % 4 == 2) & one_if(w > 255) & one_if(w != RESERVED))
-}
-
-// The bytes of leaf n's slots, from place 1 on, and how many are filled; more than SLOTS if a word is too large for a leaf.
-fn bytes_of(pool: &[u64], n: u64, a: &mut [u8]) -> u64
-    requires { ⌜ HasNode n (now pool) ⌝ ∗ ⌜ Framed (now a) ⌝ }
-    ensures { λ r. ⌜ Bytes byteOf notLeaf (poolOf (now (pool .entry))) n slots (now (a .exit)) r ⌝ }
-{
-    let mut c: u64 = 0;
     let mut j = 0;
     while j < SLOTS {
-        let w = slot_word(pool, n, j);
-        a[(j + 1) as usize] = byte_of(w);
-        c = c + weight_of(w);
+        s[j as usize] = short_of(slot_word(pool, n, j));
         j = j + 1;
     }
-    c
 }
 
-// The byte for the word of a slot above the leaves: 5 for a node.
-fn upper_byte(w: u64) -> u8
-    ensures { λ r. ⌜ r ≡ upperByteOf w ⌝ }
+// The byte for the short number y, with t for an internal word that is no sibling's. Without a branch, which the compiler would keep.
+fn byte_by(t: u16, y: u16) -> u8
+    requires { ⌜ t < 256 ⌝ }
+    ensures { λ r. ⌜ r ≡ byteBy t y ⌝ }
 {
-    // Both before the test: the compiler would make a branch of it.
-    let x = low_byte(w * one_if(w < 256) + 5 * one_if(w > 255));
-    let y = bit_of(w != 0);
-    if w % 4 == 2 { x } else { y }
+    let i = one_of(y % 4 == 2);
+    let x = y * one_of(y < 256) + t * one_of(y > 255);
+    let e = one_of(y != 0);
+    (x * i + e * (1 - i)) as u8
+}
+
+// 1 if the slot with the short number y is filled, else 0; more than SLOTS if y is internal and too large for a leaf.
+fn weight_of(y: u16) -> u16
+    ensures { λ r. ⌜ Weighs notLeaf y r ⌝ }
+{
+    one_of(y != 0) + 64 * (one_of(y % 4 == 2) & one_of(y > 255) & one_of(y != RESERVED))
+}
+
+// The bytes of a leaf's slots, whose short numbers are s, from place 1 on, and how many are filled; more than SLOTS if a word is too large
+// for a leaf.
+fn leaf_bytes(s: &[u16], a: &mut [u8]) -> u64
+    requires { do ⌜ (← ⟦s.len()⟧) ≡ slots ⌝ ∗ ⌜ Framed (now a) ⌝ }
+    ensures { λ r. ⌜ BytesFrom byteOf notLeaf (now (s .entry)) slots (now (a .exit)) r ⌝ }
+{
+    let mut c: u16 = 0;
+    let mut j = 0;
+    while j < SLOTS {
+        let y = s[j as usize];
+        a[(j + 1) as usize] = byte_by(4, y);
+        c = c + weight_of(y);
+        j = j + 1;
+    }
+    c as u64
 }
 
 // As weight_of, above the leaves.
-fn upper_weight(w: u64) -> u64
-    ensures { λ r. ⌜ Weighs notUpper w r ⌝ }
+fn upper_weight(y: u16) -> u16
+    ensures { λ r. ⌜ Weighs notUpper y r ⌝ }
 {
-    one_if(w != 0) + SLOTS * (one_if(w % 4 == 2) & one_if(w > 255) & one_if(w < 4096))
+    one_of(y != 0) + 64 * (one_of(y % 4 == 2) & one_of(y > 255) & one_of(y < 4096))
 }
 
-// As bytes_of, above the leaves.
-fn upper_bytes(pool: &[u64], n: u64, a: &mut [u8]) -> u64
-    requires { ⌜ HasNode n (now pool) ⌝ ∗ ⌜ Framed (now a) ⌝ }
-    ensures { λ r. ⌜ Bytes upperByteOf notUpper (poolOf (now (pool .entry))) n slots (now (a .exit)) r ⌝ }
+// As leaf_bytes, above the leaves: 5 for a node.
+fn upper_bytes(s: &[u16], a: &mut [u8]) -> u64
+    requires { do ⌜ (← ⟦s.len()⟧) ≡ slots ⌝ ∗ ⌜ Framed (now a) ⌝ }
+    ensures { λ r. ⌜ BytesFrom upperByteOf notUpper (now (s .entry)) slots (now (a .exit)) r ⌝ }
 {
-    let mut c: u64 = 0;
+    let mut c: u16 = 0;
     let mut j = 0;
     while j < SLOTS {
-        let w = slot_word(pool, n, j);
-        a[(j + 1) as usize] = upper_byte(w);
-        c = c + upper_weight(w);
+        let y = s[j as usize];
+        a[(j + 1) as usize] = byte_by(5, y);
+        c = c + upper_weight(y);
         j = j + 1;
     }
-    c
+    c as u64
 }
 
 // 0 only if slots o to j may be a run.
@@ -180,8 +200,10 @@ fn leaf_ok(pool: &[u64], n: u64, k: u64) -> bool
     requires { ⌜ HasNode n (now pool) ⌝ }
     ensures { λ r. ⌜ (r ≡ true → SlotsFilled (poolOf (now (pool .entry))) n 0 k) ⌝ }
 {
+    let mut s = [0u16; 64];
+    shorts_of(pool, n, &mut s);
     let mut a = [0u8; 66];
-    let c = bytes_of(pool, n, &mut a);
+    let c = leaf_bytes(&s, &mut a);
     if c > SLOTS {
         return false;
     }
@@ -254,8 +276,10 @@ fn upper_ok(pool: &[u64], n: u64, v: u64, k: u64) -> bool
     requires { ⌜ HasNode n (now pool) ⌝ ∗ ⌜ v < topLevel ⌝ }
     ensures { λ r. ⌜ (r ≡ true → SlotsFilled (poolOf (now (pool .entry))) n v k) ⌝ }
 {
+    let mut s = [0u16; 64];
+    shorts_of(pool, n, &mut s);
     let mut a = [0u8; 66];
-    let c = upper_bytes(pool, n, &mut a);
+    let c = upper_bytes(&s, &mut a);
     if c > SLOTS {
         return false;
     }

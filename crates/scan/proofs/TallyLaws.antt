@@ -1,10 +1,11 @@
 -- The filled slots of a node counted: in the pass over a node without internal words, and from step to step over another.
-use Prim.Native.Nat.{ℕ, zero, suc, _+_, _-_, _/_, _%_, _^_, _≤_, _<_, min, max}
+use Prim.Native.Nat.{ℕ, zero, suc, _+_, _*_, _-_, _/_, _%_, _^_, _≤_, _<_, min, max}
 use mathlib.Core.Path.{_≡_, refl, sym, ap, _∙_, subst}
 use mathlib.Core.Bool.{Bool, true, false, not}
 use mathlib.Core.Logic.{_≢_}
 use mathlib.Core.List.{List}
 use native.Mathlib.Omega.{arith}
+use native.Mathlib.Nat.{mod-eq-of-lt}
 use lib.Dec.{eqb, ltb}
 use lib.ListN.{getD}
 use lib.Bits.{bitAnd, bitOr, or-lt, or-add-and, and-le-l, and-le-r, and-shr}
@@ -13,7 +14,7 @@ use Rattle.blocks.specs.Choice.{pick}
 use Rattle.blocks.specs.Blocks.{bit, countTo, NextBit}
 use Rattle.blocks.proofs.BoolLaws.{byT, clash, decide-eqb}
 use Rattle.blocks.proofs.CountLaws.{count-le, count-none, count-all, count-split, count-zero}
-use Rattle.blocks.proofs.TwoWordLaws.{or-bit, and-odd}
+use Rattle.blocks.proofs.TwoWordLaws.{or-bit, or-none, and-odd}
 use Rattle.tree.specs.Tree.{slots}
 use Rattle.layout.specs.Words.{slotPlace, filledOf}
 use Rattle.layout.specs.Pool.{Pool, poolOf}
@@ -23,6 +24,7 @@ use Rattle.steps.specs.Steps.{AllMarks, filledTo, Stepped, SlotsFilled}
 use Rattle.scan.specs.Passes.{fillBit, Filled, LowestBit, OddTo, PlainFilled, NoLoose}
 use Rattle.scan.proofs.UsedLaws.{used-of, unused-of}
 use Rattle.scan.proofs.FilledLaws.{bit-empty}
+use Rattle.steps.proofs.WordLaws.{mask-mod}
 use Rattle.steps.proofs.StepLaws.{Gone, gone-start, gone-on}
 use Rattle.scan.proofs.FilledLaws.{gone-past}
 
@@ -46,6 +48,12 @@ odd-next P n o x w h e z k lt =
 
 pub odd-all : (P : Pool) (n o : ℕ) → slots ≤ o → OddTo P n o → OddTo P n slots
 odd-all P n o h f k lt = f k (omega arith)
+
+-- all bits where w is even
+pub even-bits : (w : ℕ) → w < 2 ^ 64 → bitAnd w ((1 - w % 2) * 18446744073709551615) ≡ 0 → w % 2 ≡ 0 → w ≡ 0
+even-bits w f z e =
+    let k : (1 - w % 2) * 18446744073709551615 ≡ 2 ^ 64 - 1 = ap (λ (x : ℕ). (1 - x) * 18446744073709551615) e in
+    sym (mod-eq-of-lt f) ∙ sym (mask-mod w (2 ^ 64) 64 refl) ∙ ap (bitAnd w) (sym k) ∙ z
 
 -- THE LOWEST BIT OF A WORD
 pub lowest-zero : (w : ℕ) → w ≡ 0 → LowestBit w 0
@@ -172,6 +180,43 @@ module _ (ws : List ℕ) (n : ℕ) where
     plain = λ h k x q. g .none z k x (omega arith);
     count = λ h. ap (filledTo P n) (sym e) ∙ g .count;
     inner = λ h. absurd (omega (arith, g .few));
+  }
+
+  -- the slots from a up to o, if y is 0: each is empty or has an odd word, and c are filled
+  pub record OddPassed (a o y c : ℕ) : Type 0 where
+    pub few : a + c ≤ o
+    pub plain : y ≡ 0 → Plain ws n a o
+    pub count : y ≡ 0 → filledTo P n o ≡ filledTo P n a + c
+
+  pub odd-start : (a : ℕ) → OddPassed a a 0 0
+  odd-start a = record { few = omega arith; plain = λ e k p q. absurd (omega arith); count = λ e. omega arith }
+
+  pub odd-on : (a o y c w x : ℕ) → OddPassed a o y c → w ≡ getD ws (slotPlace n o) 0 → (x ≡ 0 → w % 2 ≡ 0 → w ≡ 0) →
+      OddPassed a (o + 1) (bitOr y x) (c + w % 2)
+  odd-on a o y c w x g e low = record {
+    few = omega (arith, g .few);
+    plain = λ z k p q. byT (eqb k o)
+        (λ t i. let v : w % 4 ≡ 2 = subst Internal (sym e) (subst (λ (j : ℕ). Internal (getD ws (slotPlace n j) 0)) (eqb-true k o t) i) in
+        let h : w ≡ 0 = low (or-none y x z .1) (omega arith) in absurd (omega arith))
+        (λ t. let ne : k ≢ o = eqb-false k o t in g .plain (or-none y x z .0) k p (omega arith));
+    count = λ z. let s : o + 1 ≡ suc o = omega arith in
+        let k : filledTo P n (suc o) ≡ filledTo P n o + pick (not (eqb (P .slot n o) 0)) 1 0 = refl in
+        let d : w % 2 ≡ pick (not (eqb (P .slot n o) 0)) 1 0 = one-filled (low (or-none y x z .1)) ∙ ap (λ (v : ℕ). pick (not (eqb v 0)) 1 0) e in
+        rw s (omega (arith, k, d, g .count (or-none y x z .0)));
+  }
+    where
+      one-filled : (w % 2 ≡ 0 → w ≡ 0) → w % 2 ≡ pick (not (eqb w 0)) 1 0
+      one-filled h =
+          byT (eqb w 0)
+          (λ t. let v : w ≡ 0 = eqb-true w 0 t in rw t (omega arith))
+          (λ t. let v : w ≢ 0 = eqb-false w 0 t in
+          let u : w % 2 ≢ 0 = λ (q : w % 2 ≡ 0). v (h q) in rw t (omega arith))
+
+  pub odd-passed : (a b o y c : ℕ) → OddPassed a o y c → o ≡ b → y ≡ 0 → c ≤ slots → PlainFilled ws n a b c
+  odd-passed a b o y c g e z l = record {
+    plain = λ h k x q. g .plain z k x (omega arith);
+    count = λ h. ap (filledTo P n) (sym e) ∙ g .count z;
+    inner = λ h. absurd (omega arith);
   }
 
   -- two parts

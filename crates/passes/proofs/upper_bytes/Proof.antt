@@ -1,47 +1,43 @@
--- `upper_bytes`: the bytes of node n's slots, and how many are filled.
-use mathlib.Core.Path.{sym, _∙_}
+-- `upper_bytes`: the bytes of a node's slots above the leaves, and how many are filled.
+use mathlib.Core.Path.{refl, sym, _∙_}
 use native.Mathlib.Omega.{arith}
-use Prim.Native.Nat.{_-_, _≤_}
-use Rattle.layout.specs.Pool.{poolOf}
+use Prim.Native.Nat.{_-_}
 use Rattle.tree.specs.Tree.{slots}
-use Rattle.passes.specs.Bytes.{upperByteOf, notUpper, Bytes}
-use Rattle.passes.proofs.ByteLaws.{bytes-start, bytes-on, bytes-all}
+use Rattle.passes.specs.Bytes.{upperByteOf, notUpper}
+use Rattle.passes.proofs.ByteLaws.{short-byte, short-not-upper, Read, read-start, read-on, read-all}
 use Rattle.passes.proofs.upper_bytes.Statement.{statement}
 use Rattle.passes.proofs.upper_bytes.Tie as tie
 
 abbrev Inv-loop : tie.InvT-loop
-Inv-loop pool n a₀ c₀ j₀ a c j = (j ≤ slots) × Bytes upperByteOf notUpper (poolOf pool) n j a c
+Inv-loop s a₀ c₀ j₀ a c j = Read upperByteOf notUpper s j a c
 
 abbrev μ-loop : tie.MeasureT-loop
-μ-loop pool n a₀ c₀ j₀ a c j = slots - j
+μ-loop s a₀ c₀ j₀ a c j = slots - j
 
 loop-holds : tie.Need-loop-holds Inv-loop μ-loop
-loop-holds c = (omega arith, bytes-start upperByteOf notUpper _ _ _ (c .before .before .pre .1))
-
-upper-byte-requires : tie.Need-upper-byte-requires Inv-loop μ-loop
-upper-byte-requires c κs = tt
+loop-holds c = read-start upperByteOf notUpper _ _ (c .before .before .pre .1)
 
 slice-write-a : tie.Need-slice-write-a Inv-loop μ-loop
-slice-write-a c = omega (arith, c .before .before .before .loop .inv .1 .framed .size)
+slice-write-a c = omega (arith, c .before .before .before .loop .inv .framed .size)
 
 upper-weight-requires : tie.Need-upper-weight-requires Inv-loop μ-loop
 upper-weight-requires c κs = tt
 
 add-c : tie.Need-add-c Inv-loop μ-loop
-add-c c = omega (arith, c .before .before .before .before .loop .inv .1 .few, c .upper-weight .ensures .few)
+add-c c = omega (arith, c .before .before .before .before .loop .inv .few, c .upper-weight .ensures .few)
 
 loop-again : tie.Need-loop-again Inv-loop μ-loop
-loop-again c = (
-  omega arith,
-  bytes-on upperByteOf notUpper _ _ _ _ _ _ _ _ (c .before .before .before .before .loop .inv .1) (omega arith)
-      (c .before .before .slot-word .ensures) (c .before .upper-byte .ensures) (c .upper-weight .ensures),
-)
+loop-again c = read-on upperByteOf notUpper _ (short-byte 5) short-not-upper _ _ _ _ _ _ (c .before .before .before .before .loop .inv) (omega arith) refl
+    (c .before .byte-by .ensures) (c .upper-weight .ensures)
+
+cast-result : tie.Need-cast-result Inv-loop μ-loop
+cast-result c = omega (arith, c .before .loop .inv .few, c .before .loop .inv .most)
 
 same-length : tie.Need-same-length Inv-loop μ-loop
-same-length c = c .before .loop .inv .1 .framed .size ∙ sym (c .before .before .before .before .pre .1 .size)
+same-length c = c .before .loop .inv .framed .size ∙ sym (c .before .before .before .before .pre .1 .size)
 
 returns : tie.Need-returns Inv-loop μ-loop
-returns c = bytes-all upperByteOf notUpper _ _ _ _ _ (c .before .loop .inv .1) (omega (arith, c .before .loop .inv .0))
+returns c = read-all upperByteOf notUpper _ _ _ _ (c .before .loop .inv) (omega (arith, c .before .loop .inv .most))
 
 pub upper-bytes-spec : {M : Type 1} → statement M
 upper-bytes-spec =
@@ -50,8 +46,9 @@ upper-bytes-spec =
     Inv-loop
     μ-loop
     loop-holds
+    (λ c. omega arith)
+    (λ c. omega arith)
     (λ c κs. omega arith)
-    upper-byte-requires
     (λ c. omega arith)
     slice-write-a
     upper-weight-requires
@@ -59,5 +56,6 @@ upper-bytes-spec =
     (λ c. omega arith)
     (λ c. omega arith)
     loop-again
+    cast-result
     same-length
     returns)

@@ -23,6 +23,9 @@ counted-from c = chained-from c .before .before
 abbrev read-from : tie.After-leading → tie.After-upper-bytes
 read-from c = counted-from c .before .before .before
 
+abbrev shorts-from : tie.After-leading → tie.After-shorts-of
+shorts-from c = read-from c .before .before .before .before
+
 returns : tie.Need-returns
 returns c = λ e. absurd (clash e refl)
 
@@ -36,16 +39,18 @@ returns-4 : tie.Need-returns-4
 returns-4 c = λ e. absurd (clash e refl)
 
 returns-5 : tie.Need-returns-5
-returns-5 c = λ e. upper-filled _ _ _ _ _ _ (read-from (c .before) .upper-bytes .ensures) (omega (arith, counted-from (c .before) .before .if1 .left))
-    (read-from (c .before) .before .before .before .pre .1) (else4-from (c .before) .before .loose .ensures (else4-from (c .before) .if4 .left))
-    (lead-none _ _ _ _ _ (read-from (c .before) .upper-bytes .ensures) (c .before .leading .ensures (c .if5 .taken)))
+returns-5 c = λ e. upper-filled _ _ _ _ _ _ (read-from (c .before) .upper-bytes .ensures _ _ (shorts-from (c .before) .shorts-of .ensures))
+    (omega (arith, counted-from (c .before) .before .if1 .left))
+    (shorts-from (c .before) .before .before .before .pre .1) (else4-from (c .before) .before .loose .ensures (else4-from (c .before) .if4 .left))
+    (lead-none _ _ _ _ _ (read-from (c .before) .upper-bytes .ensures _ _ (shorts-from (c .before) .shorts-of .ensures))
+    (c .before .leading .ensures (c .if5 .taken)))
     (chained-from (c .before) .faults .ensures (marks-from (c .before) .before .before .if3 .left)) (marks-from (c .before) .all-marks .ensures) _
     (sym (counted-from (c .before) .if2 .left))
 
 returns-6 : tie.Need-returns-6
-returns-6 c = λ e. upper-filled _ _ _ _ _ _ (read-from (c .before .before) .upper-bytes .ensures)
+returns-6 c = λ e. upper-filled _ _ _ _ _ _ (read-from (c .before .before) .upper-bytes .ensures _ _ (shorts-from (c .before .before) .shorts-of .ensures))
     (omega (arith, counted-from (c .before .before) .before .if1 .left))
-    (read-from (c .before .before) .before .before .before .pre .1)
+    (shorts-from (c .before .before) .before .before .before .pre .1)
     (else4-from (c .before .before) .before .loose .ensures (else4-from (c .before .before) .if4 .left)) (c .children-ok .ensures e)
     (chained-from (c .before .before) .faults .ensures (marks-from (c .before .before) .before .before .if3 .left))
     (marks-from (c .before .before) .all-marks .ensures) _
@@ -55,6 +60,9 @@ pub upper-ok-spec : {M : Type 1} → statement M
 upper-ok-spec =
     tie.close
     (tie.spec
+    (λ c. search needs)
+    (λ c κs. search needs)
+    (λ c. search needs)
     (λ c. search needs)
     (λ c κs. search needs)
     returns

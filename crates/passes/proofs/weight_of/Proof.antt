@@ -10,17 +10,17 @@ use Rattle.passes.proofs.weight_of.Statement.{statement}
 use Rattle.passes.proofs.weight_of.Tie as tie
 
 mul-result : tie.Need-mul-result
-mul-result c = let h = and-small _ (c .before .one-if3 .result) (c .one-if4 .result)
-    (pick-le (eqb (c .before .before .before .before .args .w % 4) 2) _ (c .before .before .one-if2 .ensures)) in omega (arith, h)
+mul-result c = let h = and-small _ (c .before .one-of3 .result) (c .one-of4 .result)
+    (pick-le (eqb (c .before .before .before .before .args .y % 4) 2) _ (c .before .before .one-of2 .ensures)) in omega (arith, h)
 
 add-result : tie.Need-add-result
-add-result c = let h = and-small _ (c .before .one-if3 .result) (c .one-if4 .result)
-    (pick-le (eqb (c .before .before .before .before .args .w % 4) 2) _ (c .before .before .one-if2 .ensures)) in omega
-    (arith, h, pick-le (not (eqb (c .before .before .before .before .args .w) 0)) _ (c .before .before .before .one-if .ensures))
+add-result c = let h = and-small _ (c .before .one-of3 .result) (c .one-of4 .result)
+    (pick-le (eqb (c .before .before .before .before .args .y % 4) 2) _ (c .before .before .one-of2 .ensures)) in omega
+    (arith, h, pick-le (not (eqb (c .before .before .before .before .args .y) 0)) _ (c .before .before .before .one-of .ensures))
 
 returns : tie.Need-returns
-returns c = weighs notLeaf _ _ _ _ _ (c .before .before .before .one-if .ensures) (c .before .before .one-if2 .ensures)
-    (c .before .one-if3 .ensures) (c .one-if4 .ensures)
+returns c = weighs notLeaf _ _ _ _ _ (c .before .before .before .one-of .ensures) (c .before .before .one-of2 .ensures)
+    (c .before .one-of3 .ensures) (c .one-of4 .ensures)
 
 pub weight-of-spec : {M : Type 1} → statement M
 weight-of-spec =
