@@ -114,7 +114,7 @@ fn run_find(pool: &[u64], first: u64, last: u64, filter: u64, budget: u64) -> Re
     if budget == 0 {
         return answered(FIND_REPLY, NO_BUDGET, 0, 0);
     }
-    found_reply(lookup::find(pool, first, last, filter, budget))
+    found_reply(lookup::find::find(pool, first, last, filter, budget))
 }
 
 // The reply's tag of a mark, or of an unmark.
