@@ -24,7 +24,7 @@ mul-result-3 c =
 returns : tie.Need-returns
 returns c =
     let s = c .before .before .before .before .before .before .before .before .before in
-    word-four (s .args .s .now) (s .args .at) (c .before .before .before .before .before .before .wide .ensures)
+    word-four (s .args .s .now) (s .args .at) (c .before .before .before .before .before .before .widen .ensures)
     (c .before .before .before .before .wide2 .ensures) (c .before .before .wide3 .ensures) (c .wide4 .ensures)
 
 pub word-spec : {M : Type 1} → statement M

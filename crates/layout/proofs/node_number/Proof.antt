@@ -1,9 +1,9 @@
 -- `node_number`: the number of the node that the word of a slot leads to.
 use mathlib.Core.Path.{sym, ap, _∙_}
 use borrow.Author.Needs.{needs}
-use Rattle.plan.specs.Plan.{childOf}
-use Rattle.plan.proofs.node_number.Statement.{statement}
-use Rattle.plan.proofs.node_number.Tie as tie
+use Rattle.layout.specs.Pool.{childOf}
+use Rattle.layout.proofs.node_number.Statement.{statement}
+use Rattle.layout.proofs.node_number.Tie as tie
 
 enum-told : tie.Need-enum-told
 enum-told c = search needs
