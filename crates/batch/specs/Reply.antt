@@ -10,15 +10,37 @@ pub use Rattle.batch.specs.declared.Reply.{Reply}
 abbrev pub replyBytes : ℕ
 replyBytes = 24
 
+-- the tags of replies, 128 more than those of commands
+abbrev pub storeReply : ℕ
+storeReply = 129
+
+abbrev pub loadReply : ℕ
+loadReply = 130
+
+abbrev pub eraseReply : ℕ
+eraseReply = 131
+
+abbrev pub markReply : ℕ
+markReply = 132
+
+abbrev pub unmarkReply : ℕ
+unmarkReply = 133
+
+abbrev pub findReply : ℕ
+findReply = 134
+
+abbrev pub reserveReply : ℕ
+reserveReply = 135
+
 -- the tag of the reply to a command
 abbrev pub replyTag : Command → ℕ
-replyTag (Store i k w) = 129
-replyTag (Load i) = 130
-replyTag (Erase i) = 131
-replyTag (Mark i m) = 132
-replyTag (Unmark i m) = 133
-replyTag (Find a z f k) = 134
-replyTag (Reserve i) = 135
+replyTag (Store i k w) = storeReply
+replyTag (Load i) = loadReply
+replyTag (Erase i) = eraseReply
+replyTag (Mark i m) = markReply
+replyTag (Unmark i m) = unmarkReply
+replyTag (Find a z f k) = findReply
+replyTag (Reserve i) = reserveReply
 
 -- the 24 bytes of a reply
 abbrev pub encode : Reply → List ℕ

@@ -28,7 +28,7 @@ use Rattle.words.specs.Bytes.{Bytes}
 use Rattle.batch.specs.declared.Command.{Command}
 use Rattle.batch.specs.declared.Command.the-variants.{Store}
 use Rattle.batch.specs.Batch.{Parsed, Parsed.commands, Parsed.refused, parse}
-use Rattle.batch.specs.Reply.{replyBytes}
+use Rattle.batch.specs.Reply.{replyBytes, storeReply, reserveReply}
 use Rattle.batch.proofs.BoundLaws.{AllFit, parse-fits}
 use Rattle.batch.proofs.CutLaws.{cut}
 use Rattle.listing.proofs.ListedLaws.{listed-fits}
@@ -95,7 +95,7 @@ module _ (n : ℕ) (l : List Entry) (i k w : ℕ) where
       (λ a. byT (not (storable w)) (λ s. absurd (let z : _≡_ {A = ℕ} 6 11 = rw (t, a, s) at e in omega arith))
       (λ s. byT (short n l (store l i k w))
       (λ d. (ltb-false _ _ t, not-false (aligned k i) a, not-false (storable w) s, ltb-true _ _ d))
-      (λ d. absurd (never-11 129 (covering (store l i k w) i) (rw (t, a, s, d) at e))))))
+      (λ d. absurd (never-11 storeReply (covering (store l i k w) i) (rw (t, a, s, d) at e))))))
 
   short-exact : ShortExact n l i k w
   short-exact = record {
@@ -104,12 +104,12 @@ module _ (n : ℕ) (l : List Entry) (i k w : ℕ) where
   }
 
 module _ (n : ℕ) (l : List Entry) (i : ℕ) where
-  reserve-only : (o : Option Entry) → covering l i ≡ o → reserving (tree n) 135 l i o .reply .answer ≡ 11 →
+  reserve-only : (o : Option Entry) → covering l i ≡ o → reserving (tree n) reserveReply l i o .reply .answer ≡ 11 →
       (covering l i ≡ none) × (n - length (nodes l) < needed l (store l i 0 reservedWord))
   reserve-only (some x) q e = absurd (let z : _≡_ {A = ℕ} 15 11 = e in omega arith)
   reserve-only none q e =
       byT (short n l (store l i 0 reservedWord)) (λ d. (q, ltb-true _ _ d))
-      (λ d. absurd (never-11 135 (covering (store l i 0 reservedWord) i) (rw d at e)))
+      (λ d. absurd (never-11 reserveReply (covering (store l i 0 reservedWord) i) (rw d at e)))
 
   reserve-exact : ReserveShort n l i
   unfolding execute

@@ -32,7 +32,7 @@ fn further_tables() -> [u32; 1792]
     FURTHER
 }
 
-fn wide(b: u8) -> u32
+fn widen(b: u8) -> u32
     ensures { λ r. ⌜ r ≡ b ⌝ }
 {
     b as u32
@@ -43,7 +43,7 @@ fn byte_step(t: &[u32], c: u32, b: u8) -> u32
     requires { ⌜ Table (now t) ⌝ }
     ensures { λ r. ⌜ r ≡ byteStep c b ⌝ }
 {
-    let x = c ^ wide(b);
+    let x = c ^ widen(b);
     let i = (x % 256) as usize;
     t[i] ^ (x >> 8)
 }
@@ -68,7 +68,10 @@ fn word(s: &[u8], at: usize) -> u32
     requires { ⌜ at + 4 ≤ length (now s) ⌝ }
     ensures { λ r. ⌜ r ≡ word (now (s .entry)) at 4 ⌝ }
 {
-    wide(s[at]) ^ (wide(s[at + 1]) * 256) ^ (wide(s[at + 2]) * 65536) ^ (wide(s[at + 3]) * 16777216)
+    widen(s[at])
+        ^ (widen(s[at + 1]) * 256)
+        ^ (widen(s[at + 2]) * 65536)
+        ^ (widen(s[at + 3]) * 16777216)
 }
 
 // The low byte of x, with `level` bytes of zeros after its own, by a look-up.

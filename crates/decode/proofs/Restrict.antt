@@ -10,12 +10,12 @@ use lib.Dec.{leb, ltb, eqb, T}
 use Rattle.blocks.specs.Choice.{pick, both}
 use Rattle.blocks.specs.Lists.{any, keep, first}
 use Rattle.model.specs.declared.Entry.{Entry}
-use Rattle.model.specs.Model.{wordOk, covers, hasMark, marksOf}
+use Rattle.model.specs.Model.{wordOk, covers, hasMark, marksOf, maxOrder}
 use Rattle.tree.specs.Tree.{height, tierOrder, slots}
 use Rattle.tree.specs.Slots.{nodeWord, siblingWord, Numbering}
 use Rattle.layout.specs.Words.{filledOf}
-use Rattle.layout.specs.Pool.{slotOf, Pool, Free, slotAt}
-use Rattle.layout.specs.Decode.{wide, levelOf, headNumber}
+use Rattle.layout.specs.Pool.{slotOf, childOf, Pool, Free, slotAt}
+use Rattle.layout.specs.Decode.{wide, levelOf}
 
 abbrev pub inBlock : ℕ → ℕ → Entry → Bool
 inBlock w c e = eqb (e .base / w) c
@@ -66,7 +66,7 @@ headSlot l ν (suc v) = nodeWord (ν v 0)
 
 -- a valid list: in index order, apart, and each entry as it must be
 pub record EntryGood (e : Entry) : Type 0 where
-  pub order-le : e .order ≤ 63
+  pub order-le : e .order ≤ maxOrder
   pub aligned : e .base % 2 ^ e .order ≡ 0
   pub word-ok : T (wordOk e)
   pub word-fits : e .word < 2 ^ 64
@@ -96,8 +96,8 @@ pub record Prescribes (P : Pool) (l : List Entry) (ν : Numbering) : Type 0 wher
 
 module _ (P : Pool) where
   abbrev pub numFrom : ℕ → ℕ → ℕ
-  numFrom zero b = headNumber P (slotOf (P .head))
-  numFrom (suc d) b = headNumber P (slotAt P (numFrom d (b / slots)) (b % slots))
+  numFrom zero b = childOf (slotOf (P .head))
+  numFrom (suc d) b = childOf (slotAt P (numFrom d (b / slots)) (b % slots))
 
   abbrev pub numOf : ℕ → ℕ → ℕ
-  numOf v b = numFrom (levelOf P (headNumber P (slotOf (P .head))) - v) b
+  numOf v b = numFrom (levelOf P (childOf (slotOf (P .head))) - v) b

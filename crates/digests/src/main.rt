@@ -23,7 +23,7 @@ fn put_digest(s: &[u8]) {
 }
 
 // Bytes from `first` on, each `by` more than the last, wrapping at 256.
-fn fill(s: &mut [u8], first: u8, by: u8) {
+fn progression(s: &mut [u8], first: u8, by: u8) {
     let mut b = first;
     let mut i: usize = 0;
     while i < s.len() {
@@ -71,16 +71,16 @@ fn cuts(s: &[u8]) -> u32 {
 fn main() {
     let mut s = [0u8; 32];
     put_digest(&s);
-    fill(&mut s, 255, 0);
+    progression(&mut s, 255, 0);
     put_digest(&s);
-    fill(&mut s, 0, 1);
+    progression(&mut s, 0, 1);
     put_digest(&s);
-    fill(&mut s, 31, 255);
+    progression(&mut s, 31, 255);
     put_digest(&s);
     let command = read10();
     put_digest(&command);
     put_digest(b"123456789");
     let mut long = [0u8; 64];
-    fill(&mut long, 7, 37);
+    progression(&mut long, 7, 37);
     put(cuts(&long));
 }

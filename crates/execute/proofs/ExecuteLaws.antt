@@ -36,7 +36,7 @@ use Rattle.lookup.specs.Find.{anyMark}
 use Rattle.marks.proofs.RemarkLaws.{sorted-remark}
 use Rattle.batch.specs.declared.Command.{Command}
 use Rattle.batch.specs.declared.Command.the-variants.{Store, Load, Erase, Mark, Unmark, Find, Reserve}
-use Rattle.batch.specs.Reply.{replyTag}
+use Rattle.batch.specs.Reply.{replyTag, reserveReply}
 use Rattle.batch.specs.Fits.{Fits}
 use Rattle.execute.specs.Execute.{execute, short, tree}
 use Rattle.commands.specs.Commands.{refuse, replyOf, reserving}
@@ -115,7 +115,7 @@ module _ (n : ℕ) (l : List Entry) (v : Valid l) where
         enough = ltb-false _ _ d;
       })))))
 
-  reserved-keeps : (i : ℕ) → i < 2 ^ 64 → (o : Option Entry) → covering l i ≡ o → Keeps n l (reserving (tree n) 135 l i o .list)
+  reserved-keeps : (i : ℕ) → i < 2 ^ 64 → (o : Option Entry) → covering l i ≡ o → Keeps n l (reserving (tree n) reserveReply l i o .list)
   reserved-keeps i i< (some e) q = stays n v
   reserved-keeps i i< none q =
       byT (short n l (store l i 0 reservedWord)) (λ d. rw d (stays n v))
@@ -168,18 +168,18 @@ module _ (n : ℕ) (l : List Entry) (i k w : ℕ) (k≤ : k ≤ maxOrder) (al : 
 
 -- A RESERVATION: 15 where the index is covered, else exactly as a store
 module _ (n : ℕ) (l : List Entry) (i : ℕ) where
-  pub taken-15 : {e : Entry} → covering l i ≡ some e → execute n l (Reserve i) ≡ refuse l 135 isCovered
+  pub taken-15 : {e : Entry} → covering l i ≡ some e → execute n l (Reserve i) ≡ refuse l reserveReply isCovered
   unfolding execute
   taken-15 q = rw q
 
   module _ (q : covering l i ≡ none) where
     pub reserve-11 : n - length (nodes l) < needed l (store l i 0 reservedWord) →
-        execute n l (Reserve i) ≡ refuse l 135 tooFewNodes
+        execute n l (Reserve i) ≡ refuse l reserveReply tooFewNodes
     unfolding execute
     reserve-11 h = rw (q, lt-ltb (n - length (nodes l)) (needed l (store l i 0 reservedWord)) h)
 
     pub reserve-0 : needed l (store l i 0 reservedWord) ≤ n - length (nodes l) →
         execute n l (Reserve i)
-        ≡ record { reply = replyOf 135 0 (covering (store l i 0 reservedWord) i); list = store l i 0 reservedWord }
+        ≡ record { reply = replyOf reserveReply 0 (covering (store l i 0 reservedWord) i); list = store l i 0 reservedWord }
     unfolding execute
     reserve-0 h = rw (q, le-ltb (n - length (nodes l)) (needed l (store l i 0 reservedWord)) h)

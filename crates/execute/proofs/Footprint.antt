@@ -8,6 +8,7 @@ use mathlib.Core.Option.{Option, none, some}
 use native.Mathlib.Omega.{arith}
 use lib.Dec.{leb, ltb}
 use borrow.Author.Tests.{le-leb, eqb-true, eq-eqb}
+use Rattle.batch.specs.Reply.{storeReply, eraseReply, markReply, unmarkReply, reserveReply}
 use Rattle.blocks.specs.Lists.{any, All}
 use Rattle.blocks.specs.Blocks.{block}
 use Rattle.blocks.proofs.BoolLaws.{byT, clash, not-false}
@@ -88,7 +89,7 @@ module _ (n : ℕ) (l : List Entry) (v : Valid l) where
       go t (some e) p = let q = present-some (covering l i) p .0 in
           inr (
             refl,
-            rw t (covered-0 132 0 _ (present-marked l i m true p)),
+            rw t (covered-0 markReply 0 _ (present-marked l i m true p)),
             rw (q, le-leb 0 (e .order) (omega arith)) (entry-range i q),
             rw (t, q, le-leb 0 (e .order) (omega arith))
                 (agree-mark i m true q),
@@ -103,7 +104,7 @@ module _ (n : ℕ) (l : List Entry) (v : Valid l) where
       go t (some e) p = let q = present-some (covering l i) p .0 in
           inr (
             refl,
-            rw t (covered-0 133 0 _ (present-marked l i m false p)),
+            rw t (covered-0 unmarkReply 0 _ (present-marked l i m false p)),
             rw (q, le-leb 0 (e .order) (omega arith)) (entry-range i q),
             rw (t, q, le-leb 0 (e .order) (omega arith))
                 (agree-mark i m false q),
@@ -119,7 +120,7 @@ module _ (n : ℕ) (l : List Entry) (v : Valid l) where
       go (some e) q =
           inr (
             refl,
-            covered-0 131 0 (covering l i) q,
+            covered-0 eraseReply 0 (covering l i) q,
             rw (q, le-leb 0 (e .order) (omega arith)) (entry-range i q),
             rw (q, le-leb 0 (e .order) (omega arith), erase-clear i v q)
                 (agree-move i (e .base) (e .order) (eqb-true _ _ (first-yes (covers i) (each l (λ x m. m)) q .0))
@@ -182,7 +183,7 @@ module _ (n : ℕ) (l : List Entry) (v : Valid l) where
         let st : storable w ≡ true = not-false _ s in
         inr (
           refl,
-          rw (t, a, s, d) (covered-0 129 0 _ (covering-stored l i k w al st .1)),
+          rw (t, a, s, d) (covered-0 storeReply 0 _ (covering-stored l i k w al st .1)),
           range-aligned al (covering l i) refl,
           rw (t, a, s, d) (within-range al st),
         )))))
@@ -202,7 +203,7 @@ module _ (n : ℕ) (l : List Entry) (v : Valid l) where
           byT (short n l (store l i 0 reservedWord)) (λ d. inl (rw (q, d)))
           (λ d. inr (
             refl,
-            rw (q, d) (covered-0 135 0 _ (covering-reserved l i q)),
+            rw (q, d) (covered-0 reserveReply 0 _ (covering-reserved l i q)),
             index-aligned i,
             rw (q, d) (agree q),
           ))

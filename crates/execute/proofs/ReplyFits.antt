@@ -23,7 +23,7 @@ use Rattle.lookup.proofs.FindLaws.{Right, right-found, right-ended, right-pause
 use Rattle.tree.proofs.HeightLaws.{height-most}
 use Rattle.batch.specs.declared.Command.{Command}
 use Rattle.batch.specs.declared.Command.the-variants.{Store, Load, Erase, Mark, Unmark, Find, Reserve}
-use Rattle.batch.specs.Reply.{answered, answeredBy}
+use Rattle.batch.specs.Reply.{answered, answeredBy, storeReply, loadReply, eraseReply, markReply, unmarkReply, findReply, reserveReply}
 use Rattle.batch.specs.Fits.{Fits}
 use Rattle.execute.specs.Execute.{execute, finding, short, tree}
 use Rattle.commands.specs.Commands.{replyOf, reserving}
@@ -93,11 +93,11 @@ module _ (n : ℕ) (l : List Entry) (v : Valid l) where
   load-fits i =
       let h : height l ≤ topTier = height-most l in
       let d : depthTo l i (height l) ≤ height l = depth-le l i (height l) in
-      present-fits v 130 (omega arith) i (depth l i) (omega arith)
+      present-fits v loadReply (omega arith) i (depth l i) (omega arith)
 
   erase-fits : (i : ℕ) → FitsReply (execute n l (Erase i) .reply)
   unfolding execute
-  erase-fits i = covered-fits v 131 (omega arith) i 0 (omega arith)
+  erase-fits i = covered-fits v eraseReply (omega arith) i 0 (omega arith)
 
   store-fits : (i k w : ℕ) → Fits (Store i k w) → FitsReply (execute n l (Store i k w) .reply)
   unfolding execute
@@ -105,11 +105,11 @@ module _ (n : ℕ) (l : List Entry) (v : Valid l) where
     where
       go : Valid (execute n l (Store i k w) .list) → FitsReply (execute n l (Store i k w) .reply)
       go u =
-          byT (ltb maxOrder k) (λ t. rw t (bare 129 5 (omega arith) (omega arith)))
-          (λ t. byT (not (aligned k i)) (λ a. rw (t, a) (bare 129 14 (omega arith) (omega arith)))
-          (λ a. byT (not (storable w)) (λ s. rw (t, a, s) (bare 129 6 (omega arith) (omega arith)))
-          (λ s. byT (short n l (store l i k w)) (λ d. rw (t, a, s, d) (bare 129 11 (omega arith) (omega arith)))
-          (λ d. rw (t, a, s, d) (covered-fits (rw (t, a, s, d) at u) 129 (omega arith) i 0 (omega arith))))))
+          byT (ltb maxOrder k) (λ t. rw t (bare storeReply 5 (omega arith) (omega arith)))
+          (λ t. byT (not (aligned k i)) (λ a. rw (t, a) (bare storeReply 14 (omega arith) (omega arith)))
+          (λ a. byT (not (storable w)) (λ s. rw (t, a, s) (bare storeReply 6 (omega arith) (omega arith)))
+          (λ s. byT (short n l (store l i k w)) (λ d. rw (t, a, s, d) (bare storeReply 11 (omega arith) (omega arith)))
+          (λ d. rw (t, a, s, d) (covered-fits (rw (t, a, s, d) at u) storeReply (omega arith) i 0 (omega arith))))))
 
   mark-fits : (i m : ℕ) → FitsReply (execute n l (Mark i m) .reply)
   unfolding execute
@@ -117,8 +117,8 @@ module _ (n : ℕ) (l : List Entry) (v : Valid l) where
     where
       go : Valid (execute n l (Mark i m) .list) → FitsReply (execute n l (Mark i m) .reply)
       go u =
-          byT (leb markCount m) (λ t. rw t (bare 132 7 (omega arith) (omega arith)))
-          (λ t. rw t (present-fits (rw t at u) 132 (omega arith) i 0 (omega arith)))
+          byT (leb markCount m) (λ t. rw t (bare markReply 7 (omega arith) (omega arith)))
+          (λ t. rw t (present-fits (rw t at u) markReply (omega arith) i 0 (omega arith)))
 
   unmark-fits : (i m : ℕ) → FitsReply (execute n l (Unmark i m) .reply)
   unfolding execute
@@ -126,28 +126,28 @@ module _ (n : ℕ) (l : List Entry) (v : Valid l) where
     where
       go : Valid (execute n l (Unmark i m) .list) → FitsReply (execute n l (Unmark i m) .reply)
       go u =
-          byT (leb markCount m) (λ t. rw t (bare 133 7 (omega arith) (omega arith)))
-          (λ t. rw t (present-fits (rw t at u) 133 (omega arith) i 0 (omega arith)))
+          byT (leb markCount m) (λ t. rw t (bare unmarkReply 7 (omega arith) (omega arith)))
+          (λ t. rw t (present-fits (rw t at u) unmarkReply (omega arith) i 0 (omega arith)))
 
   find-fits : (a z f k : ℕ) → z < 256 ^ 8 → k < 256 ^ 2 → FitsReply (execute n l (Find a z f k) .reply)
   unfolding execute
   find-fits a z f k z< k< =
-      byT (ltb anyMark f) (λ t. rw t (bare 134 7 (omega arith) (omega arith)))
-      (λ t. byT (ltb z a) (λ s. rw (t, s) (bare 134 8 (omega arith) (omega arith)))
-      (λ s. byT (eqb k 0) (λ d. rw (t, s, d) (bare 134 9 (omega arith) (omega arith)))
+      byT (ltb anyMark f) (λ t. rw t (bare findReply 7 (omega arith) (omega arith)))
+      (λ t. byT (ltb z a) (λ s. rw (t, s) (bare findReply 8 (omega arith) (omega arith)))
+      (λ s. byT (eqb k 0) (λ d. rw (t, s, d) (bare findReply 9 (omega arith) (omega arith)))
       (λ d. rw (t, s, d)
-      (found-fits v 134 (omega arith) a z f k z< k< (find-right l v a z f k (ltb-false _ _ s))))))
+      (found-fits v findReply (omega arith) a z f k z< k< (find-right l v a z f k (ltb-false _ _ s))))))
 
   reserve-fits : (i : ℕ) → i < 2 ^ 64 → FitsReply (execute n l (Reserve i) .reply)
   unfolding execute
   reserve-fits i i< = go (covering l i) refl (execute-keeps n l v (Reserve i) i< .valid)
     where
-      go : (o : Option Entry) → covering l i ≡ o → Valid (reserving (tree n) 135 l i (covering l i) .list) →
-          FitsReply (reserving (tree n) 135 l i (covering l i) .reply)
-      go (some e) q u = rw q (bare 135 15 (omega arith) (omega arith))
+      go : (o : Option Entry) → covering l i ≡ o → Valid (reserving (tree n) reserveReply l i (covering l i) .list) →
+          FitsReply (reserving (tree n) reserveReply l i (covering l i) .reply)
+      go (some e) q u = rw q (bare reserveReply 15 (omega arith) (omega arith))
       go none q u =
-          byT (short n l (store l i 0 reservedWord)) (λ d. rw (q, d) (bare 135 11 (omega arith) (omega arith)))
-          (λ d. rw (q, d) (covered-fits (rw (q, d) at u) 135 (omega arith) i 0 (omega arith)))
+          byT (short n l (store l i 0 reservedWord)) (λ d. rw (q, d) (bare reserveReply 11 (omega arith) (omega arith)))
+          (λ d. rw (q, d) (covered-fits (rw (q, d) at u) reserveReply (omega arith) i 0 (omega arith)))
 
   -- R49
   pub reply-fits : (c : Command) → Fits c → FitsReply (execute n l c .reply)

@@ -34,7 +34,7 @@ use Rattle.erase.proofs.FreedLaws.{map-remark}
 use Rattle.batch.specs.declared.Command.{Command}
 use Rattle.batch.specs.declared.Command.the-variants.{Store, Load, Erase, Mark, Unmark, Find, Reserve}
 use Rattle.batch.specs.declared.Reply.{Reply}
-use Rattle.batch.specs.Reply.{answered}
+use Rattle.batch.specs.Reply.{answered, storeReply, loadReply, eraseReply, markReply, unmarkReply, findReply, reserveReply}
 use Rattle.execute.specs.Execute.{execute, finding}
 use Rattle.commands.specs.Commands.{Executed, leave, refuse, replyOf, marking}
 use Rattle.answers.specs.Answers.{badOrder, badEntry, notAligned, badMark, firstAboveLast, noBudget, tooFewNodes}
@@ -52,37 +52,37 @@ covered-is t none = refl
 covered-is t (some e) = refl
 
 module _ (n : ℕ) (l : List Entry) where
-  pub load-runs : (i : ℕ) → execute n l (Load i) ≡ leave l (loadedReply 130 (load l i))
+  pub load-runs : (i : ℕ) → execute n l (Load i) ≡ leave l (loadedReply loadReply (load l i))
   unfolding execute
-  load-runs i = ap (leave l) (sym (loaded-is 130 (depth l i) (present (covering l i))))
+  load-runs i = ap (leave l) (sym (loaded-is loadReply (depth l i) (present (covering l i))))
 
   module _ (a z f k : ℕ) where
-    pub find-mark : anyMark < f → execute n l (Find a z f k) ≡ refuse l 134 badMark
+    pub find-mark : anyMark < f → execute n l (Find a z f k) ≡ refuse l findReply badMark
     unfolding execute
     find-mark h = rw (lt-ltb anyMark f h)
 
-    pub find-first : f ≤ anyMark → z < a → execute n l (Find a z f k) ≡ refuse l 134 firstAboveLast
+    pub find-first : f ≤ anyMark → z < a → execute n l (Find a z f k) ≡ refuse l findReply firstAboveLast
     unfolding execute
     find-first h g = rw (le-ltb anyMark f h, lt-ltb z a g)
 
-    pub find-budget : f ≤ anyMark → a ≤ z → k ≡ 0 → execute n l (Find a z f k) ≡ refuse l 134 noBudget
+    pub find-budget : f ≤ anyMark → a ≤ z → k ≡ 0 → execute n l (Find a z f k) ≡ refuse l findReply noBudget
     unfolding execute
     find-budget h g e = rw (le-ltb anyMark f h, le-ltb z a g, eq-eqb k 0 e)
 
     pub find-runs : f ≤ anyMark → a ≤ z → k ≢ 0 →
-        execute n l (Find a z f k) ≡ leave l (finding 134 (find l a z f k))
+        execute n l (Find a z f k) ≡ leave l (finding findReply (find l a z f k))
     unfolding execute
     find-runs h g e = rw (le-ltb anyMark f h, le-ltb z a g, ne-eqb k 0 e)
 
   module _ (i m : ℕ) where
     pub remark-above : (on : Bool) → markCount ≤ m →
-        execute n l (remarking i m on) ≡ refuse l (pick on 132 133) badMark
+        execute n l (remarking i m on) ≡ refuse l (pick on markReply unmarkReply) badMark
     unfolding execute
     remark-above true h = rw (le-leb markCount m h)
     remark-above false h = rw (le-leb markCount m h)
 
     pub remark-runs : (on : Bool) → m < markCount →
-        execute n l (remarking i m on) ≡ marking (pick on 132 133) l i m on
+        execute n l (remarking i m on) ≡ marking (pick on markReply unmarkReply) l i m on
     unfolding execute
     remark-runs true h = rw (lt-leb markCount m h)
     remark-runs false h = rw (lt-leb markCount m h)
@@ -128,23 +128,23 @@ unmarked-words s i m h x =
 pub unmarked-reply : {ws ws′ : List ℕ} (s : WellFormed ws) (i m : ℕ) {q : Reply} → m < markCount →
     present (covering (remark (s .list) i m false) i) ≡ covering (remark (s .list) i m false) i →
     Executes s (remarking i m false) q ws′ →
-    asStored q ≡ coveredReply 129 (covered (covering (remark (s .list) i m false) i))
+    asStored q ≡ coveredReply storeReply (covered (covering (remark (s .list) i m false) i))
 unmarked-reply s i m h p x =
     ap asStored (x .reply-is ∙ ap (λ (y : Executed). y .reply) (remark-runs (s .n) (s .list) i m false h)
-    ∙ ap (replyOf 133 0) p)
+    ∙ ap (replyOf unmarkReply 0) p)
     ∙ go (covering (remark (s .list) i m false) i)
   where
-    go : (o : Option Entry) → asStored (replyOf 133 0 o) ≡ coveredReply 129 (covered o)
+    go : (o : Option Entry) → asStored (replyOf unmarkReply 0 o) ≡ coveredReply storeReply (covered o)
     go none = refl
     go (some e) = refl
 
 -- an erase
 pub erases : {ws ws′ : List ℕ} (s : WellFormed ws) (i : ℕ) {q : Reply} →
-    q ≡ coveredReply 131 (covered (covering (s .list) i)) →
+    q ≡ coveredReply eraseReply (covered (covering (s .list) i)) →
     ws′ ≡ render (erase (s .list) i) (prune (erase (s .list) i) (s .places)) (s .n) → Executes s (Erase i) q ws′
 unfolding execute
 erases s i r w = record {
-  reply-is = r ∙ covered-is 131 (covering (s .list) i);
+  reply-is = r ∙ covered-is eraseReply (covering (s .list) i);
   words-are =
       w
       ∙ ap (λ (os : Places). render (erase (s .list) i) os (s .n))
@@ -153,23 +153,23 @@ erases s i r w = record {
 
 -- A STORE
 module _ (n : ℕ) (l : List Entry) (i k w : ℕ) where
-  pub store-order : maxOrder < k → execute n l (Store i k w) ≡ refuse l 129 badOrder
+  pub store-order : maxOrder < k → execute n l (Store i k w) ≡ refuse l storeReply badOrder
   unfolding execute
   store-order h = rw (lt-ltb maxOrder k h)
 
-  pub store-index : k ≤ maxOrder → aligned k i ≡ false → execute n l (Store i k w) ≡ refuse l 129 notAligned
+  pub store-index : k ≤ maxOrder → aligned k i ≡ false → execute n l (Store i k w) ≡ refuse l storeReply notAligned
   unfolding execute
   store-index h a = rw (le-ltb maxOrder k h, a)
 
   pub store-word : k ≤ maxOrder → aligned k i ≡ true → storable w ≡ false →
-      execute n l (Store i k w) ≡ refuse l 129 badEntry
+      execute n l (Store i k w) ≡ refuse l storeReply badEntry
   unfolding execute
   store-word h a e = rw (le-ltb maxOrder k h, a, e)
 
 -- its last step, by what it came to
 module _ {ws : List ℕ} (s : WellFormed ws) (i : ℕ) {x : Stored} {q : Reply} where
   pub settles-done : {ws′ : List ℕ} {e : Entry} → x ≡ Done e →
-      (covering (s .list) i ≡ some e → (q ≡ coveredReply 129 (covered (covering (remark (s .list) i matchedMark false) i)))
+      (covering (s .list) i ≡ some e → (q ≡ coveredReply storeReply (covered (covering (remark (s .list) i matchedMark false) i)))
       × (ws′ ≡ render (remark (s .list) i matchedMark false) (s .places) (s .n))) →
       Settles s i x q ws′
   settles-done {e = e} d f = record {
@@ -177,7 +177,7 @@ module _ {ws : List ℕ} (s : WellFormed ws) (i : ℕ) {x : Stored} {q : Reply} 
     short = λ o. let w : _≡_ {A = ℕ} 0 1 = cc in absurd (omega arith);
   }
 
-  pub settles-short : x ≡ Short → q ≡ answered 129 tooFewNodes 0 0 → Settles s i x q ws
+  pub settles-short : x ≡ Short → q ≡ answered storeReply tooFewNodes 0 0 → Settles s i x q ws
   settles-short d e = record {
     done = λ o c. let w : _≡_ {A = ℕ} 0 1 = cc in absurd (omega arith);
     short = λ _. (e, refl);
@@ -216,7 +216,7 @@ module _ {ws ws₁ : List ℕ} (s : WellFormed ws) (i k w : ℕ) {x : Stored} (i
   store-formed = by-room done-formed (λ d. subst WellFormed (sym (r .short d .1)) s)
 
   module _ {ws′ : List ℕ} {q : Reply} (z : (t : WellFormed ws₁) → Settles t i x q ws′) where
-    settled : (d : Enough) → (q ≡ coveredReply 129 (covered (covering l₂ i)))
+    settled : (d : Enough) → (q ≡ coveredReply storeReply (covered (covering l₂ i)))
         × (ws′ ≡ render l₂ (newPlaces (s .list) l₁ (s .places)) (s .n))
     settled d = z (done-formed d) .done (r .done d .outcome-is) (r .done d .covering-is)
 
@@ -238,12 +238,12 @@ module _ {ws ws₁ : List ℕ} (s : WellFormed ws) (i k w : ℕ) {x : Stored} (i
 
       full : Enough → Executes s (Store i k w) q ws′
       full d =
-          let a : execute (s .n) (s .list) (Store i k w) ≡ record { reply = replyOf 129 0 (covering l₂ i); list = l₂ } =
+          let a : execute (s .n) (s .list) (Store i k w) ≡ record { reply = replyOf storeReply 0 (covering l₂ i); list = l₂ } =
           enough-0 (s .n) (s .list) i k w k≤ al st (omega (arith, free, same-needed))
-          ∙ ap (λ (l : List Entry). record { reply = replyOf 129 0 (covering l i); list = l }) new-is in
+          ∙ ap (λ (l : List Entry). record { reply = replyOf storeReply 0 (covering l i); list = l }) new-is in
           record {
             reply-is =
-                settled d .0 ∙ covered-is 129 (covering l₂ i) ∙ sym (ap (λ (y : Executed). y .reply) a);
+                settled d .0 ∙ covered-is storeReply (covering l₂ i) ∙ sym (ap (λ (y : Executed). y .reply) a);
             words-are =
                 settled d .1
                 ∙ ap (λ (os : Places). render l₂ os (s .n))
@@ -276,11 +276,11 @@ module _ {ws : List ℕ} (s : WellFormed ws) (i : ℕ) where
     reserve-full d =
         let o : Holding (s .n) (s .list) (s .places) reserved-list i ws′ x = r .done d in
         let a : execute (s .n) (s .list) (Reserve i)
-        ≡ record { reply = replyOf 135 0 (covering reserved-list i); list = reserved-list } =
+        ≡ record { reply = replyOf reserveReply 0 (covering reserved-list i); list = reserved-list } =
         reserve-0 (s .n) (s .list) i c (omega (arith, free-count)) in
         record {
           reply-is =
-              e ∙ ap reservedReply (o .outcome-is) ∙ sym (ap (replyOf 135 0) (o .covering-is))
+              e ∙ ap reservedReply (o .outcome-is) ∙ sym (ap (replyOf reserveReply 0) (o .covering-is))
               ∙ sym (ap (λ (y : Executed). y .reply) a);
           words-are = o .words-are ∙ sym (words-after s (Reserve i) (ap (λ (y : Executed). y .list) a));
         }

@@ -46,7 +46,7 @@ use Rattle.batch.specs.declared.Command.the-variants.{Store, Load, Erase, Mark,
 use Rattle.execute.specs.Execute.{execute, finding, short}
 use Rattle.commands.specs.Commands.{Executed, leave, replyOf, marking}
 use Rattle.batch.specs.declared.Reply.{Reply}
-use Rattle.batch.specs.Reply.{answered}
+use Rattle.batch.specs.Reply.{answered, storeReply, loadReply, eraseReply, markReply, unmarkReply, findReply, reserveReply}
 use Rattle.execute.specs.Table.{CommandRow}
 use Rattle.execute.specs.Table.CommandRow.{
   store-5,
@@ -139,7 +139,7 @@ module _ (l : List Entry) where
       (store-covering i 0 reservedWord l (room l i 0 t) i refl)
 
   pub reserved-reply : (i : ℕ) → covering l i ≡ none →
-      replyOf 135 0 (covering (store l i 0 reservedWord) i) ≡ answered 135 0 i 0
+      replyOf reserveReply 0 (covering (store l i 0 reservedWord) i) ≡ answered reserveReply 0 i 0
   reserved-reply i q =
       rw (covering-reserved i q, whole i 0 (index-aligned i), bare i 0 reservedWord l (over-none l i 0 q) refl)
 
@@ -152,24 +152,24 @@ covering-stored l i k w al st =
     )
 
 module _ (n : ℕ) (l : List Entry) (i : ℕ) where
-  loads : {o : Option Entry} → present (covering l i) ≡ o → leave l (replyOf 130 (depth l i) o) ≡ execute n l (Load i)
+  loads : {o : Option Entry} → present (covering l i) ≡ o → leave l (replyOf loadReply (depth l i) o) ≡ execute n l (Load i)
   unfolding execute
   loads q = rw q
 
-  erases-none : covering l i ≡ none → leave l (replyOf 131 0 none) ≡ execute n l (Erase i)
+  erases-none : covering l i ≡ none → leave l (replyOf eraseReply 0 none) ≡ execute n l (Erase i)
   unfolding execute
   erases-none q = rw (erase-none i q, q)
 
   erases-some : {e : Entry} → covering l i ≡ some e →
-      record { reply = replyOf 131 0 (some e); list = erase l i } ≡ execute n l (Erase i)
+      record { reply = replyOf eraseReply 0 (some e); list = erase l i } ≡ execute n l (Erase i)
   unfolding execute
   erases-some q = rw q
 
 -- THE ROWS
 module _ (n : ℕ) (l : List Entry) (v : Valid l) where
   found-sole : {a z f k : ℕ} {x : Outcome} → f ≤ anyMark → a ≤ z → k ≢ 0 → x ≡ find l a z f k →
-      leave l (finding 134 x) ≡ execute n l (Find a z f k)
-  found-sole h g b e = ap (λ (o : Outcome). leave l (finding 134 o)) e ∙ sym (find-runs n l _ _ _ _ h g b)
+      leave l (finding findReply x) ≡ execute n l (Find a z f k)
+  found-sole h g b e = ap (λ (o : Outcome). leave l (finding findReply o)) e ∙ sym (find-runs n l _ _ _ _ h g b)
 
   -- a row whose condition holds is what the command comes to
   pub row-sole : {c : Command} {x : Executed} → CommandRow n l c x → x ≡ execute n l c
@@ -179,17 +179,17 @@ module _ (n : ℕ) (l : List Entry) (v : Valid l) where
   row-sole (store-11 {i} {k} {w} h a s d) = sym (short-11 n l i k w h a s d)
   row-sole (store-0 {i} {k} {w} h a s d q) =
       sym (enough-0 n l i k w h a s d
-      ∙ ap (λ (o : Option Entry). record { reply = replyOf 129 0 o; list = store l i k w }) q)
+      ∙ ap (λ (o : Option Entry). record { reply = replyOf storeReply 0 o; list = store l i k w }) q)
   row-sole (load-10 {i} q) = loads n l i q
   row-sole (load-0 {i} q) = loads n l i q
   row-sole (erase-10 {i} q) = erases-none n l i q
   row-sole (erase-0 {i} q) = erases-some n l i q
   row-sole (mark-7 {i} {m} h) = sym (remark-above n l i m true h)
-  row-sole (mark-10 {i} {m} h q) = sym (remark-runs n l i m true h ∙ marked-none l v 132 i m true q)
-  row-sole (mark-0 {i} {m} h q) = sym (remark-runs n l i m true h ∙ marked-some l 132 i m true q)
+  row-sole (mark-10 {i} {m} h q) = sym (remark-runs n l i m true h ∙ marked-none l v markReply i m true q)
+  row-sole (mark-0 {i} {m} h q) = sym (remark-runs n l i m true h ∙ marked-some l markReply i m true q)
   row-sole (unmark-7 {i} {m} h) = sym (remark-above n l i m false h)
-  row-sole (unmark-10 {i} {m} h q) = sym (remark-runs n l i m false h ∙ marked-none l v 133 i m false q)
-  row-sole (unmark-0 {i} {m} h q) = sym (remark-runs n l i m false h ∙ marked-some l 133 i m false q)
+  row-sole (unmark-10 {i} {m} h q) = sym (remark-runs n l i m false h ∙ marked-none l v unmarkReply i m false q)
+  row-sole (unmark-0 {i} {m} h q) = sym (remark-runs n l i m false h ∙ marked-some l unmarkReply i m false q)
   row-sole (reserve-15 {i} q) = sym (taken-15 n l i q)
   row-sole (reserve-11 {i} q d) = sym (X.reserve-11 n l i q d)
   row-sole (reserve-0 {i} q d) = sym (X.reserve-0 n l i q d

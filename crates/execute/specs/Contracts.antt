@@ -13,7 +13,7 @@ use Rattle.lookup.specs.declared.Loaded.the-variants.{Absent, Present}
 use Rattle.batch.specs.declared.Command.{Command}
 use Rattle.batch.specs.declared.Command.the-variants.{Store, Load, Erase, Mark, Unmark, Find, Reserve}
 use Rattle.batch.specs.declared.Reply.{Reply}
-use Rattle.batch.specs.Reply.{answered, answeredBy}
+use Rattle.batch.specs.Reply.{answered, answeredBy, storeReply, reserveReply}
 use Rattle.commands.specs.Replies.{coveredReply}
 use Rattle.store.specs.declared.Stored.{Stored}
 use Rattle.store.specs.declared.Stored.the-variants.{Done, Short, Taken}
@@ -29,9 +29,9 @@ loadedReply t (Present e d) = answeredBy t e d
 
 -- the reply by what a reservation comes to
 abbrev pub reservedReply : Stored → Reply
-reservedReply (Done e) = answeredBy 135 e 0
-reservedReply Short = answered 135 tooFewNodes 0 0
-reservedReply Taken = answered 135 isCovered 0 0
+reservedReply (Done e) = answeredBy reserveReply e 0
+reservedReply Short = answered reserveReply tooFewNodes 0 0
+reservedReply Taken = answered reserveReply isCovered 0 0
 
 -- a store, or a reservation
 abbrev pub putting : (i k w : ℕ) → Bool → Command
@@ -72,7 +72,7 @@ wordsTo s c = let t = next (s .n) (stateOf s) c in render (t .list) (t .places) 
 abbrev pub asStored : Reply → Reply
 asStored r =
     record {
-      tag = 129;
+      tag = storeReply;
       answer = r .answer;
       index = r .index;
       order = r .order;
@@ -84,9 +84,9 @@ asStored r =
 -- the last step of a store that came to x: mark 2 of the entry that it left over i is cleared, and the reply
 pub record Settles {ws : List ℕ} (s : WellFormed ws) (i : ℕ) (x : Stored) (r : Reply) (ws′ : List ℕ) : Type 0 where
   pub done : {e : Entry} → x ≡ Done e → covering (s .list) i ≡ some e →
-      (r ≡ coveredReply 129 (covered (covering (remark (s .list) i matchedMark false) i)))
+      (r ≡ coveredReply storeReply (covered (covering (remark (s .list) i matchedMark false) i)))
       × (ws′ ≡ render (remark (s .list) i matchedMark false) (s .places) (s .n))
-  pub short : x ≡ Short → (r ≡ answered 129 tooFewNodes 0 0) × (ws′ ≡ ws)
+  pub short : x ≡ Short → (r ≡ answered storeReply tooFewNodes 0 0) × (ws′ ≡ ws)
 
 -- the reply and the words after a command
 pub record Executes {ws : List ℕ} (s : WellFormed ws) (c : Command) (r : Reply) (ws′ : List ℕ) : Type 0 where

@@ -35,6 +35,7 @@ ghost use mathlib.Core.Bool.{true, false};
 ghost use mathlib.Core.List.{List};
 ghost use mathlib.Core.Option.{some};
 ghost use Prim.Native.Nat.{ℕ};
+ghost use Rattle.batch.specs.Reply.{storeReply, loadReply, markReply, unmarkReply, findReply};
 ghost use Rattle.blocks.specs.Choice.{pick};
 ghost use Rattle.model.specs.Model.{reservedWord, matchedMark, covering, covered, remark};
 ghost use Rattle.layout.specs.Places.{render};
@@ -65,7 +66,7 @@ struct Put {
 }
 
 fn loaded_reply(x: Loaded) -> Reply
-    ensures { λ r. ⌜ r ≡ loadedReply 130 x ⌝ }
+    ensures { λ r. ⌜ r ≡ loadedReply loadReply x ⌝ }
 {
     match x {
         Loaded::Absent(d) => answered(LOAD_REPLY, ABSENT, 0, d),
@@ -74,7 +75,7 @@ fn loaded_reply(x: Loaded) -> Reply
 }
 
 fn found_reply(x: Outcome) -> Reply
-    ensures { λ r. ⌜ r ≡ finding 134 x ⌝ }
+    ensures { λ r. ⌜ r ≡ finding findReply x ⌝ }
 {
     match x {
         Outcome::Found(e, n) => answered_by(FIND_REPLY, e, n),
@@ -114,12 +115,12 @@ fn run_find(pool: &[u64], first: u64, last: u64, filter: u64, budget: u64) -> Re
     if budget == 0 {
         return answered(FIND_REPLY, NO_BUDGET, 0, 0);
     }
-    found_reply(lookup::find(pool, first, last, filter, budget))
+    found_reply(lookup::find::find(pool, first, last, filter, budget))
 }
 
 // The reply's tag of a mark, or of an unmark.
 fn remarked_tag(on: bool) -> u64
-    ensures { λ r. ⌜ r ≡ pick on 132 133 ⌝ }
+    ensures { λ r. ⌜ r ≡ pick on markReply unmarkReply ⌝ }
 {
     if on { MARK_REPLY } else { UNMARK_REPLY }
 }
@@ -168,7 +169,7 @@ fn as_stored(r: Reply) -> Reply
 fn unmatch(pool: &mut [u64], index: u64, e: Entry) -> Reply
     requires { ⌜ WellFormed (now pool) ⌝ }
     ensures { λ r. ⌜ ((s : WellFormed (now (pool .entry))) → covering (s .list) index ≡ some e →
-        r ≡ coveredReply 129 (covered (covering (remark (s .list) index matchedMark false) index))) ⌝ }
+        r ≡ coveredReply storeReply (covered (covering (remark (s .list) index matchedMark false) index))) ⌝ }
     ensures { λ _. ⌜ ((s : WellFormed (now (pool .entry))) → covering (s .list) index ≡ some e →
         now (pool .exit) ≡ render (remark (s .list) index matchedMark false) (s .places) (s .n)) ⌝ }
 {

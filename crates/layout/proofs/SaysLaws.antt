@@ -1,17 +1,19 @@
 -- What a slot's word says, and the words that say it.
 use Prim.Native.Nat.{ℕ, _*_, _-_, _/_, _%_, _<_}
-use mathlib.Core.Path.{_≡_, subst}
+use mathlib.Core.Path.{_≡_, refl, ap, subst}
 use mathlib.Core.Logic.{_≢_}
+use mathlib.Core.Bool.{true}
 use native.Mathlib.Omega.{arith}
 use lib.Dec.{eqb, ltb}
 use borrow.Author.Tests.{eqb-true, eqb-false, eq-eqb, ne-eqb, ltb-true, ltb-false, lt-ltb, le-ltb}
-use Rattle.blocks.proofs.BoolLaws.{byT}
+use Rattle.blocks.proofs.BoolLaws.{byT, clash}
 use Rattle.model.specs.Model.{reservedWord}
 use Rattle.tree.specs.Tree.{slots}
 use Rattle.tree.specs.Slots.{nodeWord, siblingWord, nodeOffset}
 use Rattle.layout.specs.declared.Slot.{Slot}
 use Rattle.layout.specs.declared.Slot.the-variants.{Empty, Reserved, Held, Sibling, Child}
-use Rattle.layout.specs.Pool.{slotOf}
+use Rattle.layout.specs.Pool.{slotOf, childOf}
+use Rattle.layout.specs.Reading.{isChild, isNode}
 
 abbrev pub Says : ℕ → Slot → Type 0
 Says w Empty = w ≡ 0
@@ -65,3 +67,20 @@ word-of w κ e = subst (Says w) e (says w)
 -- of a slot of a node
 pub said-sibling : (w o : ℕ) → w ≡ siblingWord o → o < slots → slotOf w ≡ Sibling o
 said-sibling w o e h = said w (Sibling o) (e, omega arith, λ (z : w ≡ reservedWord). omega arith)
+
+-- a word leads to a node exactly if it is a node's
+pub node-word-of : (w : ℕ) → isNode w ≡ true → (m : ℕ) × (w ≡ nodeWord m)
+node-word-of w t = go (slotOf w) (says w) t
+  where
+    go : (κ : Slot) → Says w κ → isChild κ ≡ true → (m : ℕ) × (w ≡ nodeWord m)
+    go Empty e t = absurd (clash t refl)
+    go Reserved e t = absurd (clash t refl)
+    go Held e t = absurd (clash t refl)
+    go (Sibling o) e t = absurd (clash t refl)
+    go (Child m) e t = (m, e)
+
+pub is-node-word : (w m : ℕ) → w ≡ nodeWord m → isNode w ≡ true
+is-node-word w m e = ap isChild (said w (Child m) e)
+
+pub child-is : (w m : ℕ) → w ≡ nodeWord m → childOf (slotOf w) ≡ m
+child-is w m e = ap childOf (said w (Child m) e)

@@ -11,7 +11,7 @@ use Rattle.model.specs.declared.Entry.{Entry}
 use Rattle.tree.specs.Tree.{slotBits, slots, tierOrder, Node}
 use Rattle.layout.specs.Words.{countWord}
 use Rattle.layout.specs.Places.{Places}
-use Rattle.layout.specs.Pool.{Slot, Empty, Reserved, Held, Sibling, Child, slotOf, slotAt, Pool, poolOf, run}
+use Rattle.layout.specs.Pool.{Slot, Empty, Reserved, Held, Sibling, Child, slotOf, childOf, slotAt, Pool, poolOf, run}
 
 -- how many indices a slot of level v covers (the level of a node is its shift / 6, its tier less 1)
 abbrev pub wide : ℕ → ℕ
@@ -66,16 +66,9 @@ module _ (P : Pool) where
   listIn = listFor (slotOf (P .head))
 
   -- THE PLACES
-  abbrev pub headNumber : Slot → ℕ
-  headNumber Empty = 0
-  headNumber Reserved = 0
-  headNumber Held = 0
-  headNumber (Sibling o) = 0
-  headNumber (Child m) = m
-
   -- the level of the head
   abbrev pub topOf : ℕ
-  topOf = levelOf (headNumber (slotOf (P .head)))
+  topOf = levelOf (childOf (slotOf (P .head)))
 
   -- the block of node m, d levels below the head: up along the owners
   abbrev pub blockOf : (d m : ℕ) → ℕ

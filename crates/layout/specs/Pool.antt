@@ -34,6 +34,14 @@ slotOf w =
     (pick (eqb w reservedWord) Reserved
     (pick (ltb w (4 * nodeOffset)) (Sibling (w / 4)) (Child (w / 4 - nodeOffset)))) Held)
 
+-- the node that a slot leads to; 0 if it leads to none
+abbrev pub childOf : Slot → ℕ
+childOf Empty = 0
+childOf Reserved = 0
+childOf Held = 0
+childOf (Sibling o) = 0
+childOf (Child m) = m
+
 -- 1 for the word of a sibling slot, which is below that of a reservation, else 0
 abbrev pub siblingBit : ℕ → ℕ
 siblingBit w = pick (both (eqb (w % 4) 2) (ltb w reservedWord)) 1 0

@@ -1,10 +1,23 @@
 -- What the functions that read a node promise.
 use Prim.Native.Nat.{ℕ, _%_, _≤_, _<_}
 use mathlib.Core.Path.{_≡_}
+use mathlib.Core.Bool.{Bool, true, false}
 use mathlib.Core.List.{List}
 use lib.ListN.{getD}
 pub use Rattle.blocks.specs.Deciding.{Decides}
 use Rattle.layout.specs.Words.{place, slotPlace}
+use Rattle.layout.specs.Pool.{Slot, Empty, Reserved, Held, Sibling, Child, slotOf}
+
+-- what a slot says, or its word, leads to a node
+abbrev pub isChild : Slot → Bool
+isChild Empty = false
+isChild Reserved = false
+isChild Held = false
+isChild (Sibling o) = false
+isChild (Child m) = true
+
+abbrev pub isNode : ℕ → Bool
+isNode w = isChild (slotOf w)
 
 -- the word is that of a sibling slot, of a reservation or of a node
 abbrev pub Internal : ℕ → Type 0

@@ -13,8 +13,8 @@ ghost use Rattle.tree.specs.Tree.{slots, tierOrder, topTier};
 ghost use Rattle.tree.specs.Slots.{siblingWord, nodeWord};
 ghost use Rattle.layout.specs.Words.{nodeWords, shiftPlace, ownerPlace, filledPlace, markPlace, slotPlace, lastPlace};
 ghost use Rattle.layout.specs.Words.{shiftWord, ownerWord};
-ghost use Rattle.layout.specs.Pool.{slotOf, siblingBit, poolOf, Free};
-ghost use Rattle.layout.specs.Reading.{Decides, Internal, Blank, Vacant, Plain, NextFilled};
+ghost use Rattle.layout.specs.Pool.{slotOf, childOf, siblingBit, poolOf, Free};
+ghost use Rattle.layout.specs.Reading.{Decides, isNode, Internal, Blank, Vacant, Plain, NextFilled};
 ghost use Rattle.words.specs.Fill.{filled};
 ghost use Rattle.layout.specs.Fill.{cleared};
 
@@ -228,6 +228,34 @@ pub fn read_slot(w: u64) -> Slot
         return Slot::Empty;
     }
     Slot::Held
+}
+
+// Whether the word of a slot leads to a node.
+pub fn is_node(w: u64) -> bool
+    ensures { λ r. ⌜ r ≡ isNode w ⌝ }
+{
+    let s = read_slot(w);
+    match s {
+        Slot::Empty => false,
+        Slot::Reserved => false,
+        Slot::Held => false,
+        Slot::Sibling(_) => false,
+        Slot::Child(_) => true,
+    }
+}
+
+// The number of the node that the word of a slot leads to; 0 if it leads to none.
+pub fn node_number(w: u64) -> u64
+    ensures { λ r. ⌜ r ≡ childOf (slotOf w) ⌝ }
+{
+    let s = read_slot(w);
+    match s {
+        Slot::Empty => 0,
+        Slot::Reserved => 0,
+        Slot::Held => 0,
+        Slot::Sibling(_) => 0,
+        Slot::Child(n) => n,
+    }
 }
 
 // 1 for the word of a sibling slot, else 0; such a word is below that of a reservation.

@@ -36,7 +36,7 @@ const LENGTH: u64 = 18;
 const ENTRY_BYTES: u64 = 21;
 
 // The indices asked for, and how many of their entries may be written.
-pub struct Range {
+pub struct Wanted {
     pub first: u64,
     pub last: u64,
     pub room: u64,
@@ -63,7 +63,7 @@ fn write_entry(out: &mut [u8], at: usize, e: Entry)
 }
 
 // An entry as the next of the listing, if its run meets the range: counted, and written where there is room.
-fn offer(buffer: &mut [u8], range: Range, k: u64, e: Entry) -> u64
+fn offer(buffer: &mut [u8], range: Wanted, k: u64, e: Entry) -> u64
     requires { ⌜ entryBytes * range .room ≤ length (now buffer) ⌝ }
     requires { ⌜ k + 1 < 2 ^ 64 ⌝ }
     requires { ⌜ e .order ≤ maxOrder ⌝ }
@@ -87,7 +87,7 @@ fn offer(buffer: &mut [u8], range: Range, k: u64, e: Entry) -> u64
 }
 
 // The entries that start in slot c of node n.
-fn visit_slot(pool: &[u64], n: u64, v: u64, c: u64, range: Range, buffer: &mut [u8], k: u64) -> u64
+fn visit_slot(pool: &[u64], n: u64, v: u64, c: u64, range: Wanted, buffer: &mut [u8], k: u64) -> u64
     requires { ⌜ WellFormed (now pool) ⌝ }
     requires { ⌜ v < topTier ⌝ }
     requires { ⌜ c ≤ block (tierOrder v) (range .last) ⌝ }
@@ -118,7 +118,7 @@ fn visit_slot(pool: &[u64], n: u64, v: u64, c: u64, range: Range, buffer: &mut [
 }
 
 // The entries that start in the block of node n, slot by slot up to the one of the last index.
-fn visit_node(pool: &[u64], n: u64, v: u64, b: u64, range: Range, buffer: &mut [u8], k: u64) -> u64
+fn visit_node(pool: &[u64], n: u64, v: u64, b: u64, range: Wanted, buffer: &mut [u8], k: u64) -> u64
     requires { ⌜ WellFormed (now pool) ⌝ }
     requires { ⌜ v < topTier ⌝ }
     requires { ⌜ slots * b ≤ block (tierOrder v) (range .last) ⌝ }
@@ -144,7 +144,7 @@ fn visit_node(pool: &[u64], n: u64, v: u64, b: u64, range: Range, buffer: &mut [
 }
 
 // All entries that meet the range.
-fn visit_head(pool: &[u64], range: Range, buffer: &mut [u8]) -> u64
+fn visit_head(pool: &[u64], range: Wanted, buffer: &mut [u8]) -> u64
     requires { ⌜ WellFormed (now pool) ⌝ }
     requires { ⌜ (range .last < 2 ^ 64) × (entryBytes * range .room ≤ length (now buffer)) ⌝ }
     ensures { λ r. ⌜ ((s : WellFormed (now (pool .entry))) → Emits (range .room)
@@ -166,7 +166,7 @@ pub fn list(pool: &[u64], first: u64, last: u64, buffer: &mut [u8]) -> Listed
     ensures { λ _. ⌜ ((s : WellFormed (now (pool .entry))) →
         now (buffer .exit) ≡ filledWith (listed (s .list) first last) (now (buffer .entry))) ⌝ }
 {
-    let count = Range {
+    let count = Wanted {
         first: first,
         last: last,
         room: 0,
@@ -176,7 +176,7 @@ pub fn list(pool: &[u64], first: u64, last: u64, buffer: &mut [u8]) -> Listed
     if bytes / ENTRY_BYTES < k {
         return Listed::Short(k);
     }
-    let write = Range {
+    let write = Wanted {
         first: first,
         last: last,
         room: k,

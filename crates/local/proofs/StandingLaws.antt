@@ -11,8 +11,8 @@ use Rattle.model.specs.declared.Entry.{Entry}
 use Rattle.tree.specs.Tree.{tierOrder, slots}
 use Rattle.layout.specs.declared.Slot.{Slot}
 use Rattle.layout.specs.declared.Slot.the-variants.{Empty, Reserved, Held, Sibling, Child}
-use Rattle.layout.specs.Pool.{slotOf, Pool, slotAt}
-use Rattle.layout.specs.Decode.{blockOf, wide, span, cell, below, cellAt, entryAt, headNumber, levelOf}
+use Rattle.layout.specs.Pool.{slotOf, childOf, Pool, slotAt}
+use Rattle.layout.specs.Decode.{blockOf, wide, span, cell, below, cellAt, entryAt, levelOf}
 use Rattle.decode.proofs.Restrict.{part, numFrom, numOf}
 use Rattle.decode.proofs.KeepLaws.{Every, Some, all-map, keep-all, some-left, some-right}
 use Rattle.decode.proofs.BelowLaws.{span-all, in-below, slot-of}
@@ -119,7 +119,7 @@ module _ (P : Pool) (L : Local P) where
     at-top _ _ _ here = omega arith
     at-top m v c (down n b j a lt k e) = omega (arith, at-top n (suc v) b a)
 
-    head-level : levelOf P (headNumber P (slotOf (P .head))) ≡ H .top
+    head-level : levelOf P (childOf (slotOf (P .head))) ≡ H .top
     head-level = rw (head-is, H .live .level) (omega arith)
 
     num-at : (n v b : ℕ) → At P h (H .top) n v b → numFrom P (H .top - v) b ≡ n

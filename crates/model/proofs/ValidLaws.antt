@@ -43,6 +43,7 @@ use Rattle.model.specs.Model.{
   done,
   more,
   Valid,
+  maxOrder,
 }
 use Rattle.model.specs.ByBlock.{inside, clear, newEntry, storeNew, withWord, store}
 use Rattle.model.proofs.RangeLaws.{Room, clear-uncovered}
@@ -141,7 +142,7 @@ module _ (i k w : ℕ) (l : List Entry) where
       let b : eqb k 0 ≡ true = both-r (eqb w reservedWord) _ h′ in
       rw (t, a, b, bare n (eqb-true _ _ b)) tt)
 
-  new-ok : any (over i k) l ≡ false → i < 2 ^ 64 → k ≤ 63 → T (enterable k w) → w < 2 ^ 64 → EntryOk (newEntry l i k w)
+  new-ok : any (over i k) l ≡ false → i < 2 ^ 64 → k ≤ maxOrder → T (enterable k w) → w < 2 ^ 64 → EntryOk (newEntry l i k w)
   new-ok n i< k≤ st w< = record {
     order-le = k≤;
     aligned = ap (λ (q : ℕ). q * 2 ^ k) (block-at k (block k i));
@@ -151,7 +152,7 @@ module _ (i k w : ℕ) (l : List Entry) where
     marks-fit = marks-lt (inside l i k);
   }
 
-  pub store-at-valid : Valid l → any (over i k) l ≡ false → i < 2 ^ 64 → k ≤ 63 → T (enterable k w) → w < 2 ^ 64 →
+  pub store-at-valid : Valid l → any (over i k) l ≡ false → i < 2 ^ 64 → k ≤ maxOrder → T (enterable k w) → w < 2 ^ 64 →
       Valid (storeNew l i k w)
   store-at-valid v n i< k≤ st w< =
       sorted-insert (newEntry l i k w) (omega arith) (new-ok n i< k≤ st w<) (sorted-without (starts k (block k i)) v)
@@ -194,7 +195,7 @@ sorted-word i w st w< (more {e} h ok s) = more {e = withWord i w e} h (record {
 pub storable-enters : (k w : ℕ) → T (storable w) → T (enterable k w)
 storable-enters k w st = rw (T-true (storable w) st) tt
 
-pub store-valid : {l : List Entry} (i k w : ℕ) → Valid l → i < 2 ^ 64 → k ≤ 63 → T (storable w) → w < 2 ^ 64 →
+pub store-valid : {l : List Entry} (i k w : ℕ) → Valid l → i < 2 ^ 64 → k ≤ maxOrder → T (storable w) → w < 2 ^ 64 →
     Valid (store l i k w)
 store-valid {l} i k w v i< k≤ st w< =
     byT (any (over i k) l) (λ t. rw t (sorted-word i w st w< v))

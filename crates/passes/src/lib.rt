@@ -11,7 +11,7 @@ use layout::slot_word;
 use steps::TOP_LEVEL;
 use steps::all_marks;
 use steps::child_ok;
-use steps::one_if;
+use words::one_if;
 ghost use mathlib.Core.Path.{_≡_};
 ghost use mathlib.Core.Bool.{true};
 ghost use Prim.Native.Nat.{_<_, _≤_};

@@ -14,7 +14,7 @@ use Rattle.blocks.specs.Lists.{equal}
 use Rattle.blocks.proofs.BoolLaws.{clash, byT, is-false, either-e, either-yes}
 use Rattle.blocks.proofs.ListLaws.{equal-self, is-equal}
 use Rattle.crc32c.specs.Crc.{crc32c}
-use Rattle.region.specs.Region.{Comparison, Nothing, Matched, Different, anyEmpty, compare, number, compared}
+use Rattle.region.specs.Region.{Matching, Nothing, Matched, Different, anyEmpty, compare, number, compared}
 use Rattle.region.specs.Claims.{Match, AnyEmpty}
 
 -- ---- what the code decides
@@ -40,7 +40,7 @@ module _ (old new : List ℕ) where
 
 -- ---- the answers are three
 
-apart : {a b : Comparison} → a ≡ b → (number a ≡ number b → ⊥) → ⊥
+apart : {a b : Matching} → a ≡ b → (number a ≡ number b → ⊥) → ⊥
 apart e d = d (ap number e)
 
 empty-yes : (old new : List ℕ) → AnyEmpty old new → anyEmpty old new ≡ true
@@ -122,7 +122,7 @@ empty-never-matched new = (
 )
 
 -- R168: a host reads 1 exactly if the regions match
-pub one-is-matched : (c : Comparison) → number c ≡ 1 → c ≡ Matched
+pub one-is-matched : (c : Matching) → number c ≡ 1 → c ≡ Matched
 one-is-matched Nothing e = absurd (omega arith)
 one-is-matched Matched e = refl
 one-is-matched Different e = absurd (omega arith)
@@ -131,8 +131,8 @@ pub verdicts-in-numbers : (number Nothing ≡ 0) × (number Matched ≡ 1) × (n
 verdicts-in-numbers = (refl, refl, refl)
 
 -- R169: regions that match have one digest
-pub compared-is : (old new : List ℕ) {v : Comparison} {a b : ℕ} → v ≡ compare old new → a ≡ crc32c 0 old → b ≡ crc32c 0 new
+pub compared-is : (old new : List ℕ) {v : Matching} {a b : ℕ} → v ≡ compare old new → a ≡ crc32c 0 old → b ≡ crc32c 0 new
     → record { verdict = v; «old_crc» = a; «new_crc» = b } ≡ compared old new
 compared-is old new {v} {a} {b} ev ea eb =
-    ap (λ (x : Comparison). record { verdict = x; «old_crc» = a; «new_crc» = b }) ev
+    ap (λ (x : Matching). record { verdict = x; «old_crc» = a; «new_crc» = b }) ev
     ∙ ap₂ (λ (x y : ℕ). record { verdict = compare old new; «old_crc» = x; «new_crc» = y }) ea eb

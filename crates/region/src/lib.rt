@@ -4,7 +4,7 @@ ghost use lib.ListN.{length};
 ghost use Rattle.blocks.specs.Lists.{equal};
 ghost use Rattle.region.specs.Region.{anyEmpty, compare, number, compared};
 
-pub enum Comparison {
+pub enum Matching {
     Nothing,
     Matched,
     Different,
@@ -12,7 +12,7 @@ pub enum Comparison {
 
 // A comparison, and the digest of each region.
 pub struct Compared {
-    pub verdict: Comparison,
+    pub verdict: Matching,
     pub old_crc: u32,
     pub new_crc: u32,
 }
@@ -42,29 +42,29 @@ fn any_empty(old: &[u8], new: &[u8]) -> bool
 }
 
 /// Whether two regions match; where either is empty there is nothing to compare.
-pub fn compare(old: &[u8], new: &[u8]) -> Comparison
+pub fn compare(old: &[u8], new: &[u8]) -> Matching
     ensures { λ r. ⌜ r ≡ compare (now (old .entry)) (now (new .entry)) ⌝ }
 {
     if any_empty(old, new) {
-        return Comparison::Nothing;
+        return Matching::Nothing;
     }
     if old.len() != new.len() {
-        return Comparison::Different;
+        return Matching::Different;
     }
     if same(old, new) {
-        return Comparison::Matched;
+        return Matching::Matched;
     }
-    Comparison::Different
+    Matching::Different
 }
 
 /// The comparison's number for a host.
-pub fn number(c: Comparison) -> u64
+pub fn number(c: Matching) -> u64
     ensures { λ r. ⌜ r ≡ number c ⌝ }
 {
     match c {
-        Comparison::Nothing => 0,
-        Comparison::Matched => 1,
-        Comparison::Different => 2,
+        Matching::Nothing => 0,
+        Matching::Matched => 1,
+        Matching::Different => 2,
     }
 }
 
@@ -74,7 +74,7 @@ pub fn compare_digests(old: &[u8], new: &[u8]) -> Compared
 {
     let verdict = compare(old, new);
     let crc = crc32c::crc32c(0, old);
-    if let Comparison::Matched = verdict {
+    if let Matching::Matched = verdict {
         return Compared {
             verdict: verdict,
             old_crc: crc,

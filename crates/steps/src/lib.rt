@@ -15,10 +15,10 @@ use layout::read_slot;
 use layout::shift_of;
 use layout::sibling_word;
 use layout::slot_word;
+use words::one_if;
 use words::pow2;
 ghost use mathlib.Core.Path.{_≡_};
 ghost use Prim.Native.Nat.{ℕ, _+_, _<_, _≤_};
-ghost use Rattle.blocks.specs.Choice.{pick};
 ghost use Rattle.blocks.specs.Blocks.{bit};
 ghost use Rattle.model.specs.Model.{markCount};
 ghost use Rattle.tree.specs.Tree.{slots};
@@ -200,13 +200,6 @@ pub fn child_ok(pool: &[u64], n: u64, v: u64, j: u64, m: u64) -> bool
         return false;
     }
     agrees(pool, n, j, m, 2)
-}
-
-// 1 if b, else 0.
-pub fn one_if(b: bool) -> u64
-    ensures { λ r. ⌜ r ≡ pick b 1 0 ⌝ }
-{
-    if b { 1 } else { 0 }
 }
 
 // How many slots from slot j on are as they must be: empty slots, a reserved one, a child, or an entry with its siblings; 0 if not.

@@ -8,6 +8,7 @@ use mathlib.Core.Option.{Option, none, some}
 use native.Mathlib.Omega.{arith}
 use lib.Dec.{leb, ltb, eqb}
 use borrow.Author.Tests.{eq-eqb, leb-true, leb-false, le-leb, ltb-true}
+use Rattle.batch.specs.Reply.{storeReply, markReply, unmarkReply, reserveReply}
 use Rattle.blocks.specs.Choice.{either}
 use Rattle.blocks.specs.Lists.{any, In}
 use Rattle.blocks.proofs.BoolLaws.{byT, clash, both-i, both-l, both-r, either-e, either-yes, not-false}
@@ -148,7 +149,7 @@ store-comes n l i k w =
       stored = st;
       list-is = rw (t, a, s, d);
       is-done = eq-eqb (execute n l (Store i k w) .reply .answer) 0
-          (rw (t, a, s, d) (covered-0 129 0 _ (covering-stored l i k w .1)));
+          (rw (t, a, s, d) (covered-0 storeReply 0 _ (covering-stored l i k w .1)));
     })))))
 
 -- a reservation that is done
@@ -170,7 +171,7 @@ reserve-comes n l i = go (covering l i) refl
           free = q;
           list-is = rw (q, d, over-none l i 0 q);
           is-done = eq-eqb (execute n l (Reserve i) .reply .answer) 0
-              (rw (q, d, over-none l i 0 q) (covered-0 135 0 _ (covering-new l i 0 reservedWord .1)));
+              (rw (q, d, over-none l i 0 q) (covered-0 reserveReply 0 _ (covering-new l i 0 reservedWord .1)));
         }))
 
 -- an erase
@@ -207,8 +208,8 @@ mark-comes n l i m =
       few = leb-false _ _ t;
       list-is = rw t;
       answers = λ q. eq-eqb (execute n l (Mark i m) .reply .answer) 0
-          (rw t (covered-0 132 0 _ (present-marked l i m true q)));
-      only = λ z. answers-present 132 0 (present (covering (remark l i m true) i)) (present (covering l i))
+          (rw t (covered-0 markReply 0 _ (present-marked l i m true q)));
+      only = λ z. answers-present markReply 0 (present (covering (remark l i m true) i)) (present (covering l i))
           (present-unmarked l i m true) (rw t at z);
     }))
 
@@ -220,8 +221,8 @@ unmark-comes n l i m =
       few = leb-false _ _ t;
       list-is = rw t;
       answers = λ q. eq-eqb (execute n l (Unmark i m) .reply .answer) 0
-          (rw t (covered-0 133 0 _ (present-marked l i m false q)));
-      only = λ z. answers-present 133 0 (present (covering (remark l i m false) i)) (present (covering l i))
+          (rw t (covered-0 unmarkReply 0 _ (present-marked l i m false q)));
+      only = λ z. answers-present unmarkReply 0 (present (covering (remark l i m false) i)) (present (covering l i))
           (present-unmarked l i m false) (rw t at z);
     }))
 

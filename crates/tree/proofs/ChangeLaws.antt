@@ -12,7 +12,7 @@ use Rattle.blocks.proofs.BoolLaws.{clash, byT, is-false, both-l, both-r, either
 use Rattle.blocks.proofs.ListLaws.{each, without-all}
 use Rattle.blocks.proofs.BlockLaws.{block-up}
 use Rattle.model.specs.declared.Entry.{Entry}
-use Rattle.model.specs.Model.{within}
+use Rattle.model.specs.Model.{within, maxOrder}
 use Rattle.model.specs.ByBlock.{clear, newEntry, storeNew}
 use Rattle.model.proofs.InsertLaws.{any-insert}
 use Rattle.model.proofs.RangeLaws.{Room, Inside}
@@ -23,7 +23,7 @@ use Rattle.tree.proofs.NodeListLaws.{nodes-in}
 use Rattle.tree.proofs.EraseLaws.{gone, has-clear}
 
 -- a node that a store gives up lies inside the run
-module _ (i k w : ℕ) (l : List Entry) (i< : i < 2 ^ 64) (k≤ : k ≤ 63) (room : All (Room i k) l) where
+module _ (i k w : ℕ) (l : List Entry) (i< : i < 2 ^ 64) (k≤ : k ≤ maxOrder) (room : All (Room i k) l) where
   pub store-lost : (u b : ℕ) → has l u b ≡ true → has (storeNew l i k w) u b ≡ false →
       (tierOrder u ≤ k) × Inside i k (tierOrder u) b
   unfolding has

@@ -14,7 +14,7 @@ use Rattle.blocks.proofs.ListLaws.{All-map}
 use Rattle.blocks.proofs.BlockLaws.{block-up, block-at, block-lo}
 use Rattle.blocks.proofs.LeastLaws.{least-fits, least-min, least-most}
 use Rattle.model.specs.declared.Entry.{Entry}
-use Rattle.model.specs.Model.{insert, starts}
+use Rattle.model.specs.Model.{insert, starts, maxOrder}
 use Rattle.model.specs.ByBlock.{newEntry, storeNew}
 use Rattle.model.proofs.RangeLaws.{Room, InRun, starts-order}
 use Rattle.tree.specs.Tree.{fits, tall, height, tierOrder, topTier}
@@ -39,7 +39,7 @@ fits-up {h} {g} x le t = fits-i g x (omega (arith, fits-order h x t))
 
 -- what an entry has that fits under the widest head
 abbrev pub Low : Entry → Type 0
-Low x = (x .order ≤ 63) × (x .base < 2 ^ 64)
+Low x = (x .order ≤ maxOrder) × (x .base < 2 ^ 64)
 
 pub fits-most : (x : Entry) → Low x → fits topTier x ≡ true
 fits-most x ok = fits-i topTier x (omega arith) (div-eq-of-lt (omega arith))
@@ -77,7 +77,7 @@ height-without q t (also {x} h a) =
     byT (q x) (λ e. rw (e, height-without q t a) (omega (arith, h e)))
     (λ e. rw e (omega (arith, height-without q t a)))
 
-module _ (i k w : ℕ) (l : List Entry) (i< : i < 2 ^ 64) (k≤ : k ≤ 63) (room : All (Room i k) l) where
+module _ (i k w : ℕ) (l : List Entry) (i< : i < 2 ^ 64) (k≤ : k ≤ maxOrder) (room : All (Room i k) l) where
   -- what starts in the run fits where the run fits
   run-fits : (h : ℕ) (x : Entry) → x .order ≤ k → InRun i k (x .base) → fits h (newEntry l i k w) ≡ true →
       fits h x ≡ true

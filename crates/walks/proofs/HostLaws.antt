@@ -29,7 +29,7 @@ use Rattle.batch.specs.declared.Command.{Command}
 use Rattle.batch.specs.declared.Command.the-variants.{Find}
 use Rattle.batch.specs.declared.Reply.{Reply}
 use Rattle.batch.specs.Batch.{Parsed, Parsed.commands, parse}
-use Rattle.batch.specs.Reply.{replyBytes, encode, answeredBy}
+use Rattle.batch.specs.Reply.{replyBytes, encode, answeredBy, findReply}
 use Rattle.execute.specs.Execute.{execute, finding}
 use Rattle.commands.specs.Commands.{Executed}
 use Rattle.execute.proofs.ReplyLaws.{find-runs}
@@ -59,7 +59,7 @@ use Rattle.walks.proofs.MissLaws.{no-index-missed, none-missed-until}
 use Rattle.walks.proofs.StillLaws.{budgets-agree, few-steps}
 
 -- WHERE TO GO ON, read off the reply
-by-outcome : (z : ℕ) (o : Outcome) → nextBy z (finding 134 o) ≡ nextOf z o
+by-outcome : (z : ℕ) (o : Outcome) → nextBy z (finding findReply o) ≡ nextOf z o
 by-outcome z (Found e n) = refl
 by-outcome z (Ended n) = refl
 by-outcome z (Paused q n) = refl
@@ -69,10 +69,10 @@ pub host-next : (n : ℕ) (l : List Entry) (p z f k : ℕ) → f ≤ anyMark →
 host-next n l p z f k a b c = ap (λ (x : Executed). nextBy z (x .reply)) (find-runs n l p z f k a b c) ∙ by-outcome z (find l p z f k)
 
 -- the entry that a find reports stands whole in its reply: it is no reservation
-whole-entry : (f : ℕ) (e : Entry) (n : ℕ) → matches f e ≡ true → entryOf (answeredBy 134 e n) ≡ e
+whole-entry : (f : ℕ) (e : Entry) (n : ℕ) → matches f e ≡ true → entryOf (answeredBy findReply e n) ≡ e
 whole-entry f e n m = λ i. record { base = e .base; order = e .order; word = same i; marks = e .marks }
   where
-    same : answeredBy 134 e n .word ≡ e .word
+    same : answeredBy findReply e n .word ≡ e .word
     same = rw (not-true (reserved e) (both-l _ _ m))
 
 found-matches : (l : List Entry) → Valid l → (p z f k : ℕ) → p ≤ z → (e : Entry) (n : ℕ) → find l p z f k ≡ Found e n →
@@ -82,7 +82,7 @@ found-matches l v p z f k h e n d =
 
 -- ONE FIND: what the host's report and the walk's are, and where both go on
 module _ (l : List Entry) (v : Valid l) (p z f k c : ℕ) (h : p ≤ z) (rest : ℕ → ℕ → Option (List Outcome)) where
-  ends-as : (o : Outcome) → find l p z f k ≡ o → nextOf z o ≡ none → goOn z c o rest ≡ some (reportsBy c (finding 134 o ∷ []))
+  ends-as : (o : Outcome) → find l p z f k ≡ o → nextOf z o ≡ none → goOn z c o rest ≡ some (reportsBy c (finding findReply o ∷ []))
   ends-as (Found e n) d x =
       byT (ltb z (after e))
       (λ t. rw t (ap (λ (y : Entry). some (Found y (c + n) ∷ [])) (sym (whole-entry f e n (found-matches l v p z f k h e n d)))))
@@ -91,7 +91,7 @@ module _ (l : List Entry) (v : Valid l) (p z f k c : ℕ) (h : p ≤ z) (rest : 
   ends-as (Paused q n) d x = absurd (let w : _≡_ {A = ℕ} 0 1 = cc in omega arith)
 
   goes-as : (q : ℕ) (rs : List Reply) → ((m : ℕ) → rest q m ≡ some (reportsBy m rs)) → (o : Outcome) → find l p z f k ≡ o →
-      nextOf z o ≡ some q → goOn z c o rest ≡ some (reportsBy c (finding 134 o ∷ rs))
+      nextOf z o ≡ some q → goOn z c o rest ≡ some (reportsBy c (finding findReply o ∷ rs))
   goes-as q rs r (Found e n) d x =
       byT (ltb z (after e)) (λ t. absurd (let u : none ≡ some q = rw t at x in let w : _≡_ {A = ℕ} 0 1 = cc in omega arith))
       (λ t. let u : some (after e) ≡ some q = rw t at x in
@@ -124,7 +124,7 @@ again {n} {l} {ws} lo hi s =
 -- the reply that the host reads, of the list that the find meets
 record Met (n : ℕ) (l : List Entry) (ws : List ℕ) (p z f : ℕ) (g : Leg) : Type 0 where
   valid : Valid (met n l g)
-  reads : seen ws g ≡ finding 134 (find (met n l g) p z f (g .budget))
+  reads : seen ws g ≡ finding findReply (find (met n l g) p z f (g .budget))
   starts : Starts n (listAfterAll n l (callsOf g)) (wordsAfterAll ws (callsOf g))
 
 module _ {n : ℕ} {l : List Entry} {ws : List ℕ} (st : Starts n l ws) (p z f : ℕ) (fm : f ≤ anyMark) (h : p ≤ z) (g : Leg)

@@ -5,6 +5,7 @@ ghost use mathlib.Core.Path.{_≡_};
 ghost use mathlib.Core.List.{[]};
 ghost use Prim.Native.Nat.{_+_, _<_, _≤_, _^_};
 ghost use lib.ListN.{length};
+ghost use Rattle.blocks.specs.Choice.{pick};
 ghost use Rattle.blocks.specs.Blocks.{NextBit};
 ghost use Rattle.words.specs.Bits.{wordBits};
 ghost use Rattle.words.specs.Fill.{filled};
@@ -21,6 +22,13 @@ pub fn pow2(j: u64) -> u64
 {
     let k = j;
     1u64 << k
+}
+
+// 1 if b, else 0.
+pub fn one_if(b: bool) -> u64
+    ensures { λ r. ⌜ (r ≡ pick b 1 0) × (r ≤ 1) ⌝ }
+{
+    if b { 1 } else { 0 }
 }
 
 // The least bit from o on that is set in w; 64 if there is none.
@@ -52,7 +60,7 @@ pub fn fill(s: &mut [u64], a: u64, x: u64, n: u64)
 
 // NUMBERS AS BYTES
 
-fn wide(x: u8) -> u64
+fn widen(x: u8) -> u64
     ensures { λ r. ⌜ (r ≡ x) × (r < 256) ⌝ }
 {
     x as u64
@@ -62,15 +70,15 @@ pub fn number1(s: &[u8], at: usize) -> u64
     requires { ⌜ at + 1 ≤ length (now s) ⌝ }
     ensures { λ r. ⌜ (r ≡ numberAt (now (s .entry)) at 1) × (r < 256) ⌝ }
 {
-    wide(s[at + 0])
+    widen(s[at + 0])
 }
 
 pub fn number2(s: &[u8], at: usize) -> u64
     requires { ⌜ at + 2 ≤ length (now s) ⌝ }
     ensures { λ r. ⌜ (r ≡ numberAt (now (s .entry)) at 2) × (r < 65536) ⌝ }
 {
-    let a = wide(s[at + 0]);
-    let b = wide(s[at + 1]);
+    let a = widen(s[at + 0]);
+    let b = widen(s[at + 1]);
     a * 256 + b
 }
 
@@ -81,14 +89,14 @@ pub fn number8(s: &[u8], at: usize) -> u64
     if s.len() <= at {
         return 0;
     }
-    let a = wide(s[at + 0]);
-    let b = wide(s[at + 1]);
-    let c = wide(s[at + 2]);
-    let d = wide(s[at + 3]);
-    let e = wide(s[at + 4]);
-    let f = wide(s[at + 5]);
-    let g = wide(s[at + 6]);
-    let h = wide(s[at + 7]);
+    let a = widen(s[at + 0]);
+    let b = widen(s[at + 1]);
+    let c = widen(s[at + 2]);
+    let d = widen(s[at + 3]);
+    let e = widen(s[at + 4]);
+    let f = widen(s[at + 5]);
+    let g = widen(s[at + 6]);
+    let h = widen(s[at + 7]);
     ((((((a * 256 + b) * 256 + c) * 256 + d) * 256 + e) * 256 + f) * 256 + g) * 256 + h
 }
 

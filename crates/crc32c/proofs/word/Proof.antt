@@ -9,23 +9,23 @@ use Rattle.crc32c.proofs.word.Tie as tie
 mul-result : tie.Need-mul-result
 mul-result c =
     let at = c .before .before .before .before .before .args .at in omega
-    (arith, c .wide2 .ensures, c .before .shared-slice-known3 .given (at + 1))
+    (arith, c .widen2 .ensures, c .before .shared-slice-known3 .given (at + 1))
 
 mul-result-2 : tie.Need-mul-result-2
 mul-result-2 c =
     let at = c .before .before .before .before .before .before .before .args .at in omega
-    (arith, c .wide3 .ensures, c .before .shared-slice-known4 .given (at + 2))
+    (arith, c .widen3 .ensures, c .before .shared-slice-known4 .given (at + 2))
 
 mul-result-3 : tie.Need-mul-result-3
 mul-result-3 c =
     let at = c .before .before .before .before .before .before .before .before .before .args .at in omega
-    (arith, c .wide4 .ensures, c .before .shared-slice-known5 .given (at + 3))
+    (arith, c .widen4 .ensures, c .before .shared-slice-known5 .given (at + 3))
 
 returns : tie.Need-returns
 returns c =
     let s = c .before .before .before .before .before .before .before .before .before in
-    word-four (s .args .s .now) (s .args .at) (c .before .before .before .before .before .before .wide .ensures)
-    (c .before .before .before .before .wide2 .ensures) (c .before .before .wide3 .ensures) (c .wide4 .ensures)
+    word-four (s .args .s .now) (s .args .at) (c .before .before .before .before .before .before .widen .ensures)
+    (c .before .before .before .before .widen2 .ensures) (c .before .before .widen3 .ensures) (c .widen4 .ensures)
 
 pub word-spec : {M : Type 1} → statement M
 word-spec =

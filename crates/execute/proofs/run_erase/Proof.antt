@@ -1,5 +1,6 @@
 -- `run_erase`: an erase, its reply and the words.
 use mathlib.Core.Path.{ap, _∙_}
+use Rattle.batch.specs.Reply.{eraseReply}
 use Rattle.commands.specs.Replies.{coveredReply}
 use Rattle.execute.proofs.ReplyLaws.{erases}
 use borrow.Author.Needs.{needs}
@@ -11,7 +12,7 @@ erased c = c .before .before .before .before .before
 
 returns : tie.Need-returns
 returns c = (
-  (λ s. erases s _ (c .covered-reply .ensures ∙ ap (coveredReply 131)
+  (λ s. erases s _ (c .covered-reply .ensures ∙ ap (coveredReply eraseReply)
       (erased c .erase .ensures .0 s)) (erased c .erase .ensures .1 .0 s)),
   erased c .erase .ensures .1 .1,
 )

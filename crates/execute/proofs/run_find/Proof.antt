@@ -1,5 +1,6 @@
 -- `run_find`: a find, its reply; the words stay.
 use mathlib.Core.Path.{sym, ap, _∙_}
+use Rattle.batch.specs.Reply.{findReply}
 use Rattle.execute.specs.Execute.{finding}
 use Rattle.commands.specs.Commands.{Executed}
 use Rattle.execute.proofs.ReplyLaws.{find-mark, find-first, find-budget, find-runs}
@@ -33,7 +34,7 @@ find-requires : tie.Need-find-requires
 find-requires c κs = (start-from-else3 c .pre, c .before .before .if1 .left)
 
 returns-4 : tie.Need-returns-4
-returns-4 c = λ s. c .found-reply .ensures ∙ ap (finding 134) (c .before .find .ensures s)
+returns-4 c = λ s. c .found-reply .ensures ∙ ap (finding findReply) (c .before .find .ensures s)
     ∙ sym (ap (λ (x : Executed). x .reply)
     (find-runs (s .n) (s .list) _ _ _ _ (else1-from-found-reply c .if1 .left)
     (c .before .before .before .if2 .left) (c .before .before .if3 .left)))

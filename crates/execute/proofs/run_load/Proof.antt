@@ -1,5 +1,6 @@
 -- `run_load`: a load, its reply; the words stay.
 use mathlib.Core.Path.{sym, ap, _∙_}
+use Rattle.batch.specs.Reply.{loadReply}
 use Rattle.commands.specs.Commands.{Executed}
 use Rattle.execute.specs.Contracts.{loadedReply}
 use Rattle.execute.proofs.ReplyLaws.{load-runs}
@@ -8,7 +9,7 @@ use Rattle.execute.proofs.run_load.Statement.{statement}
 use Rattle.execute.proofs.run_load.Tie as tie
 
 returns : tie.Need-returns
-returns c = λ s. c .loaded-reply .ensures ∙ ap (loadedReply 130) (c .before .load .ensures s)
+returns c = λ s. c .loaded-reply .ensures ∙ ap (loadedReply loadReply) (c .before .load .ensures s)
     ∙ sym (ap (λ (x : Executed). x .reply) (load-runs (s .n) (s .list) _))
 
 pub run-load-spec : {M : Type 1} → statement M

@@ -3,6 +3,7 @@ use mathlib.Core.Path.{_≡_, sym, ap, _∙_}
 use mathlib.Core.List.{List}
 use mathlib.Core.Option.{Option}
 use native.Mathlib.Omega.{arith}
+use Rattle.batch.specs.Reply.{storeReply}
 use Rattle.blocks.specs.Blocks.{bit}
 use Rattle.model.specs.declared.Entry.{Entry}
 use Rattle.model.specs.Model.{matchedMark, covering, covered}
@@ -31,8 +32,8 @@ returns-2 c =
     let x = c .before in let a = x .before .before .before .args in let i = a .index in
     let z : bit matchedMark (a .e .marks) ≡ 0 = omega (arith, x .if1 .left) in (
       (λ s q. c .answered-by .ensures
-          ∙ sym (ap (λ (l : List Entry). coveredReply 129 (covered (covering l i)))
-          (remark-clear i matchedMark (s .valid) q z) ∙ ap (λ (o : Option Entry). coveredReply 129 (covered o)) q)),
+          ∙ sym (ap (λ (l : List Entry). coveredReply storeReply (covered (covering l i)))
+          (remark-clear i matchedMark (s .valid) q z) ∙ ap (λ (o : Option Entry). coveredReply storeReply (covered o)) q)),
       λ s q. s .words-are
           ∙ ap (λ (l : List Entry). render l (s .places) (s .n)) (sym (remark-clear i matchedMark (s .valid) q z)),
     )

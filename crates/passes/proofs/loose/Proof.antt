@@ -30,11 +30,11 @@ add-f c = omega (
   off-small _ _ _ (c .before .before .before .loop .inv) (omega arith),
   pick-le
       (not (eqb (getD (c .before .before .before .before .before .args .a .now) (slots - c .before .before .before .loop .t) 0 % 4) 1)) _
-      (c .one-if .ensures),
+      (c .one-if .ensures .0),
 )
 
 loop-again : tie.Need-loop-again Inv-loop μ-loop
-loop-again c = off-next _ _ _ _ (c .before .before .before .loop .inv) (omega arith) (c .one-if .ensures)
+loop-again c = off-next _ _ _ _ (c .before .before .before .loop .inv) (omega arith) (c .one-if .ensures .0)
 
 returns : tie.Need-returns Inv-loop μ-loop
 returns c = off-all _ _ _ _ (c .before .loop .inv) (omega arith)

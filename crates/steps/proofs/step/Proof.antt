@@ -77,7 +77,7 @@ returns-2 c = let s = start-reserved c in
     let P = poolOf (s .args .pool .now) in
     let e = sym (ap slotOf (read-slot-reserved c .before .slot-word .ensures)) ∙ sym
     (read-slot-reserved c .read-slot .ensures) ∙ c .before .before .enum-told2 .given .1 in
-    subst (λ (x : ℕ). Stepped P (s .args .n) (s .args .v) (s .args .j) x) (sym (c .one-if .ensures))
+    subst (λ (x : ℕ). Stepped P (s .args .n) (s .args .v) (s .args .j) x) (sym (c .one-if .ensures .0))
     (step-decides P (s .args .n) (s .args .v) (s .args .j) _ _ e (reserved-not-held P (s .args .n) (s .args .v) (s .args .j) e) (omega arith) (s .pre .1 .1 .1)
     (c .before .reserved-ok .ensures))
 
@@ -96,7 +96,7 @@ returns-5 c = let s = start-from-one-if c in
     let P = poolOf (s .args .pool .now) in
     let e = sym (ap slotOf (slot-word-from-one-if c .slot-word .ensures)) ∙ sym
     (read-slot-from-one-if c .read-slot .ensures) ∙ c .before .before .before .s .given .1 in
-    subst (λ (x : ℕ). Stepped P (s .args .n) (s .args .v) (s .args .j) x) (sym (c .one-if2 .ensures))
+    subst (λ (x : ℕ). Stepped P (s .args .n) (s .args .v) (s .args .j) x) (sym (c .one-if2 .ensures .0))
     (step-decides P (s .args .n) (s .args .v) (s .args .j) _ _ e (child-not-held P (s .args .n) (s .args .v) (s .args .j) _ e) (omega arith) (s .pre .1 .1 .1)
     (c .before .child-ok .ensures))
 
