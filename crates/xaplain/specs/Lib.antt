@@ -1,0 +1,4 @@
+pub mod Slices
+pub mod Engine
+pub mod Moves
+pub mod Executes

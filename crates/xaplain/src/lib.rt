@@ -1,0 +1,488 @@
+// The plain engine: the entries in index order, in four slices, and zeros after them (R300 to R309).
+//
+// index, order, word, marks: the borrowed slices, of one length; n: how many entries they hold; i: an index.
+use answers::DONE;
+use answers::NOT_WELL_FORMED;
+use answers::POOL_LENGTH;
+use batch::Reply;
+use model::Covered;
+use model::Entry;
+use model::RESERVED;
+ghost use lib.Dec.{leb, ltb};
+ghost use Rattle.blocks.specs.Choice.{both};
+ghost use mathlib.Core.Path.{_≡_};
+ghost use Prim.Native.Nat.{ℕ, _+_, _-_, _^_, _≤_, _<_};
+ghost use lib.ListN.{length, getD};
+ghost use Rattle.model.specs.Model.{covering, covered, storeNew};
+ghost use mathlib.Core.Bool.{true};
+ghost use Rattle.model.specs.Matches.{firstMatch};
+ghost use Rattle.xaplain.specs.Slices.{slices, checkAnswer, fitsEntry, restZero, inOrder, listOf, allZero, holdsList, sizedAs};
+ghost use Rattle.xaplain.specs.Moves.{Rising, Splits, Holds, Opened, Pulled, Cleared, Spliced, Columns, replaced, Counts, wordFits, lowOf, Parts, anyFrom, keptFrom, Begins, acceptsBy};
+
+// The most entries that the slices may have room for.
+pub const MAX_ROOM: usize = 4096;
+
+// What a command comes to: its reply, and the number of entries after it.
+pub struct Turned {
+    pub reply: Reply,
+    pub count: usize,
+}
+
+// How many of the first n entries start at i or before: by halves.
+pub fn position(index: &[u64], n: usize, i: u64) -> usize
+    requires { ⌜ n ≤ length (now index) ⌝ }
+    requires { ⌜ Rising (now index) n ⌝ }
+    ensures { λ r. ⌜ Splits (now (index .entry)) n i r ⌝ }
+{
+    let mut low: usize = 0;
+    let mut high = n;
+    while low < high {
+        let mid = low + (high - low) / 2;
+        if index[mid] <= i {
+            low = mid + 1;
+        } else {
+            high = mid;
+        }
+    }
+    low
+}
+
+// What covers an index.
+pub fn covering(
+    index: &[u64],
+    order: &[u64],
+    word: &[u64],
+    marks: &[u64],
+    n: usize,
+    i: u64,
+) -> Covered
+    requires { ⌜ Holds (now index) (now order) (now word) (now marks) n ⌝ }
+    ensures { λ r. ⌜ ((h : Holds (now (index .entry)) (now (order .entry)) (now (word .entry)) (now (marks .entry)) n) →
+        r ≡ covered (covering (h .list) i)) ⌝ }
+{
+    let p = position(index, n, i);
+    if p == 0 {
+        return Covered::Nothing;
+    }
+    let base = index[p - 1];
+    let k = order[p - 1];
+    if (i - base) >> k != 0 {
+        return Covered::Nothing;
+    }
+    Covered::By(Entry {
+        base: base,
+        order: k,
+        word: word[p - 1],
+        marks: marks[p - 1],
+    })
+}
+
+// Moves the places from p to n - 1 one up.
+fn open(xs: &mut [u64], p: usize, n: usize)
+    requires { ⌜ p ≤ n ⌝ }
+    requires { ⌜ n < length (now xs) ⌝ }
+    ensures { λ _. ⌜ Opened (now (xs .entry)) (now (xs .exit)) p n ⌝ }
+{
+    let mut k = n;
+    while p < k {
+        xs[k] = xs[k - 1];
+        k = k - 1;
+    }
+}
+
+// Moves the places from q to n - 1 down to a.
+fn pull(xs: &mut [u64], a: usize, q: usize, n: usize)
+    requires { ⌜ (a ≤ q) × (q ≤ n) ⌝ }
+    requires { ⌜ n ≤ length (now xs) ⌝ }
+    ensures { λ _. ⌜ Pulled (now (xs .entry)) (now (xs .exit)) a q n ⌝ }
+{
+    let mut k: usize = 0;
+    while k < n - q {
+        xs[a + k] = xs[q + k];
+        k += 1;
+    }
+}
+
+// Zeros from a to n - 1.
+fn clear(xs: &mut [u64], a: usize, n: usize)
+    requires { ⌜ a ≤ n ⌝ }
+    requires { ⌜ n ≤ length (now xs) ⌝ }
+    ensures { λ _. ⌜ Cleared (now (xs .entry)) (now (xs .exit)) a n ⌝ }
+{
+    let mut k = a;
+    while k < n {
+        xs[k] = 0;
+        k += 1;
+    }
+}
+
+// Puts v for the places from p to q - 1 of n, and zeros after the last.
+fn splice(xs: &mut [u64], p: usize, q: usize, n: usize, v: u64)
+    requires { ⌜ (p ≤ q) × (q ≤ n) ⌝ }
+    requires { ⌜ n ≤ length (now xs) ⌝ }
+    requires { ⌜ p + 1 + (n - q) ≤ length (now xs) ⌝ }
+    ensures { λ _. ⌜ Spliced (now (xs .entry)) (now (xs .exit)) p q n v ⌝ }
+{
+    if p == q {
+        open(xs, p, n);
+        xs[p] = v;
+        return;
+    }
+    pull(xs, p + 1, q, n);
+    clear(xs, p + 1 + (n - q), n);
+    xs[p] = v;
+}
+
+// One entry for those from p to q - 1, in all four slices.
+fn put(
+    index: &mut [u64],
+    order: &mut [u64],
+    word: &mut [u64],
+    marks: &mut [u64],
+    p: usize,
+    q: usize,
+    n: usize,
+    e: Entry,
+)
+    requires { ⌜ Holds (now index) (now order) (now word) (now marks) n ⌝ }
+    requires { ⌜ (p ≤ q) × (q ≤ n) ⌝ }
+    requires { ⌜ p + 1 + (n - q) ≤ length (now index) ⌝ }
+    ensures { λ _. ⌜ ((h : Holds (now (index .entry)) (now (order .entry)) (now (word .entry)) (now (marks .entry)) n) →
+        Columns (now (index .exit)) (now (order .exit)) (now (word .exit)) (now (marks .exit)) (length (now (index .entry)))
+        (replaced p q e (h .list))) ⌝ }
+{
+    splice(index, p, q, n, e.base);
+    splice(order, p, q, n, e.order);
+    splice(word, p, q, n, e.word);
+    splice(marks, p, q, n, e.marks);
+}
+
+// How many words stand before the first 0.
+fn count(word: &[u64]) -> usize
+    ensures { λ r. ⌜ Counts (now (word .entry)) r ⌝ }
+{
+    let mut k: usize = 0;
+    while k < word.len() {
+        if word[k] == 0 {
+            return k;
+        }
+        k += 1;
+    }
+    k
+}
+
+// Whether a word may stand in an entry: a storable one, or a reservation's, of order 0 and without marks.
+fn word_fits(order: u64, word: u64, marks: u64) -> bool
+    ensures { λ r. ⌜ r ≡ wordFits order word marks ⌝ }
+{
+    if word == RESERVED {
+        if order != 0 {
+            return false;
+        }
+        return marks == 0;
+    }
+    if word == 0 {
+        return false;
+    }
+    word % 4 != 2
+}
+
+// Whether an entry is one that a list may hold.
+fn fits(base: u64, order: u64, word: u64, marks: u64) -> bool
+    ensures { λ r. ⌜ r ≡ fitsEntry (record { base = base; order = order; word = word; marks = marks }) ⌝ }
+{
+    if 63 < order {
+        return false;
+    }
+    if base % (1u64 << order) != 0 {
+        return false;
+    }
+    if !word_fits(order, word, marks) {
+        return false;
+    }
+    marks < 8
+}
+
+// Whether an entry starts after the last index of the one before it.
+fn follows(k: usize, last: u64, base: u64) -> bool
+    ensures { λ r. ⌜ r ≡ leb (lowOf k last) base ⌝ }
+{
+    if k == 0 {
+        return true;
+    }
+    last < base
+}
+
+// Whether zeros stand from a place on.
+fn rest_zero(xs: &[u64], a: usize) -> bool
+    requires { ⌜ a ≤ length (now xs) ⌝ }
+    ensures { λ r. ⌜ r ≡ restZero (now (xs .entry)) a ⌝ }
+{
+    let mut k = a;
+    while k < xs.len() {
+        if xs[k] != 0 {
+            return false;
+        }
+        k += 1;
+    }
+    true
+}
+
+// Whether the first n entries are a list.
+fn in_order(index: &[u64], order: &[u64], word: &[u64], marks: &[u64], n: usize) -> bool
+    requires { ⌜ (length (now order) ≡ length (now index)) × (length (now word) ≡ length (now index)) × (length (now marks) ≡ length (now index)) ⌝ }
+    requires { ⌜ Counts (now word) n ⌝ }
+    ensures { λ r. ⌜ r ≡ inOrder 0 (listOf (now (index .entry)) (now (order .entry)) (now (word .entry)) (now (marks .entry))) ⌝ }
+{
+    let mut k: usize = 0;
+    let mut last: u64 = 0;
+    while k < n {
+        let base = index[k];
+        let o = order[k];
+        if !follows(k, last, base) {
+            return false;
+        }
+        if !fits(base, o, word[k], marks[k]) {
+            return false;
+        }
+        last = base + ((1u64 << o) - 1);
+        k += 1;
+    }
+    true
+}
+
+// Whether zeros stand in all four slices from a place on.
+fn all_zero(index: &[u64], order: &[u64], word: &[u64], marks: &[u64], n: usize) -> bool
+    requires { ⌜ (length (now order) ≡ length (now index)) × (length (now word) ≡ length (now index)) × (length (now marks) ≡ length (now index)) ⌝ }
+    requires { ⌜ n ≤ length (now index) ⌝ }
+    ensures { λ r. ⌜ r ≡ allZero (now (index .entry)) (now (order .entry)) (now (word .entry)) (now (marks .entry)) n ⌝ }
+{
+    if !rest_zero(index, n) {
+        return false;
+    }
+    if !rest_zero(order, n) {
+        return false;
+    }
+    if !rest_zero(word, n) {
+        return false;
+    }
+    rest_zero(marks, n)
+}
+
+// Whether four slices of one length hold a list and then zeros.
+fn holds(index: &[u64], order: &[u64], word: &[u64], marks: &[u64]) -> bool
+    requires { ⌜ (length (now order) ≡ length (now index)) × (length (now word) ≡ length (now index)) × (length (now marks) ≡ length (now index)) ⌝ }
+    ensures { λ r. ⌜ r ≡ holdsList (now (index .entry)) (now (order .entry)) (now (word .entry)) (now (marks .entry)) ⌝ }
+{
+    let n = count(word);
+    if !in_order(index, order, word, marks, n) {
+        return false;
+    }
+    all_zero(index, order, word, marks, n)
+}
+
+// Whether the slices are of one length, at most 4,096.
+fn sized(index: &[u64], order: &[u64], word: &[u64], marks: &[u64]) -> bool
+    ensures { λ r. ⌜ r ≡ sizedAs (now (index .entry)) (now (order .entry)) (now (word .entry)) (now (marks .entry)) ⌝ }
+{
+    if index.len() > MAX_ROOM {
+        return false;
+    }
+    if order.len() != index.len() {
+        return false;
+    }
+    if word.len() != index.len() {
+        return false;
+    }
+    marks.len() == index.len()
+}
+
+// Whether the slices hold a list: answers 0, 1 or 2.
+pub fn check(index: &[u64], order: &[u64], word: &[u64], marks: &[u64]) -> u64
+    ensures { λ r. ⌜ r ≡ checkAnswer (slices (now (index .entry)) (now (order .entry)) (now (word .entry)) (now (marks .entry))) ⌝ }
+{
+    if !sized(index, order, word, marks) {
+        return POOL_LENGTH;
+    }
+    if !holds(index, order, word, marks) {
+        return NOT_WELL_FORMED;
+    }
+    DONE
+}
+
+// How many of the first n entries start below i.
+fn starts_below(index: &[u64], n: usize, i: u64) -> usize
+    requires { ⌜ n ≤ length (now index) ⌝ }
+    requires { ⌜ Rising (now index) n ⌝ }
+    ensures { λ r. ⌜ Parts (now (index .entry)) n i r ⌝ }
+{
+    if i == 0 {
+        return 0;
+    }
+    position(index, n, i - 1)
+}
+
+// Whether an entry from p to q - 1 has mark m.
+fn any_mark(marks: &[u64], p: usize, q: usize, m: u64) -> bool
+    requires { ⌜ (p ≤ q) × (q ≤ length (now marks)) ⌝ }
+    requires { ⌜ m < 64 ⌝ }
+    ensures { λ r. ⌜ r ≡ anyFrom (now (marks .entry)) m (q - p) p ⌝ }
+{
+    let mut k = p;
+    while k < q {
+        if (marks[k] >> m) % 2 == 1 {
+            return true;
+        }
+        k += 1;
+    }
+    false
+}
+
+// Marks 0 and 1 of the entries from p to q - 1.
+fn kept(marks: &[u64], p: usize, q: usize) -> u64
+    requires { ⌜ (p ≤ q) × (q ≤ length (now marks)) ⌝ }
+    ensures { λ r. ⌜ r ≡ keptFrom (now (marks .entry)) (q - p) p ⌝ }
+{
+    let a = any_mark(marks, p, q, 0);
+    let b = any_mark(marks, p, q, 1);
+    if a {
+        if b {
+            return 3;
+        }
+        return 1;
+    }
+    if b {
+        return 2;
+    }
+    0
+}
+
+// A store that replaces what starts in its range, where no entry over i has its order or more. Says whether there is room.
+fn store_new(
+    index: &mut [u64],
+    order: &mut [u64],
+    word: &mut [u64],
+    marks: &mut [u64],
+    n: usize,
+    i: u64,
+    k: u64,
+    w: u64,
+) -> bool
+    requires { ⌜ Holds (now index) (now order) (now word) (now marks) n ⌝ }
+    requires { ⌜ (k ≤ 63) × (i + 2 ^ k ≤ 2 ^ 64) ⌝ }
+    ensures { λ r. ⌜ ((h : Holds (now (index .entry)) (now (order .entry)) (now (word .entry)) (now (marks .entry)) n) →
+        r ≡ leb (length (storeNew (h .list) i k w)) (length (now (index .entry)))) ⌝ }
+    ensures { λ r. ⌜ (r ≡ true → (h : Holds (now (index .entry)) (now (order .entry)) (now (word .entry)) (now (marks .entry)) n) →
+        Columns (now (index .exit)) (now (order .exit)) (now (word .exit)) (now (marks .exit)) (length (now (index .entry)))
+        (storeNew (h .list) i k w)) ⌝ }
+{
+    let p = starts_below(index, n, i);
+    let q = position(index, n, i + ((1u64 << k) - 1));
+    if index.len() < p + 1 + (n - q) {
+        return false;
+    }
+    let m = kept(marks, p, q);
+    put(
+        index,
+        order,
+        word,
+        marks,
+        p,
+        q,
+        n,
+        Entry {
+            base: i,
+            order: k,
+            word: w,
+            marks: m,
+        },
+    );
+    true
+}
+
+// Whether an entry's run reaches past a - 1.
+fn reaches(a: u64, base: u64, order: u64) -> bool
+    requires { ⌜ order < 64 ⌝ }
+    ensures { λ r. ⌜ r ≡ ltb a (base + 2 ^ order) ⌝ }
+{
+    if a < base {
+        return true;
+    }
+    (a - base) >> order == 0
+}
+
+// Whether a filter accepts an entry: no reservation, and any mark (3) or the one named.
+fn accepts(f: u64, word: u64, marks: u64) -> bool
+    requires { ⌜ f < 64 ⌝ }
+    ensures { λ r. ⌜ r ≡ acceptsBy f word marks ⌝ }
+{
+    if word == RESERVED {
+        return false;
+    }
+    if f == 3 {
+        return true;
+    }
+    (marks >> f) % 2 == 1
+}
+
+// Whether a filter accepts an entry that reaches past a - 1.
+fn hits(f: u64, a: u64, base: u64, order: u64, word: u64, marks: u64) -> bool
+    requires { ⌜ (order < 64) × (f < 64) ⌝ }
+    ensures { λ r. ⌜ r ≡ both (acceptsBy f word marks) (ltb a (base + 2 ^ order)) ⌝ }
+{
+    if !accepts(f, word, marks) {
+        return false;
+    }
+    reaches(a, base, order)
+}
+
+// Where a find from a begins: the last entry that starts at a or before, or the first.
+fn begin(index: &[u64], n: usize, a: u64) -> usize
+    requires { ⌜ n ≤ length (now index) ⌝ }
+    requires { ⌜ Rising (now index) n ⌝ }
+    ensures { λ r. ⌜ Begins (now (index .entry)) n a r ⌝ }
+{
+    let p = position(index, n, a);
+    if p == 0 {
+        return 0;
+    }
+    p - 1
+}
+
+/// The first entry in index order that a filter accepts and whose run meets a to z.
+pub fn find(
+    index: &[u64],
+    order: &[u64],
+    word: &[u64],
+    marks: &[u64],
+    n: usize,
+    a: u64,
+    z: u64,
+    f: u64,
+) -> Covered
+    requires { ⌜ Holds (now index) (now order) (now word) (now marks) n ⌝ }
+    requires { ⌜ f < 64 ⌝ }
+    ensures { λ r. ⌜ ((h : Holds (now (index .entry)) (now (order .entry)) (now (word .entry)) (now (marks .entry)) n) →
+        r ≡ covered (firstMatch (h .list) a z f)) ⌝ }
+{
+    let mut k = begin(index, n, a);
+    while k < n {
+        let base = index[k];
+        if z < base {
+            return Covered::Nothing;
+        }
+        let o = order[k];
+        let w = word[k];
+        let m = marks[k];
+        if hits(f, a, base, o, w, m) {
+            return Covered::By(Entry {
+                base: base,
+                order: o,
+                word: w,
+                marks: m,
+            });
+        }
+        k += 1;
+    }
+    Covered::Nothing
+}
