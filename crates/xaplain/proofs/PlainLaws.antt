@@ -47,7 +47,7 @@ in-nth here = (0, omega arith, refl)
 in-nth (there m) = let (k, h, e) = in-nth m in (suc k, omega arith, e)
 
 -- ends and bases rise
-above : {n : ℕ} {l : List Entry} (k : ℕ) → Sorted n l → k < length l → n ≤ nth l k .base
+pub above : {n : ℕ} {l : List Entry} (k : ℕ) → Sorted n l → k < length l → n ≤ nth l k .base
 above k done h = absurd (omega arith)
 above zero (more h ok s) g = h
 above (suc k) (more {e = x} h ok s) g = omega (arith, above k s (omega arith))
@@ -142,25 +142,20 @@ past-run b i k h e =
 
 -- the entry before the place of i
 module _ {index order word marks : List ℕ} {n : ℕ} (h : Holds index order word marks n) (i r : ℕ) (s : Splits index n i r) (p : r ≢ 0) where
-  pub last-low : getD index (r - 1) 0 ≤ i
+  last-low : getD index (r - 1) 0 ≤ i
   last-low = s .low (r - 1) (omega (arith, p))
 
-  pub last-order : getD order (r - 1) 0 < 64
-  last-order = let rn : r ≤ n = s .within in omega (arith, p, order-at h (r - 1) (omega (arith, p)), entry-ok h (r - 1) (omega (arith, p)) .order-le)
-
-  pub last-not : ((i - getD index (r - 1) 0) / 2 ^ getD order (r - 1) 0 ≡ 0 → ⊥) → Nothing ≡ covered (covering (h .list) i)
-  last-not e =
+  pub last-none : ((i - getD index (r - 1) 0) / 2 ^ getD order (r - 1) 0 ≡ 0 → ⊥) → covering (h .list) i ≡ none
+  last-none e =
       let rn : r ≤ n = s .within in
       let far = past-run (getD index (r - 1) 0) i (getD order (r - 1) 0) last-low e in
       let far′ = rw (index-at h (r - 1) (omega (arith, p)), order-at h (r - 1) (omega (arith, p))) at far in
-      rw (past-last h i r s (omega (arith, p)) far′)
+      past-last h i r s (omega (arith, p)) far′
 
-  pub last-is : (i - getD index (r - 1) 0) / 2 ^ getD order (r - 1) 0 ≡ 0 →
-      By (record { base = getD index (r - 1) 0; order = getD order (r - 1) 0; word = getD word (r - 1) 0; marks = getD marks (r - 1) 0 })
-      ≡ covered (covering (h .list) i)
-  last-is e =
+  pub last-some : (i - getD index (r - 1) 0) / 2 ^ getD order (r - 1) 0 ≡ 0 → covering (h .list) i ≡ some (nth (h .list) (r - 1))
+  last-some e =
       let rn : r ≤ n = s .within in
       let k : r - 1 < n = omega (arith, p) in
       let near = inside-run (getD index (r - 1) 0) i (getD order (r - 1) 0) last-low e in
       let near′ = rw (index-at h (r - 1) k, order-at h (r - 1) k) at near in
-      rw (index-at h (r - 1) k, order-at h (r - 1) k, word-at h (r - 1) k, marks-at h (r - 1) k, in-last h i r s (omega (arith, p)) near′)
+      in-last h i r s (omega (arith, p)) near′

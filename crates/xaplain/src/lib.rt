@@ -1,23 +1,42 @@
 // The plain engine: the entries in index order, in four slices, and zeros after them (R300 to R309).
 //
 // index, order, word, marks: the borrowed slices, of one length; n: how many entries they hold; i: an index.
+use answers::ABSENT;
+use answers::BAD_MARK;
 use answers::DONE;
+use answers::ENDED;
+use answers::FIRST_ABOVE_LAST;
 use answers::NOT_WELL_FORMED;
+use answers::NO_BUDGET;
 use answers::POOL_LENGTH;
+use batch::Command;
 use batch::Reply;
+use commands::ERASE_REPLY;
+use commands::FIND_REPLY;
+use commands::LOAD_REPLY;
+use commands::MARK_REPLY;
+use commands::UNMARK_REPLY;
+use commands::answered;
+use commands::answered_by;
+use commands::covered_reply;
 use model::Covered;
 use model::Entry;
 use model::RESERVED;
+use words::pow2;
 ghost use lib.Dec.{leb, ltb};
-ghost use Rattle.blocks.specs.Choice.{both};
+ghost use Rattle.blocks.specs.Choice.{pick, both};
+ghost use Rattle.blocks.specs.Blocks.{setBit};
+ghost use Rattle.batch.specs.Reply.{answered};
 ghost use mathlib.Core.Path.{_≡_};
 ghost use Prim.Native.Nat.{ℕ, _+_, _-_, _^_, _≤_, _<_};
 ghost use lib.ListN.{length, getD};
-ghost use Rattle.model.specs.Model.{covering, covered, storeNew};
+ghost use Rattle.model.specs.Model.{covering, covered, storeNew, markCount};
 ghost use mathlib.Core.Bool.{true};
 ghost use Rattle.model.specs.Matches.{firstMatch};
-ghost use Rattle.xaplain.specs.Slices.{slices, checkAnswer, fitsEntry, restZero, inOrder, listOf, allZero, holdsList, sizedAs};
-ghost use Rattle.xaplain.specs.Moves.{Rising, Splits, Holds, Opened, Pulled, Cleared, Spliced, Columns, replaced, Counts, wordFits, lowOf, Parts, anyFrom, keptFrom, Begins, acceptsBy};
+ghost use Rattle.xaplain.specs.Slices.{slices, entryAt, checkAnswer, fitsEntry, restZero, inOrder, listOf, allZero, holdsList, sizedAs};
+ghost use Rattle.xaplain.specs.Moves.{Rising, Splits, Searchable, Placed, Closed, removed, seen, foundReply, remarking, Holds, Opened, Pulled, Cleared, Spliced, Columns, replaced, Counts, wordFits, lowOf, Parts, anyFrom, keptFrom, Begins, acceptsBy};
+ghost use Rattle.xaplain.specs.Engine.{execute};
+ghost use Rattle.xaplain.specs.Executes.{Executes};
 
 // The most entries that the slices may have room for.
 pub const MAX_ROOM: usize = 4096;
@@ -47,6 +66,33 @@ pub fn position(index: &[u64], n: usize, i: u64) -> usize
     low
 }
 
+// One more than the number of the entry over i, or 0 where none is.
+fn place(index: &[u64], order: &[u64], n: usize, i: u64) -> usize
+    requires { ⌜ Searchable (now index) (now order) n ⌝ }
+    ensures { λ r. ⌜ Placed (now (index .entry)) (now (order .entry)) n i r ⌝ }
+{
+    let p = position(index, n, i);
+    if p == 0 {
+        return 0;
+    }
+    if (i - index[p - 1]) >> order[p - 1] != 0 {
+        return 0;
+    }
+    p
+}
+
+fn entry_at(index: &[u64], order: &[u64], word: &[u64], marks: &[u64], k: usize) -> Entry
+    requires { ⌜ (k < length (now index)) × (k < length (now order)) × (k < length (now word)) × (k < length (now marks)) ⌝ }
+    ensures { λ r. ⌜ r ≡ entryAt (now (index .entry)) (now (order .entry)) (now (word .entry)) (now (marks .entry)) k ⌝ }
+{
+    Entry {
+        base: index[k],
+        order: order[k],
+        word: word[k],
+        marks: marks[k],
+    }
+}
+
 // What covers an index.
 pub fn covering(
     index: &[u64],
@@ -60,21 +106,11 @@ pub fn covering(
     ensures { λ r. ⌜ ((h : Holds (now (index .entry)) (now (order .entry)) (now (word .entry)) (now (marks .entry)) n) →
         r ≡ covered (covering (h .list) i)) ⌝ }
 {
-    let p = position(index, n, i);
+    let p = place(index, order, n, i);
     if p == 0 {
         return Covered::Nothing;
     }
-    let base = index[p - 1];
-    let k = order[p - 1];
-    if (i - base) >> k != 0 {
-        return Covered::Nothing;
-    }
-    Covered::By(Entry {
-        base: base,
-        order: k,
-        word: word[p - 1],
-        marks: marks[p - 1],
-    })
+    Covered::By(entry_at(index, order, word, marks, p - 1))
 }
 
 // Moves the places from p to n - 1 one up.
@@ -485,4 +521,213 @@ pub fn find(
         k += 1;
     }
     Covered::Nothing
+}
+
+// COMMANDS
+
+const MARKS: u64 = 3;
+
+const ANY_MARK: u64 = 3;
+
+// What a find asks.
+pub struct Sought {
+    pub first: u64,
+    pub last: u64,
+    pub filter: u64,
+    pub budget: u64,
+}
+
+// A command that alters nothing, by its answer alone.
+fn refused(tag: u64, answer: u64, n: usize) -> Turned
+    ensures { λ r. ⌜ r ≡ record { reply = answered tag answer 0 0; count = n } ⌝ }
+{
+    Turned {
+        reply: answered(tag, answer, 0, 0),
+        count: n,
+    }
+}
+
+// A reservation is absent to load, mark and unmark (R203).
+fn seen(c: Covered) -> Covered
+    ensures { λ r. ⌜ r ≡ seen c ⌝ }
+{
+    match c {
+        Covered::Nothing => Covered::Nothing,
+        Covered::By(e) => {
+            if e.word == RESERVED {
+                Covered::Nothing
+            } else {
+                Covered::By(e)
+            }
+        }
+    }
+}
+
+fn run_load(
+    index: &[u64],
+    order: &[u64],
+    word: &[u64],
+    marks: &[u64],
+    n: usize,
+    i: u64,
+) -> Reply
+    requires { ⌜ Holds (now index) (now order) (now word) (now marks) n ⌝ }
+    ensures { λ r. ⌜ ((h : Holds (now (index .entry)) (now (order .entry)) (now (word .entry)) (now (marks .entry)) n) →
+        r ≡ execute (length (now (index .entry))) (h .list) (Command.Load i) .reply) ⌝ }
+{
+    let c = seen(covering(index, order, word, marks, n, i));
+    covered_reply(LOAD_REPLY, c)
+}
+
+fn found_reply(c: Covered) -> Reply
+    ensures { λ r. ⌜ r ≡ foundReply c ⌝ }
+{
+    match c {
+        Covered::Nothing => answered(FIND_REPLY, ENDED, 0, 0),
+        Covered::By(e) => answered_by(FIND_REPLY, e, 0),
+    }
+}
+
+// A find never pauses; all its budget does is not to be 0 (R305).
+fn run_find(
+    index: &[u64],
+    order: &[u64],
+    word: &[u64],
+    marks: &[u64],
+    n: usize,
+    s: Sought,
+) -> Reply
+    requires { ⌜ Holds (now index) (now order) (now word) (now marks) n ⌝ }
+    ensures { λ r. ⌜ ((h : Holds (now (index .entry)) (now (order .entry)) (now (word .entry)) (now (marks .entry)) n) →
+        r ≡ execute (length (now (index .entry))) (h .list) (Command.Find (s .first) (s .last) (s .filter) (s .budget)) .reply) ⌝ }
+{
+    if s.filter > ANY_MARK {
+        return answered(FIND_REPLY, BAD_MARK, 0, 0);
+    }
+    if s.first > s.last {
+        return answered(FIND_REPLY, FIRST_ABOVE_LAST, 0, 0);
+    }
+    if s.budget == 0 {
+        return answered(FIND_REPLY, NO_BUDGET, 0, 0);
+    }
+    found_reply(find(index, order, word, marks, n, s.first, s.last, s.filter))
+}
+
+// Takes place k out of n.
+fn close(xs: &mut [u64], k: usize, n: usize)
+    requires { ⌜ (k < n) × (n ≤ length (now xs)) ⌝ }
+    ensures { λ _. ⌜ Closed (now (xs .entry)) (now (xs .exit)) k n ⌝ }
+{
+    pull(xs, k, k + 1, n);
+    clear(xs, n - 1, n);
+}
+
+// Takes entry k out, in all four slices.
+fn take_out(
+    index: &mut [u64],
+    order: &mut [u64],
+    word: &mut [u64],
+    marks: &mut [u64],
+    k: usize,
+    n: usize,
+)
+    requires { ⌜ Holds (now index) (now order) (now word) (now marks) n ⌝ }
+    requires { ⌜ k < n ⌝ }
+    ensures { λ _. ⌜ ((h : Holds (now (index .entry)) (now (order .entry)) (now (word .entry)) (now (marks .entry)) n) →
+        Columns (now (index .exit)) (now (order .exit)) (now (word .exit)) (now (marks .exit)) (length (now (index .entry)))
+        (removed k (h .list))) ⌝ }
+{
+    close(index, k, n);
+    close(order, k, n);
+    close(word, k, n);
+    close(marks, k, n);
+}
+
+fn run_erase(
+    index: &mut [u64],
+    order: &mut [u64],
+    word: &mut [u64],
+    marks: &mut [u64],
+    n: usize,
+    i: u64,
+) -> Turned
+    requires { ⌜ Holds (now index) (now order) (now word) (now marks) n ⌝ }
+    ensures { λ r. ⌜ ((h : Holds (now (index .entry)) (now (order .entry)) (now (word .entry)) (now (marks .entry)) n) →
+        Executes h (Command.Erase i) r (now (index .exit)) (now (order .exit)) (now (word .exit)) (now (marks .exit))) ⌝ }
+{
+    let p = place(index, order, n, i);
+    if p == 0 {
+        return refused(ERASE_REPLY, ABSENT, n);
+    }
+    let e = entry_at(index, order, word, marks, p - 1);
+    take_out(index, order, word, marks, p - 1, n);
+    Turned {
+        reply: answered_by(ERASE_REPLY, e, 0),
+        count: n - 1,
+    }
+}
+
+// The reply's tag of a mark, or of an unmark.
+fn remarked_tag(on: bool) -> u64
+    ensures { λ r. ⌜ r ≡ pick on 132 133 ⌝ }
+{
+    if on { MARK_REPLY } else { UNMARK_REPLY }
+}
+
+// Marks with mark m set or cleared.
+fn with_mark(w: u64, m: u64, on: bool) -> u64
+    requires { ⌜ (m < markCount) × (w < 8) ⌝ }
+    ensures { λ r. ⌜ r ≡ setBit m on w ⌝ }
+{
+    let was = (w >> m) % 2;
+    if on {
+        if was == 1 {
+            return w;
+        }
+        return w + pow2(m);
+    }
+    if was == 0 {
+        return w;
+    }
+    w - pow2(m)
+}
+
+// A mark where the bit is on, an unmark where it is off: one word changes.
+fn run_remark(
+    index: &[u64],
+    order: &[u64],
+    word: &[u64],
+    marks: &mut [u64],
+    n: usize,
+    i: u64,
+    m: u64,
+    on: bool,
+) -> Turned
+    requires { ⌜ Holds (now index) (now order) (now word) (now marks) n ⌝ }
+    ensures { λ r. ⌜ ((h : Holds (now (index .entry)) (now (order .entry)) (now (word .entry)) (now (marks .entry)) n) →
+        Executes h (remarking i m on) r (now (index .entry)) (now (order .entry)) (now (word .entry)) (now (marks .exit))) ⌝ }
+{
+    let tag = remarked_tag(on);
+    if m >= MARKS {
+        return refused(tag, BAD_MARK, n);
+    }
+    let p = place(index, order, n, i);
+    if p == 0 {
+        return refused(tag, ABSENT, n);
+    }
+    let e = entry_at(index, order, word, marks, p - 1);
+    if e.word == RESERVED {
+        return refused(tag, ABSENT, n);
+    }
+    let x = with_mark(e.marks, m, on);
+    marks[p - 1] = x;
+    Turned {
+        reply: answered_by(tag, Entry {
+            base: e.base,
+            order: e.order,
+            word: e.word,
+            marks: x,
+        }, 0),
+        count: n,
+    }
 }
