@@ -57,15 +57,16 @@ module _ (f : Entry → ℕ) (g : Entry → Entry) where
       (column-set r k l (omega arith) (omega arith) (λ j b n. e (suc j) (omega arith) (λ q. n (omega arith))))
 
 -- THE LIST
+abbrev mapO : (Entry → Entry) → Option Entry → Option Entry
+mapO g none = none
+mapO g (some e) = some (g e)
+
+covering-map : (g : Entry → Entry) (i : ℕ) → ((x : Entry) → covers i (g x) ≡ covers i x) → (l : List Entry) →
+    covering (map g l) i ≡ mapO g (covering l i)
+covering-map g i e [] = refl
+covering-map g i e (x ∷ l) = byT (covers i x) (λ t. rw (e x ∙ t, t)) (λ t. rw (e x ∙ t, t) (covering-map g i e l))
+
 module _ (i m : ℕ) (b : Bool) where
-  abbrev marked : Option Entry → Option Entry
-  marked none = none
-  marked (some e) = some (withMark i m b e)
-
-  covering-remark : (l : List Entry) → covering (remark l i m b) i ≡ marked (covering l i)
-  covering-remark [] = refl
-  covering-remark (x ∷ l) = byT (covers i x) (λ t. rw t refl) (λ t. rw t (covering-remark l))
-
   still : {l : List Entry} → All (λ x. takesMark i x ≡ false) l → remark l i m b ≡ l
   still end = refl
   still (also {x} f a) = ap₂ _∷_ (off x f) (still a)
@@ -138,7 +139,7 @@ module _ {is os ws ms : List ℕ} {n : ℕ} (h : Holds is os ws ms n) (i m : ℕ
       }
 
       seen-after : present (covering (remark (h .list) i m on) i) ≡ some (withMark i m on (nth (h .list) k))
-      seen-after = ap present (covering-remark i m on (h .list) ∙ ap (marked i m on) q) ∙ rw unreserved refl
+      seen-after = ap present (covering-map (withMark i m on) i (λ y. refl) (h .list) ∙ ap (mapO (withMark i m on)) q) ∙ rw unreserved refl
 
       pub remarks : {t : ℕ} {r : Turned} → t ≡ pick on 132 133 →
           r .reply ≡ answeredBy t (record { base = e .base; order = e .order; word = e .word; marks = x }) 0 → r .count ≡ n →

@@ -63,7 +63,7 @@ sub-marks : tie.Need-sub-marks
 sub-marks c = search needs
 
 mul-marks : tie.Need-mul-marks
-mul-marks c = omega (arith, place-reads (c  .before .before .before .before .before .before .before .before .before .before .before .before .before .pre) (c  .before .before .before .before .before .before .before .before .before .before .before .before .before .args .i) (c  .before .before .before .before .before .before .place .result) (c  .before .before .before .before .before .before .place .ensures) (c  .before .before .before .before .before .if2 .left) .3, c  .before .before .before .before .before .before .before .before .before .slice-known .given)
+mul-marks c = let g = place-reads (c  .before .before .before .before .before .before .before .before .before .before .before .before .before .pre) (c  .before .before .before .before .before .before .before .before .before .before .before .before .before .args .i) (c  .before .before .before .before .before .before .place .result) (c  .before .before .before .before .before .before .place .ensures) (c  .before .before .before .before .before .if2 .left) .3 in omega (arith, g)
 
 slice-write-marks : tie.Need-slice-write-marks
 slice-write-marks c = place-reads (c  .before .before .before .before .before .before .before .before .before .before .before .before .before .pre) (c  .before .before .before .before .before .before .before .before .before .before .before .before .before .args .i) (c  .before .before .before .before .before .before .place .result) (c  .before .before .before .before .before .before .place .ensures) (c  .before .before .before .before .before .if2 .left) .3

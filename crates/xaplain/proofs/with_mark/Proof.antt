@@ -13,7 +13,7 @@ use Rattle.xaplain.proofs.with_mark.Lts as lts
 use Rattle.words.proofs.pow2.Reads as pow2-reads
 
 small : (m : ℕ) → m < 3 → 2 ^ m < 8
-small m h = pow-lt {2} h
+small m h = pow-lt h
 
 shr-was : tie.Need-shr-was
 shr-was c = search needs
