@@ -29,6 +29,7 @@ use Rattle.listing.specs.Listing.{listed}
 use Rattle.listing.specs.Claims.{FitsListed}
 use Rattle.execute.specs.Execute.{execute}
 use Rattle.commands.specs.Commands.{Executed}
+use Rattle.commands.specs.Batches.{listBy}
 use Rattle.answers.specs.Answers.{tooFewNodes, result, done, badBatch, replySpace}
 use Rattle.execute.specs.Part.{mayWrite}
 use Rattle.execute.specs.Table.{CommandRow}
@@ -60,8 +61,7 @@ wordsAfterAll ws (c ∷ cs) = wordsAfterAll (wordsAfter ws c) cs
 module _ (n : ℕ) where
   -- R96
   abbrev pub executeAll : List Entry → List Command → List Entry
-  executeAll l [] = l
-  executeAll l (c ∷ cs) = executeAll (execute n l c .list) cs
+  executeAll = listBy (execute n)
 
   -- R95
   abbrev pub feed : List Entry → (replyLength : ℕ) → Parsed → List Entry
