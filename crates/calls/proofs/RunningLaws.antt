@@ -97,7 +97,7 @@ module _ {pool₀ reply₀ batch pool map reply : List ℕ} {at out : ℕ}
         record {
           formed = formed-after s c f (d .words-are);
           mapped = u;
-          ahead = subst (λ (m : ℕ). Ahead batch (k .at) m (out + replyBytes)) (sym len) (ahead-on (r .ahead) e);
+          ahead = ahead-on (r .ahead) e len;
           same-length = len ∙ r .same-length;
           leads = λ s₀ cs g ws′ rs′ x. r .leads s₀ cs g ws′ rs′
               (subst (λ (ys : List Command). Ends s ys out reply ws′ rs′) (sym (a .whole))

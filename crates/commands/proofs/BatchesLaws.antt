@@ -109,8 +109,8 @@ module _ {batch : List ℕ} {at room out : ℕ} (a : Ahead batch at room out) wh
     room-for = omega (arith, a .room, one-less)
 
     -- and behind it for the others
-    pub ahead-on : Ahead batch (k .at) room (out + replyBytes)
-    ahead-on = record { rest = turn .rest; rest-is = turn .rest-is; room = omega (arith, a .room, one-less) }
+    abbrev pub ahead-on : {room′ : ℕ} → room′ ≡ room → Ahead batch (k .at) room′ (out + replyBytes)
+    ahead-on same = record { rest = turn .rest; rest-is = turn .rest-is; room = omega (arith, a .room, one-less, same) }
 
   -- a good record stands at a place before the end
   pub stands : at < length batch → isRecord batch at ≡ true
