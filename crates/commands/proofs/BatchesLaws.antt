@@ -101,7 +101,7 @@ module _ {batch : List ℕ} {at room out : ℕ} (a : Ahead batch at room out) wh
     pub turn : After batch at (k .at) c (a .rest)
     turn = read-after batch at e (a .rest-is)
 
-    one-less : length (a .rest) ≡ suc (length (turn .rest))
+    pub one-less : length (a .rest) ≡ suc (length (turn .rest))
     one-less = ap length (turn .whole)
 
     -- there is room for its reply
