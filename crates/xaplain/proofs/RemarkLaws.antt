@@ -74,7 +74,7 @@ module _ (i m : ℕ) (b : Bool) where
       off : (x : Entry) → takesMark i x ≡ false → withMark i m b x ≡ x
       off x t = rw t refl
 
-  remark-absent : (l : List Entry) → Valid l → present (covering l i) ≡ none → remark l i m b ≡ l
+  pub remark-absent : (l : List Entry) → Valid l → present (covering l i) ≡ none → remark l i m b ≡ l
   remark-absent l v q = still (All-map (λ x f. no x f) (sole i v))
     where
       no : (x : Entry) → (covers i x ≡ true → covering l i ≡ some x) → takesMark i x ≡ false
