@@ -1,1 +1,3 @@
 pub mod CheckedLaws
+pub mod LeaveLaws
+pub mod DemandLaws
