@@ -1,3 +1,4 @@
 pub mod CheckedLaws
 pub mod LeaveLaws
 pub mod DemandLaws
+pub mod RefusalLaws

@@ -35,10 +35,11 @@ pub record CheckExact (s : Slices) : Type 0 where
 pub data CallRow (s : Slices) (bs rs : List ℕ) : Called → Type 0 where
   row-1 : (Sized s → ⊥) → CallRow s bs rs (refuseCall s rs 1 0)
   row-2 : Sized s → ((l : List Entry) → Prescribes (roomOf s) l s → ⊥) → CallRow s bs rs (refuseCall s rs 2 0)
-  row-3 : (l : List Entry) → Prescribes (roomOf s) l s → (at : ℕ) → Refuses bs at → CallRow s bs rs (refuseCall s rs 3 at)
-  row-4 : (l : List Entry) → Prescribes (roomOf s) l s → (cs : List Command) → parse bs ≡ Parsed.commands cs →
+  row-3 : Sized s → (l : List Entry) → Prescribes (roomOf s) l s → (at : ℕ) → Refuses bs at →
+      CallRow s bs rs (refuseCall s rs 3 at)
+  row-4 : Sized s → (l : List Entry) → Prescribes (roomOf s) l s → (cs : List Command) → parse bs ≡ Parsed.commands cs →
       length rs < replyBytes * length cs → CallRow s bs rs (refuseCall s rs 4 (length cs))
-  row-0 : (l : List Entry) → Prescribes (roomOf s) l s → (cs : List Command) → parse bs ≡ Parsed.commands cs →
+  row-0 : Sized s → (l : List Entry) → Prescribes (roomOf s) l s → (cs : List Command) → parse bs ≡ Parsed.commands cs →
       replyBytes * length cs ≤ length rs →
       CallRow s bs rs
       (record {
