@@ -22,7 +22,7 @@ module _ (does : List Entry → Command → Executed) where
   listBy l [] = l
   listBy l (c ∷ cs) = listBy (does l c .list) cs
 
-  -- R95: the list after a batch, by what it parses to and the length of its reply space
+  -- R95: the list after a batch, by what it parses to and how long the reply space is
   abbrev pub feedBy : List Entry → (replyLength : ℕ) → Parsed → List Entry
   feedBy l k (refused at) = l
   feedBy l k (commands cs) = pick (ltb k (replyBytes * length cs)) l (listBy l cs)

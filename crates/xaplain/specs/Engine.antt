@@ -1,4 +1,4 @@
--- The plain engine: what it adds to what a command means (crate commands). Its counts are 0, and its finds never pause (R305 to R307).
+-- The plain engine: what it adds to what a command means (crate commands). It counts nothing, and no find of it pauses (R305 to R307).
 use Prim.Native.Nat.{ℕ}
 use mathlib.Core.List.{List}
 use mathlib.Core.Option.{Option, none, some}

@@ -56,14 +56,14 @@ Bytewise init = Unit
 Bytewise check = Unit
 Bytewise (batch bs rs) = Bytes bs
 
--- R307: a store answers 11 exactly if nothing before it applies and the new list has more entries than room
+-- R307: a store answers 11 exactly if nothing before it applies and its list would not fit
 pub record ShortExact (room : ℕ) (l : List Entry) (i k w : ℕ) : Type 0 where
   pub only : execute room l (Store i k w) .reply .answer ≡ tooFewNodes →
       (k ≤ maxOrder) × (aligned k i ≡ true) × (storable w ≡ true) × (room < length (store l i k w))
   pub always : k ≤ maxOrder → aligned k i ≡ true → storable w ≡ true → room < length (store l i k w) →
       execute room l (Store i k w) .reply .answer ≡ tooFewNodes
 
--- R307: a reservation, exactly if nothing covers its index and the new list has more entries than room
+-- R307: a reservation, exactly if nothing covers its index and its list would not fit
 pub record ReserveShort (room : ℕ) (l : List Entry) (i : ℕ) : Type 0 where
   pub only : execute room l (Reserve i) .reply .answer ≡ tooFewNodes →
       (covering l i ≡ none) × (room < length (store l i 0 reservedWord))
