@@ -9,7 +9,6 @@ use Rattle.blocks.proofs.BoolLaws.{byT}
 use Rattle.answers.specs.Answers.{result, done, tooFewNodes, paused}
 use Rattle.model.specs.declared.Entry.{Entry}
 use Rattle.layout.specs.Words.{maxNodes}
-use Rattle.layout.specs.Decide.{nodeCount}
 use Rattle.decode.proofs.DecodeLaws.{decode-list}
 use Rattle.decode.proofs.DecideLaws.{sized-is}
 use Rattle.verify.specs.Answers.{initAnswer, initWords}
@@ -20,7 +19,7 @@ use Rattle.execute.specs.Execute.{execute}
 use Rattle.calls.specs.Calls.{Called, run, runParsed}
 use Rattle.calls.specs.Demand.{Call, Call.init, Call.check, Call.batch, Call.list, Bytewise, Stands, Starts, Starts.fresh}
 use Rattle.calls.proofs.DemandLaws.{sized, run-as, call-stands, Started, started}
-use Rattle.xaplain.specs.Slices.{Slices, Prescribes, maxRoom, roomOf, initSlices}
+use Rattle.xaplain.specs.Slices.{Slices, Prescribes, maxRoom, initSlices}
 use Rattle.xaplain.specs.Slices as S
 use Rattle.xaplain.specs.Engine as X
 use Rattle.xaplain_calls.specs.Calls as P

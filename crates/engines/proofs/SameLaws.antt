@@ -1,6 +1,6 @@
 -- The plain engine replies as the tree does, on lists: where neither is short of room and no find of the tree pauses, what a host
 -- sees of both is the same but for the counts of loads and finds (R309).
-use Prim.Native.Nat.{ℕ, zero, suc, _+_, _*_, _/_, _%_, _^_, _<_}
+use Prim.Native.Nat.{ℕ, suc, _+_, _*_, _/_, _%_, _<_}
 use mathlib.Core.Path.{_≡_, refl, sym, ap, subst, _∙_}
 use mathlib.Core.Logic.{_≢_}
 use mathlib.Core.List.{List, [], _∷_, _++_, map}
@@ -8,8 +8,8 @@ use native.Mathlib.Omega.{arith}
 use lib.Dec.{ltb, eqb}
 use lib.ListN.{length, getD, drop}
 use lib.Seq.{getD-append-add}
-use Rattle.blocks.specs.Choice.{pick, either}
-use Rattle.blocks.specs.Lists.{All, end, also}
+use Rattle.blocks.specs.Choice.{either}
+use Rattle.blocks.specs.Lists.{All, also}
 use Rattle.blocks.proofs.BoolLaws.{byT}
 use Rattle.answers.specs.Answers.{result, done, tooFewNodes, paused}
 use Rattle.model.specs.declared.Entry.{Entry}
@@ -20,7 +20,6 @@ use Rattle.lookup.specs.declared.Outcome.{Outcome}
 use Rattle.lookup.specs.Find.{find}
 use Rattle.lookup.proofs.FindLaws.{Right, right-found, right-ended, right-paused, find-right}
 use Rattle.batch.specs.declared.Command.{Command}
-use Rattle.batch.specs.declared.Command.the-variants.{Find}
 use Rattle.batch.specs.declared.Reply.{Reply}
 use Rattle.batch.specs.Reply.{replyTag, replyBytes, encode}
 use Rattle.batch.specs.Fits.{Fits}

@@ -1,14 +1,14 @@
 -- The check is exact, both ways, of the four slices together.
 use Prim.Native.Nat.{ℕ, _≤_}
-use mathlib.Core.Path.{_≡_, refl, sym, ap, subst, _∙_}
-use mathlib.Core.Bool.{Bool, true, false}
+use mathlib.Core.Path.{_≡_, sym, ap, subst, _∙_}
+use mathlib.Core.Bool.{Bool, true}
 use mathlib.Core.List.{List}
 use native.Mathlib.Omega.{arith}
 use lib.Dec.{leb, eqb}
 use lib.ListN.{length}
 use borrow.Author.Tests.{leb-true, eqb-true, le-leb, eq-eqb}
 use Rattle.blocks.specs.Choice.{both}
-use Rattle.blocks.proofs.BoolLaws.{byT, clash, both-i, both-l, both-r}
+use Rattle.blocks.proofs.BoolLaws.{byT, both-i, both-l, both-r}
 use Rattle.model.specs.declared.Entry.{Entry}
 use Rattle.xaplain.specs.Slices.{Slices, columns, Prescribes, maxRoom, holdsList, roomOf, listIn, isSized, checkAnswer}
 use Rattle.xaplain.specs.Moves.{Columns}

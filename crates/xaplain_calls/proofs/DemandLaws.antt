@@ -19,9 +19,8 @@ use Rattle.batch.specs.Batch.{Parsed, Parsed.commands, Parsed.refused, parse}
 use Rattle.batch.specs.Reply.{replyBytes}
 use Rattle.batch.proofs.BoundLaws.{AllFit, parse-fits}
 use Rattle.batch.proofs.CutLaws.{cut}
-use Rattle.commands.specs.Commands.{Executed}
 use Rattle.commands.specs.Batches.{repliesBy, listBy, feedBy}
-use Rattle.xaplain.specs.Slices.{Slices, columns, Prescribes, maxRoom, roomOf, listIn, isSized, checkAnswer, initSlices}
+use Rattle.xaplain.specs.Slices.{Slices, columns, Prescribes, maxRoom, listIn, isSized, checkAnswer, initSlices}
 use Rattle.xaplain.specs.Engine.{execute}
 use Rattle.xaplain.proofs.KeepLaws.{Keeps, execute-keeps}
 use Rattle.xaplain_calls.specs.Calls.{Called, run, runParsed}

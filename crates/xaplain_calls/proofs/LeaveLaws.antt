@@ -1,13 +1,13 @@
 -- One command of the plain engine: where it is refused the list stays (R40, R83), and shortage is exact (R307).
 use Prim.Native.Nat.{ℕ, _≤_, _<_}
-use mathlib.Core.Path.{_≡_, refl, sym, ap, subst}
+use mathlib.Core.Path.{_≡_, refl}
 use mathlib.Core.Bool.{Bool, true, false, not}
 use mathlib.Core.List.{List, [], _∷_, map}
 use mathlib.Core.Option.{Option, none, some}
 use native.Mathlib.Omega.{arith}
-use lib.Dec.{leb, ltb, eqb}
+use lib.Dec.{leb, ltb}
 use lib.ListN.{length}
-use borrow.Author.Tests.{ltb-true, ltb-false, leb-false, lt-ltb, le-ltb}
+use borrow.Author.Tests.{ltb-true, ltb-false, lt-ltb, le-ltb}
 use Rattle.blocks.specs.Lists.{any, All, end, also}
 use Rattle.blocks.proofs.BoolLaws.{byT, clash, both-l, not-false}
 use Rattle.blocks.proofs.ListLaws.{any-in, first-no, look}
@@ -36,7 +36,7 @@ use Rattle.model.specs.Model.{
 use Rattle.model.proofs.ValidLaws.{covers-self, erase-none}
 use Rattle.batch.specs.declared.Command.{Command}
 use Rattle.batch.specs.declared.Command.the-variants.{Store, Load, Erase, Mark, Unmark, Find, Reserve}
-use Rattle.commands.specs.Commands.{Executed, replyOf, reserving}
+use Rattle.commands.specs.Commands.{replyOf, reserving}
 use Rattle.xaplain.specs.Engine.{xaplain, execute}
 use Rattle.xaplain.proofs.CommandLaws.{find-list}
 use Rattle.xaplain.proofs.RemarkLaws.{remark-absent}

@@ -12,13 +12,13 @@ use lib.ListN.{length, getD, take, drop}
 use Rattle.answers.specs.Answers.{result, done, badBatch, replySpace, tooFewNodes}
 use Rattle.words.specs.Bytes.{Bytes}
 use Rattle.model.specs.declared.Entry.{Entry}
-use Rattle.model.specs.Model.{Valid, storable, maxOrder, aligned, store, reservedWord, covering}
+use Rattle.model.specs.Model.{storable, maxOrder, aligned, store, reservedWord, covering}
 use Rattle.batch.specs.declared.Command.{Command}
 use Rattle.batch.specs.declared.Command.the-variants.{Store, Reserve}
 use Rattle.batch.specs.Batch.{Parsed, Parsed.commands, Parsed.refused, parse}
 use Rattle.batch.specs.Reply.{replyBytes}
 use Rattle.commands.specs.Batches.{repliesBy, listBy, feedBy}
-use Rattle.xaplain.specs.Slices.{Slices, columns, Prescribes, roomOf, listIn, checkAnswer, initAnswer, initSlices}
+use Rattle.xaplain.specs.Slices.{Slices, Prescribes, roomOf, listIn, checkAnswer, initAnswer, initSlices}
 use Rattle.xaplain.specs.Engine.{execute}
 use Rattle.xaplain_calls.specs.Calls.{run, refuseCall, initResult, checkResult}
 
