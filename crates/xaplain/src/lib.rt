@@ -33,7 +33,7 @@ ghost use lib.ListN.{length, getD};
 ghost use Rattle.model.specs.Model.{covering, covered, storeNew, markCount};
 ghost use mathlib.Core.Bool.{true};
 ghost use Rattle.model.specs.Matches.{firstMatch};
-ghost use Rattle.xaplain.specs.Slices.{slices, entryAt, checkAnswer, fitsEntry, restZero, inOrder, listOf, allZero, holdsList, sizedAs};
+ghost use Rattle.xaplain.specs.Slices.{slices, entryAt, checkAnswer, initAnswer, initSlices, fitsEntry, restZero, inOrder, listOf, allZero, holdsList, sizedAs};
 ghost use Rattle.xaplain.specs.Moves.{Rising, Splits, Searchable, Placed, Closed, removed, seen, foundReply, remarking, Holds, Opened, Pulled, Cleared, Spliced, Columns, replaced, Counts, wordFits, lowOf, Parts, anyFrom, keptFrom, Begins, acceptsBy};
 ghost use Rattle.xaplain.specs.Engine.{execute};
 ghost use Rattle.xaplain.specs.Executes.{Executes};
@@ -194,7 +194,7 @@ fn put(
 }
 
 // How many words stand before the first 0.
-fn count(word: &[u64]) -> usize
+pub fn count(word: &[u64]) -> usize
     ensures { λ r. ⌜ Counts (now (word .entry)) r ⌝ }
 {
     let mut k: usize = 0;
@@ -343,6 +343,23 @@ pub fn check(index: &[u64], order: &[u64], word: &[u64], marks: &[u64]) -> u64
     if !holds(index, order, word, marks) {
         return NOT_WELL_FORMED;
     }
+    DONE
+}
+
+// Four slices of one length become those of the empty list: answers 0, or 1 with nothing written.
+pub fn init(index: &mut [u64], order: &mut [u64], word: &mut [u64], marks: &mut [u64]) -> u64
+    ensures { λ r. ⌜ r ≡ initAnswer (slices (now (index .entry)) (now (order .entry)) (now (word .entry)) (now (marks .entry))) ⌝ }
+    ensures { λ _. ⌜ slices (now (index .exit)) (now (order .exit)) (now (word .exit)) (now (marks .exit))
+        ≡ initSlices (slices (now (index .entry)) (now (order .entry)) (now (word .entry)) (now (marks .entry))) ⌝ }
+{
+    if !sized(index, order, word, marks) {
+        return POOL_LENGTH;
+    }
+    let room = index.len();
+    clear(index, 0, room);
+    clear(order, 0, room);
+    clear(word, 0, room);
+    clear(marks, 0, room);
     DONE
 }
 
@@ -731,3 +748,81 @@ fn run_remark(
         count: n,
     }
 }
+
+// One command: its reply, and the number of entries after it.
+pub fn execute(
+    index: &mut [u64],
+    order: &mut [u64],
+    word: &mut [u64],
+    marks: &mut [u64],
+    n: usize,
+    c: Command,
+) -> Turned
+    requires { ⌜ Holds (now index) (now order) (now word) (now marks) n ⌝ }
+    ensures { λ r. ⌜ ((h : Holds (now (index .entry)) (now (order .entry)) (now (word .entry)) (now (marks .entry)) n) →
+        Executes h c r (now (index .exit)) (now (order .exit)) (now (word .exit)) (now (marks .exit))) ⌝ }
+{
+    match c {
+        Command::Store {
+            index: i,
+            order: k,
+            word: w,
+        } => run_store(index, order, word, marks, n, i, k, w),
+        Command::Load { index: i } => Turned {
+            reply: run_load(index, order, word, marks, n, i),
+            count: n,
+        },
+        Command::Erase { index: i } => run_erase(index, order, word, marks, n, i),
+        Command::Mark { index: i, mark: m } => run_remark(index, order, word, marks, n, i, m, true),
+        Command::Unmark { index: i, mark: m } => run_remark(index, order, word, marks, n, i, m, false),
+        Command::Find {
+            first,
+            last,
+            filter,
+            budget,
+        } => Turned {
+            reply: run_find(index, order, word, marks, n, Sought {
+                first,
+                last,
+                filter,
+                budget,
+            }),
+            count: n,
+        },
+        Command::Reserve { index: i } => run_reserve(index, order, word, marks, n, i),
+    }
+}
+
+// STUBS
+fn run_store(
+    index: &mut [u64],
+    order: &mut [u64],
+    word: &mut [u64],
+    marks: &mut [u64],
+    n: usize,
+    i: u64,
+    k: u64,
+    w: u64,
+) -> Turned
+    requires { ⌜ Holds (now index) (now order) (now word) (now marks) n ⌝ }
+    ensures { λ r. ⌜ ((h : Holds (now (index .entry)) (now (order .entry)) (now (word .entry)) (now (marks .entry)) n) →
+        Executes h (Command.Store i k w) r (now (index .exit)) (now (order .exit)) (now (word .exit)) (now (marks .exit))) ⌝ }
+{
+    refused(ERASE_REPLY, ABSENT, n)
+}
+
+fn run_reserve(
+    index: &mut [u64],
+    order: &mut [u64],
+    word: &mut [u64],
+    marks: &mut [u64],
+    n: usize,
+    i: u64,
+) -> Turned
+    requires { ⌜ Holds (now index) (now order) (now word) (now marks) n ⌝ }
+    ensures { λ r. ⌜ ((h : Holds (now (index .entry)) (now (order .entry)) (now (word .entry)) (now (marks .entry)) n) →
+        Executes h (Command.Reserve i) r (now (index .exit)) (now (order .exit)) (now (word .exit)) (now (marks .exit))) ⌝ }
+{
+    refused(ERASE_REPLY, ABSENT, n)
+}
+// END STUBS

@@ -1,0 +1,2 @@
+pub mod RunningLaws
+pub mod CallLaws
