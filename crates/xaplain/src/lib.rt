@@ -792,37 +792,3 @@ pub fn execute(
         Command::Reserve { index: i } => run_reserve(index, order, word, marks, n, i),
     }
 }
-
-// STUBS
-fn run_store(
-    index: &mut [u64],
-    order: &mut [u64],
-    word: &mut [u64],
-    marks: &mut [u64],
-    n: usize,
-    i: u64,
-    k: u64,
-    w: u64,
-) -> Turned
-    requires { ⌜ Holds (now index) (now order) (now word) (now marks) n ⌝ }
-    ensures { λ r. ⌜ ((h : Holds (now (index .entry)) (now (order .entry)) (now (word .entry)) (now (marks .entry)) n) →
-        Executes h (Command.Store i k w) r (now (index .exit)) (now (order .exit)) (now (word .exit)) (now (marks .exit))) ⌝ }
-{
-    refused(ERASE_REPLY, ABSENT, n)
-}
-
-fn run_reserve(
-    index: &mut [u64],
-    order: &mut [u64],
-    word: &mut [u64],
-    marks: &mut [u64],
-    n: usize,
-    i: u64,
-) -> Turned
-    requires { ⌜ Holds (now index) (now order) (now word) (now marks) n ⌝ }
-    ensures { λ r. ⌜ ((h : Holds (now (index .entry)) (now (order .entry)) (now (word .entry)) (now (marks .entry)) n) →
-        Executes h (Command.Reserve i) r (now (index .exit)) (now (order .exit)) (now (word .exit)) (now (marks .exit))) ⌝ }
-{
-    refused(ERASE_REPLY, ABSENT, n)
-}
-// END STUBS
