@@ -92,7 +92,7 @@ module _ {index order word marks : List ℕ} {n : ℕ} (h : Holds index order wo
     none-over f = first-none (covers i) (each (h .list) f)
 
     -- an entry over i is the last that starts at i or before
-    only-last : (x : Entry) → In x (h .list) → covers i x ≡ true → (0 < r) × (nth (h .list) (r - 1) ≡ x)
+    pub only-last : (x : Entry) → In x (h .list) → covers i x ≡ true → (0 < r) × (nth (h .list) (r - 1) ≡ x)
     only-last x m c =
         let (k, b, e) = in-nth m in
         let kn : k < n = omega (arith, h .count) in
