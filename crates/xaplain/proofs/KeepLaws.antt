@@ -52,7 +52,8 @@ use Rattle.xaplain.proofs.ColumnLaws.{list-ext, column-length}
 use Rattle.xaplain.proofs.PlainLaws.{blank, column-nth}
 use Rattle.xaplain.proofs.CheckLaws.{Words, Prescribes, yes, only}
 use Rattle.xaplain.proofs.LoopLaws.{count-is, sized-lengths}
-use Rattle.xaplain.proofs.CommandLaws.{find-list, as-held}
+use Rattle.xaplain.proofs.CommandLaws.{find-list}
+use Rattle.xaplain.proofs.StoredLaws.{stay}
 
 -- A MARK CHANGED
 set-small : (w m : ℕ) (b : Bool) → w < 8 → m < markCount → setBit m b w < 8
@@ -179,7 +180,7 @@ holds-after {is} h c f x = holds-of (execute-keeps (length is) (h .list) (keeps-
 pub list-held : {is os ws ms : List ℕ} {n : ℕ} (h : Holds is os ws ms n) → listOf is os ws ms ≡ h .list
 list-held {is} {os} {ws} {ms} h =
     only is os ws ms (h .order-fits) (h .word-fits) (h .marks-fit) (h .list)
-    (record { valid = h .valid; fits = keeps-held h .fits; columns = as-held h })
+    (record { valid = h .valid; fits = keeps-held h .fits; columns = stay h })
 
 -- THE CHECK passed: 64-bit words hold a list of as many entries as words stand before the first 0
 pub holds-checked : {is os ws ms : List ℕ} {n : ℕ} → Words is → Words ws → checkAnswer (slices is os ws ms) ≡ 0 → Counts ws n →

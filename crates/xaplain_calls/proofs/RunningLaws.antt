@@ -17,7 +17,7 @@ use Rattle.commands.proofs.BatchesLaws.{same-commands, After, turn, ahead-on, n
 use Rattle.xaplain.specs.Moves.{Holds, Columns}
 use Rattle.xaplain.specs.Engine.{execute}
 use Rattle.xaplain.specs.Executes.{Turned, Executes}
-use Rattle.xaplain.proofs.CommandLaws.{as-held}
+use Rattle.xaplain.proofs.StoredLaws.{stay}
 use Rattle.xaplain.proofs.KeepLaws.{list-held, columns-room, holds-of, execute-keeps, keeps-held}
 use Rattle.xaplain_calls.specs.Running.{Ends, Turns, Running}
 
@@ -86,4 +86,4 @@ module _ {is₀ os₀ ws₀ ms₀ reply₀ batch is os ws ms reply : List ℕ} {
     running-end e h₀ cs g =
         r .leads h₀ cs g is os ws ms reply
         (subst (λ (ys : List Command). Ends (length is) (r .held .list) ys out reply is os ws ms reply) (sym (none-left (r .ahead) e))
-        (record { columns = as-held (r .held); reply-is = refl }))
+        (record { columns = stay (r .held); reply-is = refl }))
