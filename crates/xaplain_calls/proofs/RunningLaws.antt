@@ -16,7 +16,8 @@ use Rattle.commands.specs.Batches.{Ahead}
 use Rattle.commands.proofs.BatchesLaws.{same-commands, After, turn, ahead-on, none-left, reply-then}
 use Rattle.xaplain.specs.Moves.{Holds, Columns}
 use Rattle.xaplain.specs.Engine.{execute}
-use Rattle.xaplain.specs.Executes.{Turned, Executes}
+use Rattle.xaplain.specs.declared.Turned.{Turned}
+use Rattle.xaplain.specs.Executes.{Executes}
 use Rattle.xaplain.proofs.StoredLaws.{stay}
 use Rattle.xaplain.proofs.KeepLaws.{list-held, columns-room, holds-of, execute-keeps, keeps-held}
 use Rattle.xaplain_calls.specs.Running.{Ends, Turns, Running}
