@@ -24,15 +24,9 @@ use Rattle.commands.specs.Replies.{coveredReply}
 use Rattle.xaplain.specs.Engine.{sighted, execute}
 use Rattle.xaplain.specs.Moves.{Holds, Columns, seen, foundReply, remarking}
 use Rattle.xaplain.specs.Executes.{Turned, Executes}
+use Rattle.xaplain.proofs.StoredLaws.{reply-by, stay}
 
 -- REPLIES
-abbrev pub turnedBy : Reply → ℕ → Turned
-turnedBy r n = record { reply = r; count = n }
-
-pub covered-is : (t : ℕ) (o : Option Entry) → coveredReply t (covered o) ≡ replyOf t 0 o
-covered-is t none = refl
-covered-is t (some e) = refl
-
 pub seen-entry : (e : Entry) → e .word ≢ reservedWord → seen (By e) ≡ By e
 seen-entry e n = rw (ne-eqb (e .word) reservedWord n) refl
 
@@ -47,7 +41,7 @@ found-is (some e) = refl
 module _ (room : ℕ) (l : List Entry) where
   pub load-reply : (i : ℕ) {x : Covered} → x ≡ seen (covered (covering l i)) → coveredReply 130 x ≡ execute room l (Load i) .reply
   unfolding execute
-  load-reply i e = ap (coveredReply 130) (e ∙ seen-is (covering l i)) ∙ covered-is 130 (present (covering l i))
+  load-reply i e = ap (coveredReply 130) (e ∙ seen-is (covering l i)) ∙ reply-by 130 (present (covering l i))
 
   pub load-list : (i : ℕ) → execute room l (Load i) .list ≡ l
   unfolding execute
@@ -106,22 +100,15 @@ module _ {is os ws ms : List ℕ} {n : ℕ} (h : Holds is os ws ms n) where
     columns = subst (λ (x : List Entry). Columns is′ os′ ws′ ms′ (length is) x) (sym (ap (λ (x : Executed). x .list) e)) u;
   }
 
-  pub as-held : Columns is os ws ms (length is) (h .list)
-  as-held = record { index-is = h .index-is; order-is = h .order-is; word-is = h .word-is; marks-are = h .marks-are }
-
-  pub leaves : (c : Command) {q : Reply} → execute (length is) (h .list) c ≡ leave (h .list) q →
-      {r : Turned} → r ≡ turnedBy q n → Executes h c r is os ws ms
-  leaves c e g = becomes c e (ap (λ (x : Turned). x .reply) g) (ap (λ (x : Turned). x .count) g ∙ sym (h .count)) as-held
-
   pub by-command : {c d : Command} → c ≡ d → {r : Turned} {is′ os′ ws′ ms′ : List ℕ} →
       Executes h d r is′ os′ ws′ ms′ → Executes h c r is′ os′ ws′ ms′
   by-command {c} {d} e {r} {is′} {os′} {ws′} {ms′} x = subst (λ (y : Command). Executes h y r is′ os′ ws′ ms′) (sym e) x
 
   -- a command that only reads
   pub reads : (c : Command) → execute (length is) (h .list) c .list ≡ h .list → {q : Reply} → q ≡ execute (length is) (h .list) c .reply →
-      Executes h c (turnedBy q n) is os ws ms
+      Executes h c (record { reply = q; count = n }) is os ws ms
   reads c e g = record {
     reply-is = g;
     count-is = sym (h .count) ∙ sym (ap length e);
-    columns = subst (λ (x : List Entry). Columns is os ws ms (length is) x) (sym e) as-held;
+    columns = subst (λ (x : List Entry). Columns is os ws ms (length is) x) (sym e) (stay h);
   }

@@ -19,15 +19,17 @@ use Rattle.model.specs.declared.Entry.{Entry}
 use Rattle.model.specs.Model.{Sorted, more, done, covers, covering, erase}
 use Rattle.model.proofs.ValidLaws.{covers-lo, covers-hi, sorted-ok, erase-none}
 use Rattle.batch.specs.declared.Command.the-variants.{Erase}
-use Rattle.batch.specs.Reply.{answered, answeredBy}
+use Rattle.batch.specs.Reply.{answeredBy}
 use Rattle.commands.specs.Commands.{replyOf}
 use Rattle.xaplain.specs.Slices.{column, entryAt}
 use Rattle.xaplain.specs.Moves.{Holds, Pulled, Cleared, Closed, Columns, removed}
+use Rattle.xaplain.specs.Stores.{refusedBy}
 use Rattle.xaplain.specs.Executes.{Turned, Executes}
 use Rattle.xaplain.proofs.PlainLaws.{blank, nth, nth-in, above, column-nth}
 use Rattle.xaplain.proofs.ColumnLaws.{list-ext, column-length}
 use Rattle.xaplain.proofs.PlaceLaws.{entry-is, covering-covers}
-use Rattle.xaplain.proofs.CommandLaws.{turnedBy, erase-runs, becomes, as-held}
+use Rattle.xaplain.proofs.StoredLaws.{stay}
+use Rattle.xaplain.proofs.CommandLaws.{erase-runs, becomes}
 
 -- ONE SLICE
 pub close-up : (xs ys zs : List ℕ) (k n : ℕ) → k < n → Pulled xs ys k (k + 1) n → Cleared ys zs (n - 1) n → Closed xs zs k n
@@ -123,14 +125,14 @@ module _ {is os ws ms : List ℕ} {n : ℕ} (h : Holds is os ws ms n) where
       one f z xs ys c s =
           column-close f z (length is) k n (h .list) ys (h .count) g (h .fits) (subst (λ (x : List ℕ). Closed x ys k n) c s)
 
-  pub erases-none : (i : ℕ) → covering (h .list) i ≡ none → {r : Turned} → r ≡ turnedBy (answered 131 absent 0 0) n →
+  pub erases-none : (i : ℕ) → covering (h .list) i ≡ none → {r : Turned} → r ≡ refusedBy 131 absent n →
       Executes h (Erase i) r is os ws ms
   erases-none i q e =
       let x : erase (h .list) i ≡ h .list = erase-none i q in
       becomes h (Erase i) (erase-runs (length is) (h .list) i)
       (ap (λ (y : Turned). y .reply) e ∙ sym (ap (replyOf 131 0) q))
       (ap (λ (y : Turned). y .count) e ∙ sym (h .count) ∙ sym (ap length x))
-      (subst (λ (l : List Entry). Columns is os ws ms (length is) l) (sym x) (as-held h))
+      (subst (λ (l : List Entry). Columns is os ws ms (length is) l) (sym x) (stay h))
 
   pub erases : (i k : ℕ) → k < n → covering (h .list) i ≡ some (nth (h .list) k) → {e : Entry} → e ≡ entryAt is os ws ms k →
       {r : Turned} → r .reply ≡ answeredBy 131 e 0 → r .count ≡ n - 1 → {is′ os′ ws′ ms′ : List ℕ} →

@@ -44,12 +44,16 @@ use Rattle.batch.specs.declared.Command.{Command}
 use Rattle.batch.specs.declared.Command.the-variants.{Store, Load, Erase, Mark, Unmark, Find, Reserve}
 use Rattle.batch.specs.Fits.{Fits}
 use Rattle.commands.specs.Commands.{reserving}
-use Rattle.xaplain.specs.Slices.{column}
-use Rattle.xaplain.specs.Moves.{Holds, Columns}
+use Rattle.xaplain.specs.Slices.{slices, column, columns, listOf, initSlices, holdsList, sizedAs, checkAnswer}
+use Rattle.xaplain.specs.Moves.{Holds, Columns, Cleared, Counts}
 use Rattle.xaplain.specs.Engine.{xaplain, execute}
 use Rattle.xaplain.specs.Executes.{Turned, Executes}
-use Rattle.xaplain.proofs.ColumnLaws.{column-length}
+use Rattle.xaplain.proofs.ColumnLaws.{list-ext, column-length}
+use Rattle.xaplain.proofs.PlainLaws.{blank, column-nth}
+use Rattle.xaplain.proofs.CheckLaws.{Words, Prescribes, yes, only}
+use Rattle.xaplain.proofs.LoopLaws.{count-is, sized-lengths}
 use Rattle.xaplain.proofs.CommandLaws.{find-list}
+use Rattle.xaplain.proofs.StoredLaws.{stay}
 
 -- A MARK CHANGED
 set-small : (w m : ℕ) (b : Bool) → w < 8 → m < markCount → setBit m b w < 8
@@ -144,9 +148,13 @@ module _ (room : ℕ) (l : List Entry) (k₀ : Keeps room l) where
   execute-keeps (Reserve i) f = reserved-keeps i f (covering l i) refl
 
 -- THE SLICES
+-- what the slices of a list have for room
+pub columns-room : {is os ws ms : List ℕ} {room : ℕ} {l : List Entry} → Columns is os ws ms room l → length is ≡ room
+columns-room {room = room} {l} c = ap length (c .index-is) ∙ column-length (λ x. x .base) room l
+
 pub holds-of : {is os ws ms : List ℕ} {room n : ℕ} {l : List Entry} → Keeps room l → n ≡ length l → Columns is os ws ms room l → Holds is os ws ms n
 holds-of {is} {os} {ws} {ms} {room} {n} {l} k e c =
-    let i : length is ≡ room = ap length (c .index-is) ∙ column-length (λ x. x .base) room l in
+    let i : length is ≡ room = columns-room c in
     record {
       list = l;
       valid = k .valid;
@@ -167,3 +175,40 @@ keeps-held h = record { valid = h .valid; fits = omega (arith, h .fits, h .count
 pub holds-after : {is os ws ms is′ os′ ws′ ms′ : List ℕ} {n : ℕ} (h : Holds is os ws ms n) (c : Command) → Fits c → {r : Turned} →
     Executes h c r is′ os′ ws′ ms′ → Holds is′ os′ ws′ ms′ (r .count)
 holds-after {is} h c f x = holds-of (execute-keeps (length is) (h .list) (keeps-held h) c f) (x .count-is) (x .columns)
+
+-- what they hold is what is read in them
+pub list-held : {is os ws ms : List ℕ} {n : ℕ} (h : Holds is os ws ms n) → listOf is os ws ms ≡ h .list
+list-held {is} {os} {ws} {ms} h =
+    only is os ws ms (h .order-fits) (h .word-fits) (h .marks-fit) (h .list)
+    (record { valid = h .valid; fits = keeps-held h .fits; columns = stay h })
+
+-- THE CHECK passed: 64-bit words hold a list of as many entries as words stand before the first 0
+pub holds-checked : {is os ws ms : List ℕ} {n : ℕ} → Words is → Words ws → checkAnswer (slices is os ws ms) ≡ 0 → Counts ws n →
+    Holds is os ws ms n
+holds-checked {is} {os} {ws} {ms} {n} wi ww e c =
+    byT (sizedAs is os ws ms)
+    (λ t. byT (holdsList is os ws ms)
+    (λ u. let (lo, lw, lm) = sized-lengths is os ws ms t in
+    let p : Prescribes is os ws ms (listOf is os ws ms) = yes is os ws ms lo lw lm wi ww u in
+    holds-of (record { valid = p .valid; fits = p .fits }) (count-is is os ws ms n lw c) (p .columns))
+    (λ u. absurd (let z : 2 ≡ 0 = sym (rw (t, u) refl) ∙ e in omega arith)))
+    (λ t. absurd (let z : 1 ≡ 0 = sym (rw t refl) ∙ e in omega arith))
+
+-- INIT
+blank-column : (f : Entry → ℕ) → f blank ≡ 0 → (room : ℕ) (xs ys : List ℕ) → length xs ≡ room → Cleared xs ys 0 room → ys ≡ column f room []
+blank-column f z room xs ys e c =
+    list-ext ys (column f room []) (c .same-length ∙ e ∙ sym (column-length f room []))
+    (λ k g. let b : k < room = omega (arith, c .same-length) in
+    c .zeros k (omega arith) b ∙ sym (column-nth f z room [] k b ∙ z))
+
+pub init-slices : {is os ws ms is′ os′ ws′ ms′ : List ℕ} → sizedAs is os ws ms ≡ true → Cleared is is′ 0 (length is) →
+    Cleared os os′ 0 (length is) → Cleared ws ws′ 0 (length is) → Cleared ms ms′ 0 (length is) →
+    slices is′ os′ ws′ ms′ ≡ initSlices (slices is os ws ms)
+init-slices {is} {os} {ws} {ms} {is′} {os′} {ws′} {ms′} t i o w m =
+    let (lo, lw, lm) = sized-lengths is os ws ms t in
+    let a = blank-column (λ x. x .base) refl (length is) is is′ refl i in
+    let b = blank-column (λ x. x .order) refl (length is) os os′ lo o in
+    let c = blank-column (λ x. x .word) refl (length is) ws ws′ lw w in
+    let d = blank-column (λ x. x .marks) refl (length is) ms ms′ lm m in
+    let e : slices is′ os′ ws′ ms′ ≡ columns (length is) [] = λ j. record { index = a j; order = b j; word = c j; marks = d j } in
+    e ∙ sym (rw t refl)

@@ -92,7 +92,7 @@ module _ {index order word marks : List ℕ} {n : ℕ} (h : Holds index order wo
     none-over f = first-none (covers i) (each (h .list) f)
 
     -- an entry over i is the last that starts at i or before
-    only-last : (x : Entry) → In x (h .list) → covers i x ≡ true → (0 < r) × (nth (h .list) (r - 1) ≡ x)
+    pub only-last : (x : Entry) → In x (h .list) → covers i x ≡ true → (0 < r) × (nth (h .list) (r - 1) ≡ x)
     only-last x m c =
         let (k, b, e) = in-nth m in
         let kn : k < n = omega (arith, h .count) in
@@ -142,8 +142,11 @@ past-run b i k h e =
 
 -- the entry before the place of i
 module _ {index order word marks : List ℕ} {n : ℕ} (h : Holds index order word marks n) (i r : ℕ) (s : Splits index n i r) (p : r ≢ 0) where
-  last-low : getD index (r - 1) 0 ≤ i
+  pub last-low : getD index (r - 1) 0 ≤ i
   last-low = s .low (r - 1) (omega (arith, p))
+
+  pub last-order : getD order (r - 1) 0 < 64
+  last-order = let rn : r ≤ n = s .within in omega (arith, p, order-at h (r - 1) (omega (arith, p)), entry-ok h (r - 1) (omega (arith, p)) .order-le)
 
   pub last-none : ((i - getD index (r - 1) 0) / 2 ^ getD order (r - 1) 0 ≡ 0 → ⊥) → covering (h .list) i ≡ none
   last-none e =

@@ -24,10 +24,13 @@ use Rattle.commands.specs.Commands.{Executed, leave, replyOf, marking}
 use Rattle.xaplain.specs.Slices.{column, entryAt}
 use Rattle.xaplain.specs.Moves.{Holds, Columns, remarking}
 use Rattle.xaplain.specs.Engine.{execute}
+use Rattle.xaplain.specs.Stores.{refusedBy}
 use Rattle.xaplain.specs.Executes.{Turned, Executes}
 use Rattle.xaplain.proofs.PlainLaws.{nth}
 use Rattle.xaplain.proofs.PlaceLaws.{entry-is, covers-one, covering-covers}
-use Rattle.xaplain.proofs.CommandLaws.{turnedBy, remark-above, remark-runs, becomes, leaves}
+use Rattle.xaplain.proofs.OverLaws.{same-column, set-column}
+use Rattle.xaplain.proofs.StoredLaws.{leaves}
+use Rattle.xaplain.proofs.CommandLaws.{remark-above, remark-runs, becomes}
 
 -- ONE BIT
 pub bit-le : (j w : ℕ) → bit j w ≡ 1 → 2 ^ j ≤ w
@@ -37,24 +40,6 @@ bit-le j w h =
 pub set-at : (j w : ℕ) (t b : Bool) → bit j w ≡ pick t 1 0 → setBit j b w ≡ w - pick t (2 ^ j) 0 + pick b (2 ^ j) 0
 set-at j w true b h = rw h (omega arith)
 set-at j w false b h = rw h (omega arith)
-
--- A LIST MAPPED
-module _ (f : Entry → ℕ) (g : Entry → Entry) where
-  column-same : (room : ℕ) (l : List Entry) → ((j : ℕ) → j < length l → f (g (nth l j)) ≡ f (nth l j)) → column f room (map g l) ≡ column f room l
-  column-same zero l e = refl
-  column-same (suc r) [] e = refl
-  column-same (suc r) (x ∷ l) e = ap₂ _∷_ (e 0 (omega arith)) (column-same r l (λ j h. e (suc j) (omega arith)))
-
-  -- where one entry alone changes
-  column-set : (room k : ℕ) (l : List Entry) → k < length l → k < room → ((j : ℕ) → j < length l → j ≢ k → f (g (nth l j)) ≡ f (nth l j)) →
-      set (column f room l) k (f (g (nth l k))) ≡ column f room (map g l)
-  column-set zero k l h m e = absurd (omega arith)
-  column-set (suc r) k [] h m e = absurd (omega arith)
-  column-set (suc r) zero (x ∷ l) h m e =
-      ap (λ (y : List ℕ). f (g x) ∷ y) (sym (column-same r l (λ j b. e (suc j) (omega arith) (λ q. omega arith))))
-  column-set (suc r) (suc k) (x ∷ l) h m e =
-      ap₂ _∷_ (sym (e 0 (omega arith) (λ q. omega arith)))
-      (column-set r k l (omega arith) (omega arith) (λ j b n. e (suc j) (omega arith) (λ q. n (omega arith))))
 
 -- THE LIST
 abbrev mapO : (Entry → Entry) → Option Entry → Option Entry
@@ -90,23 +75,23 @@ module _ (i m : ℕ) (b : Bool) where
 
 -- THE COMMAND
 module _ {is os ws ms : List ℕ} {n : ℕ} (h : Holds is os ws ms n) (i m : ℕ) (on : Bool) where
-  pub remark-refused : markCount ≤ m → {t : ℕ} {r : Turned} → t ≡ pick on 132 133 → r ≡ turnedBy (answered t badMark 0 0) n →
+  pub remark-refused : markCount ≤ m → {t : ℕ} {r : Turned} → t ≡ pick on 132 133 → r ≡ refusedBy t badMark n →
       Executes h (remarking i m on) r is os ws ms
   remark-refused g e q =
-      leaves h (remarking i m on) (remark-above (length is) (h .list) i m on g) (q ∙ ap (λ (t : ℕ). turnedBy (answered t badMark 0 0) n) e)
+      leaves h (remarking i m on) (remark-above (length is) (h .list) i m on g) (q ∙ ap (λ (t : ℕ). refusedBy t badMark n) e)
 
   module _ (small : m < markCount) where
     runs : execute (length is) (h .list) (remarking i m on) ≡ marking (pick on 132 133) (h .list) i m on
     runs = remark-runs (length is) (h .list) i m on small
 
     pub remark-none : present (covering (h .list) i) ≡ none → {t : ℕ} {r : Turned} → t ≡ pick on 132 133 →
-        r ≡ turnedBy (answered t absent 0 0) n → Executes h (remarking i m on) r is os ws ms
+        r ≡ refusedBy t absent n → Executes h (remarking i m on) r is os ws ms
     remark-none p e q =
         leaves h (remarking i m on)
         (runs
         ∙ ap (λ (l : List Entry). record { reply = replyOf (pick on 132 133) 0 (present (covering l i)); list = l }) (remark-absent i m on (h .list) (h .valid) p)
         ∙ ap (λ (o : Option Entry). leave (h .list) (replyOf (pick on 132 133) 0 o)) p)
-        (q ∙ ap (λ (y : ℕ). turnedBy (answered y absent 0 0) n) e)
+        (q ∙ ap (λ (y : ℕ). refusedBy y absent n) e)
 
     module _ (k x : ℕ) (g : k < n) (q : covering (h .list) i ≡ some (nth (h .list) k)) (e : Entry) (d : e ≡ entryAt is os ws ms k)
         (w : e .word ≢ reservedWord) (u : x ≡ setBit m on (e .marks)) where
@@ -130,12 +115,12 @@ module _ {is os ws ms : List ℕ} {n : ℕ} (h : Holds is os ws ms n) (i m : ℕ
 
       marked-columns : Columns is os ws (set ms k x) (length is) (remark (h .list) i m on)
       marked-columns = record {
-        index-is = h .index-is ∙ sym (column-same (λ y. y .base) (withMark i m on) (length is) (h .list) (λ j b. refl));
-        order-is = h .order-is ∙ sym (column-same (λ y. y .order) (withMark i m on) (length is) (h .list) (λ j b. refl));
-        word-is = h .word-is ∙ sym (column-same (λ y. y .word) (withMark i m on) (length is) (h .list) (λ j b. refl));
+        index-is = h .index-is ∙ same-column (λ y. y .base) (withMark i m on) (length is) (h .list) (λ j b. refl);
+        order-is = h .order-is ∙ same-column (λ y. y .order) (withMark i m on) (length is) (h .list) (λ j b. refl);
+        word-is = h .word-is ∙ same-column (λ y. y .word) (withMark i m on) (length is) (h .list) (λ j b. refl);
         marks-are =
             ap₂ (λ (y : List ℕ) (z : ℕ). set y k z) (h .marks-are) new-marks
-            ∙ column-set (λ y. y .marks) (withMark i m on) (length is) k (h .list) (omega (arith, h .count)) (omega (arith, h .fits)) others;
+            ∙ set-column (λ y. y .marks) (withMark i m on) (length is) (h .list) k (omega (arith, h .count)) (omega (arith, h .fits)) others;
       }
 
       seen-after : present (covering (remark (h .list) i m on) i) ≡ some (withMark i m on (nth (h .list) k))

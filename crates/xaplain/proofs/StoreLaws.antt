@@ -129,9 +129,10 @@ module _ {index order word marks : List ℕ} {n : ℕ} (h : Holds index order wo
     pub new-length : length (storeNew (h .list) i k w) ≡ p + 1 + (n - q)
     new-length = ap length store-is ∙ replaced-length (newEntry (h .list) i k w)
 
+    pub new-marks : m ≡ keptFrom marks (q - p) p → m ≡ keptMarks (inside (h .list) i k)
+    new-marks e = let (pq, qn) = ordered in e ∙ kept-marks i k p q (parts-below i p a) q-is pq qn
+
     pub new-list : m ≡ keptFrom marks (q - p) p →
         replaced p q (record { base = i; order = k; word = w; marks = m }) (h .list) ≡ storeNew (h .list) i k w
     new-list e =
-        let (pq, qn) = ordered in
-        let f : m ≡ keptMarks (inside (h .list) i k) = e ∙ kept-marks i k p q (parts-below i p a) q-is pq qn in
-        ap (λ (x : ℕ). replaced p q (record { base = i; order = k; word = w; marks = x }) (h .list)) f ∙ sym store-is
+        ap (λ (x : ℕ). replaced p q (record { base = i; order = k; word = w; marks = x }) (h .list)) (new-marks e) ∙ sym store-is

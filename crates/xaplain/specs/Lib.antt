@@ -2,3 +2,4 @@ pub mod Slices
 pub mod Engine
 pub mod Moves
 pub mod Executes
+pub mod Stores

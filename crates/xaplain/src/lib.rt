@@ -2,23 +2,32 @@
 //
 // index, order, word, marks: the borrowed slices, of one length; n: how many entries they hold; i: an index.
 use answers::ABSENT;
+use answers::BAD_ENTRY;
 use answers::BAD_MARK;
+use answers::BAD_ORDER;
+use answers::COVERED;
 use answers::DONE;
 use answers::ENDED;
 use answers::FIRST_ABOVE_LAST;
+use answers::NOT_ALIGNED;
 use answers::NOT_WELL_FORMED;
 use answers::NO_BUDGET;
 use answers::POOL_LENGTH;
+use answers::TOO_FEW_NODES;
 use batch::Command;
 use batch::Reply;
 use commands::ERASE_REPLY;
 use commands::FIND_REPLY;
 use commands::LOAD_REPLY;
 use commands::MARK_REPLY;
+use commands::RESERVE_REPLY;
+use commands::STORE_REPLY;
 use commands::UNMARK_REPLY;
 use commands::answered;
 use commands::answered_by;
 use commands::covered_reply;
+use commands::is_aligned;
+use commands::is_storable;
 use model::Covered;
 use model::Entry;
 use model::RESERVED;
@@ -26,25 +35,38 @@ use words::pow2;
 ghost use lib.Dec.{leb, ltb};
 ghost use Rattle.blocks.specs.Choice.{pick, both};
 ghost use Rattle.blocks.specs.Blocks.{setBit};
-ghost use Rattle.batch.specs.Reply.{answered};
 ghost use mathlib.Core.Path.{_≡_};
 ghost use Prim.Native.Nat.{ℕ, _+_, _-_, _^_, _≤_, _<_};
-ghost use lib.ListN.{length, getD};
-ghost use Rattle.model.specs.Model.{covering, covered, storeNew, markCount};
-ghost use mathlib.Core.Bool.{true};
+ghost use lib.ListN.{length, getD, set};
+ghost use Rattle.model.specs.Model.{covering, covered, storeNew, markCount, over, store, aligned, maxOrder, matchedMark};
+ghost use mathlib.Core.Bool.{true, false};
 ghost use Rattle.model.specs.Matches.{firstMatch};
-ghost use Rattle.xaplain.specs.Slices.{slices, entryAt, checkAnswer, fitsEntry, restZero, inOrder, listOf, allZero, holdsList, sizedAs};
+ghost use Rattle.xaplain.specs.Slices.{slices, entryAt, checkAnswer, initAnswer, initSlices, fitsEntry, restZero, inOrder, listOf, allZero, holdsList, sizedAs};
 ghost use Rattle.xaplain.specs.Moves.{Rising, Splits, Searchable, Placed, Closed, removed, seen, foundReply, remarking, Holds, Opened, Pulled, Cleared, Spliced, Columns, replaced, Counts, wordFits, lowOf, Parts, anyFrom, keptFrom, Begins, acceptsBy};
 ghost use Rattle.xaplain.specs.Engine.{execute};
 ghost use Rattle.xaplain.specs.Executes.{Executes};
+ghost use Rattle.blocks.specs.Lists.{any};
+ghost use Rattle.xaplain.specs.Stores.{overAt, entryWith, Stores, turnedBy, refusedBy};
 
 // The most entries that the slices may have room for.
 pub const MAX_ROOM: usize = 4096;
+
+// The highest order of an entry.
+const MAX_ORDER: u64 = 63;
+
+// Marks from this number on are none that a store hands on: mark 2 is worth it.
+const MATCHED: u64 = 4;
 
 // What a command comes to: its reply, and the number of entries after it.
 pub struct Turned {
     pub reply: Reply,
     pub count: usize,
+}
+
+// What a store comes to: too little room; or what covers its index then, and the number of entries.
+enum Stored {
+    Short,
+    Done(Covered, usize),
 }
 
 // How many of the first n entries start at i or before: by halves.
@@ -194,7 +216,7 @@ fn put(
 }
 
 // How many words stand before the first 0.
-fn count(word: &[u64]) -> usize
+pub fn count(word: &[u64]) -> usize
     ensures { λ r. ⌜ Counts (now (word .entry)) r ⌝ }
 {
     let mut k: usize = 0;
@@ -346,6 +368,23 @@ pub fn check(index: &[u64], order: &[u64], word: &[u64], marks: &[u64]) -> u64
     DONE
 }
 
+// Four slices of one length become those of the empty list: answers 0, or 1 with nothing written.
+pub fn init(index: &mut [u64], order: &mut [u64], word: &mut [u64], marks: &mut [u64]) -> u64
+    ensures { λ r. ⌜ r ≡ initAnswer (slices (now (index .entry)) (now (order .entry)) (now (word .entry)) (now (marks .entry))) ⌝ }
+    ensures { λ _. ⌜ slices (now (index .exit)) (now (order .exit)) (now (word .exit)) (now (marks .exit))
+        ≡ initSlices (slices (now (index .entry)) (now (order .entry)) (now (word .entry)) (now (marks .entry))) ⌝ }
+{
+    if !sized(index, order, word, marks) {
+        return POOL_LENGTH;
+    }
+    let room = index.len();
+    clear(index, 0, room);
+    clear(order, 0, room);
+    clear(word, 0, room);
+    clear(marks, 0, room);
+    DONE
+}
+
 // How many of the first n entries start below i.
 fn starts_below(index: &[u64], n: usize, i: u64) -> usize
     requires { ⌜ n ≤ length (now index) ⌝ }
@@ -393,7 +432,7 @@ fn kept(marks: &[u64], p: usize, q: usize) -> u64
     0
 }
 
-// A store that replaces what starts in its range, where no entry over i has its order or more. Says whether there is room.
+// A store that replaces what starts in its range, where no entry over i has its order or more.
 fn store_new(
     index: &mut [u64],
     order: &mut [u64],
@@ -403,37 +442,167 @@ fn store_new(
     i: u64,
     k: u64,
     w: u64,
-) -> bool
+) -> Stored
     requires { ⌜ Holds (now index) (now order) (now word) (now marks) n ⌝ }
-    requires { ⌜ (k ≤ 63) × (i + 2 ^ k ≤ 2 ^ 64) ⌝ }
+    requires { ⌜ (k ≤ maxOrder) × (aligned k i ≡ true) ⌝ }
+    requires { ⌜ ((h : Holds (now index) (now order) (now word) (now marks) n) → any (over i k) (h .list) ≡ false) ⌝ }
     ensures { λ r. ⌜ ((h : Holds (now (index .entry)) (now (order .entry)) (now (word .entry)) (now (marks .entry)) n) →
-        r ≡ leb (length (storeNew (h .list) i k w)) (length (now (index .entry)))) ⌝ }
-    ensures { λ r. ⌜ (r ≡ true → (h : Holds (now (index .entry)) (now (order .entry)) (now (word .entry)) (now (marks .entry)) n) →
-        Columns (now (index .exit)) (now (order .exit)) (now (word .exit)) (now (marks .exit)) (length (now (index .entry)))
-        (storeNew (h .list) i k w)) ⌝ }
+        Stores h i (storeNew (h .list) i k w) r (now (index .exit)) (now (order .exit)) (now (word .exit)) (now (marks .exit))) ⌝ }
 {
     let p = starts_below(index, n, i);
     let q = position(index, n, i + ((1u64 << k) - 1));
-    if index.len() < p + 1 + (n - q) {
-        return false;
+    let count = p + 1 + (n - q);
+    if index.len() < count {
+        return Stored::Short;
     }
     let m = kept(marks, p, q);
-    put(
-        index,
-        order,
-        word,
-        marks,
-        p,
-        q,
-        n,
-        Entry {
-            base: i,
-            order: k,
-            word: w,
-            marks: m,
+    let e = Entry {
+        base: i,
+        order: k,
+        word: w,
+        marks: m,
+    };
+    put(index, order, word, marks, p, q, n, e);
+    Stored::Done(Covered::By(e), count)
+}
+
+// Whether the entry before place p is over i and has order k or more.
+fn is_over(index: &[u64], order: &[u64], p: usize, i: u64, k: u64) -> bool
+    requires { ⌜ (p ≤ length (now index)) × (p ≤ length (now order)) ⌝ }
+    requires { ⌜ (0 < p → (getD (now index) (p - 1) 0 ≤ i) × (getD (now order) (p - 1) 0 < 64)) ⌝ }
+    ensures { λ r. ⌜ r ≡ overAt (now (index .entry)) (now (order .entry)) p i k ⌝ }
+{
+    if p == 0 {
+        return false;
+    }
+    let o = order[p - 1];
+    if (i - index[p - 1]) >> o != 0 {
+        return false;
+    }
+    k <= o
+}
+
+// The entry at place j takes a word, and loses mark 2 (R190).
+fn store_over(
+    index: &[u64],
+    order: &[u64],
+    word: &mut [u64],
+    marks: &mut [u64],
+    j: usize,
+    w: u64,
+) -> Entry
+    requires { ⌜ (j < length (now index)) × (j < length (now order)) × (j < length (now word)) × (j < length (now marks)) ⌝ }
+    requires { ⌜ getD (now marks) j 0 < 8 ⌝ }
+    ensures { λ r. ⌜ r ≡ entryWith (now (index .entry)) (now (order .entry)) (now (marks .entry)) j w ⌝ }
+    ensures { λ _. ⌜ now (word .exit) ≡ set (now (word .entry)) j w ⌝ }
+    ensures { λ _. ⌜ now (marks .exit) ≡ set (now (marks .entry)) j (setBit matchedMark false (getD (now (marks .entry)) j 0)) ⌝ }
+{
+    let m = marks[j] % MATCHED;
+    word[j] = w;
+    marks[j] = m;
+    Entry {
+        base: index[j],
+        order: order[j],
+        word: w,
+        marks: m,
+    }
+}
+
+// A store: into the larger entry over i if there is one, else in place of what starts in its range.
+fn store(
+    index: &mut [u64],
+    order: &mut [u64],
+    word: &mut [u64],
+    marks: &mut [u64],
+    n: usize,
+    i: u64,
+    k: u64,
+    w: u64,
+) -> Stored
+    requires { ⌜ Holds (now index) (now order) (now word) (now marks) n ⌝ }
+    requires { ⌜ (k ≤ maxOrder) × (aligned k i ≡ true) ⌝ }
+    ensures { λ r. ⌜ ((h : Holds (now (index .entry)) (now (order .entry)) (now (word .entry)) (now (marks .entry)) n) →
+        Stores h i (store (h .list) i k w) r (now (index .exit)) (now (order .exit)) (now (word .exit)) (now (marks .exit))) ⌝ }
+{
+    let p = position(index, n, i);
+    if is_over(index, order, p, i, k) {
+        let e = store_over(index, order, word, marks, p - 1, w);
+        return Stored::Done(Covered::By(e), n);
+    }
+    store_new(index, order, word, marks, n, i, k, w)
+}
+
+// A command that is refused: the entries stay.
+fn refused(tag: u64, answer: u64, n: usize) -> Turned
+    ensures { λ r. ⌜ r ≡ refusedBy tag answer n ⌝ }
+{
+    Turned {
+        reply: answered(tag, answer, 0, 0),
+        count: n,
+    }
+}
+
+// What a command that stores comes to; n: the number of entries before it.
+fn stored_turn(tag: u64, n: usize, s: Stored) -> Turned
+    ensures { λ r. ⌜ r ≡ turnedBy tag n s ⌝ }
+{
+    match s {
+        Stored::Short => refused(tag, TOO_FEW_NODES, n),
+        Stored::Done(c, m) => Turned {
+            reply: covered_reply(tag, c),
+            count: m,
         },
-    );
-    true
+    }
+}
+
+// The tests in the order of their numbers, but for 14, between 5 and 6 (R81, R181).
+pub fn run_store(
+    index: &mut [u64],
+    order: &mut [u64],
+    word: &mut [u64],
+    marks: &mut [u64],
+    n: usize,
+    i: u64,
+    k: u64,
+    w: u64,
+) -> Turned
+    requires { ⌜ Holds (now index) (now order) (now word) (now marks) n ⌝ }
+    ensures { λ r. ⌜ ((h : Holds (now (index .entry)) (now (order .entry)) (now (word .entry)) (now (marks .entry)) n) →
+        Executes h (Command.Store i k w) r (now (index .exit)) (now (order .exit)) (now (word .exit)) (now (marks .exit))) ⌝ }
+{
+    if k > MAX_ORDER {
+        return refused(STORE_REPLY, BAD_ORDER, n);
+    }
+    if !is_aligned(i, k) {
+        return refused(STORE_REPLY, NOT_ALIGNED, n);
+    }
+    if !is_storable(w) {
+        return refused(STORE_REPLY, BAD_ENTRY, n);
+    }
+    let s = store(index, order, word, marks, n, i, k, w);
+    stored_turn(STORE_REPLY, n, s)
+}
+
+// A reservation is a store of order 0 where nothing covers the index (R204 to R206).
+pub fn run_reserve(
+    index: &mut [u64],
+    order: &mut [u64],
+    word: &mut [u64],
+    marks: &mut [u64],
+    n: usize,
+    i: u64,
+) -> Turned
+    requires { ⌜ Holds (now index) (now order) (now word) (now marks) n ⌝ }
+    ensures { λ r. ⌜ ((h : Holds (now (index .entry)) (now (order .entry)) (now (word .entry)) (now (marks .entry)) n) →
+        Executes h (Command.Reserve i) r (now (index .exit)) (now (order .exit)) (now (word .exit)) (now (marks .exit))) ⌝ }
+{
+    match covering(index, order, word, marks, n, i) {
+        Covered::Nothing => {
+            let s = store(index, order, word, marks, n, i, 0, RESERVED);
+            stored_turn(RESERVE_REPLY, n, s)
+        }
+        Covered::By(_) => refused(RESERVE_REPLY, COVERED, n),
+    }
 }
 
 // Whether an entry's run reaches past a - 1.
@@ -535,16 +704,6 @@ pub struct Sought {
     pub last: u64,
     pub filter: u64,
     pub budget: u64,
-}
-
-// A command that alters nothing, by its answer alone.
-fn refused(tag: u64, answer: u64, n: usize) -> Turned
-    ensures { λ r. ⌜ r ≡ record { reply = answered tag answer 0 0; count = n } ⌝ }
-{
-    Turned {
-        reply: answered(tag, answer, 0, 0),
-        count: n,
-    }
 }
 
 // A reservation is absent to load, mark and unmark (R203).
@@ -729,5 +888,49 @@ fn run_remark(
             marks: x,
         }, 0),
         count: n,
+    }
+}
+
+// One command: its reply, and the number of entries after it.
+pub fn execute(
+    index: &mut [u64],
+    order: &mut [u64],
+    word: &mut [u64],
+    marks: &mut [u64],
+    n: usize,
+    c: Command,
+) -> Turned
+    requires { ⌜ Holds (now index) (now order) (now word) (now marks) n ⌝ }
+    ensures { λ r. ⌜ ((h : Holds (now (index .entry)) (now (order .entry)) (now (word .entry)) (now (marks .entry)) n) →
+        Executes h c r (now (index .exit)) (now (order .exit)) (now (word .exit)) (now (marks .exit))) ⌝ }
+{
+    match c {
+        Command::Store {
+            index: i,
+            order: k,
+            word: w,
+        } => run_store(index, order, word, marks, n, i, k, w),
+        Command::Load { index: i } => Turned {
+            reply: run_load(index, order, word, marks, n, i),
+            count: n,
+        },
+        Command::Erase { index: i } => run_erase(index, order, word, marks, n, i),
+        Command::Mark { index: i, mark: m } => run_remark(index, order, word, marks, n, i, m, true),
+        Command::Unmark { index: i, mark: m } => run_remark(index, order, word, marks, n, i, m, false),
+        Command::Find {
+            first,
+            last,
+            filter,
+            budget,
+        } => Turned {
+            reply: run_find(index, order, word, marks, n, Sought {
+                first,
+                last,
+                filter,
+                budget,
+            }),
+            count: n,
+        },
+        Command::Reserve { index: i } => run_reserve(index, order, word, marks, n, i),
     }
 }

@@ -1,3 +1,5 @@
+pub mod RunningLaws
+pub mod CallLaws
 pub mod CheckedLaws
 pub mod LeaveLaws
 pub mod DemandLaws
