@@ -26,7 +26,7 @@ module _ (s : Slices) (bs rs : List ℕ) where
   run-unchecked n = rw (ne-eqb (checkAnswer s) done n)
 
   module _ (e : checkAnswer s ≡ done) where
-    run-checked : {p : Parsed} → parse bs ≡ p → run s bs rs ≡ runParsed s rs p
+    pub run-checked : {p : Parsed} → parse bs ≡ p → run s bs rs ≡ runParsed s rs p
     unfolding run
     run-checked q = rw (eq-eqb (checkAnswer s) done e, q)
 

@@ -6,13 +6,13 @@ use mathlib.Core.List.{List}
 use native.Mathlib.Omega.{arith}
 use lib.Dec.{ltb}
 use lib.ListN.{length}
-use borrow.Author.Tests.{eq-eqb, ne-eqb, lt-ltb, le-ltb, ltb-true, ltb-false}
+use borrow.Author.Tests.{lt-ltb, le-ltb, ltb-true, ltb-false}
 use Rattle.blocks.proofs.BoolLaws.{byT}
 use Rattle.batch.specs.Batch.{Parsed, Parsed.commands, Parsed.refused, parse}
 use Rattle.batch.specs.Reply.{replyBytes}
 use Rattle.batch.proofs.RecordLaws.{refused-exactly}
 use Rattle.xaplain.specs.Slices.{Slices, Prescribes, roomOf, listIn, holdsList, isSized, checkAnswer}
-use Rattle.xaplain_calls.specs.Calls.{Called, refuseCall, runParsed, run}
+use Rattle.xaplain_calls.specs.Calls.{Called, refuseCall, run}
 use Rattle.xaplain_calls.specs.Demand.{Words}
 use Rattle.xaplain_calls.specs.Refusal.{
   Sized,
@@ -24,19 +24,12 @@ use Rattle.xaplain_calls.specs.Refusal.{
   CallRow.row-4,
   CallRow.row-0,
 }
+use Rattle.xaplain_calls.proofs.CallLaws.{run-unchecked, run-checked}
 use Rattle.xaplain_calls.proofs.CheckedLaws.{read-is, check-exact}
 
 module _ (s : Slices) (bs rs : List ℕ) where
-  pub run-unchecked : checkAnswer s ≢ 0 → run s bs rs ≡ refuseCall s rs (checkAnswer s) 0
-  unfolding run
-  run-unchecked n = rw (ne-eqb (checkAnswer s) 0 n)
-
-  pub run-checked : checkAnswer s ≡ 0 → {p : Parsed} → parse bs ≡ p → run s bs rs ≡ runParsed s rs p
-  unfolding run
-  run-checked e q = rw (eq-eqb (checkAnswer s) 0 e, q)
-
   refuses : {a : ℕ} → a ≢ 0 → checkAnswer s ≡ a → run s bs rs ≡ refuseCall s rs a 0
-  refuses n e = run-unchecked (λ x. n (sym e ∙ x)) ∙ ap (λ (a : ℕ). refuseCall s rs a 0) e
+  refuses n e = run-unchecked s bs rs (λ x. n (sym e ∙ x)) ∙ ap (λ (a : ℕ). refuseCall s rs a 0) e
 
   module _ (w : Words s) where
     exact : CheckExact s
@@ -47,9 +40,9 @@ module _ (s : Slices) (bs rs : List ℕ) where
       where
         go : Sized s → Prescribes (roomOf s) (listIn s) s → (p : Parsed) → parse bs ≡ p → CallRow s bs rs (run s bs rs)
         go z h (Parsed.refused at) q =
-            subst (CallRow s bs rs) (sym (run-checked e q)) (row-3 z (listIn s) h at (refused-exactly bs at .0 q))
+            subst (CallRow s bs rs) (sym (run-checked s bs rs e q)) (row-3 z (listIn s) h at (refused-exactly bs at .0 q))
         go z h (Parsed.commands cs) q =
-            subst (CallRow s bs rs) (sym (run-checked e q))
+            subst (CallRow s bs rs) (sym (run-checked s bs rs e q))
             (byT (ltb (length rs) (replyBytes * length cs)) (λ t. rw t (row-4 z (listIn s) h cs q (ltb-true _ _ t)))
             (λ t. rw t (row-0 z (listIn s) h cs q (ltb-false _ _ t))))
 
@@ -70,8 +63,8 @@ module _ (s : Slices) (bs rs : List ℕ) where
     pub call-sole : {x : Called} → CallRow s bs rs x → x ≡ run s bs rs
     call-sole (row-1 f) = sym (refuses (omega arith) (exact .one-if f))
     call-sole (row-2 z f) = sym (refuses (omega arith) (exact .two-if z f))
-    call-sole (row-3 z l h at q) = sym (run-checked (exact .zero-if z l h .0) (refused-exactly bs at .1 q))
+    call-sole (row-3 z l h at q) = sym (run-checked s bs rs (exact .zero-if z l h .0) (refused-exactly bs at .1 q))
     call-sole (row-4 z l h cs q g) =
-        sym (run-checked (exact .zero-if z l h .0) q ∙ rw (lt-ltb (length rs) (replyBytes * length cs) g) refl)
+        sym (run-checked s bs rs (exact .zero-if z l h .0) q ∙ rw (lt-ltb (length rs) (replyBytes * length cs) g) refl)
     call-sole (row-0 z l h cs q g) =
-        sym (run-checked (exact .zero-if z l h .0) q ∙ rw (le-ltb (length rs) (replyBytes * length cs) g, read-is s z h) refl)
+        sym (run-checked s bs rs (exact .zero-if z l h .0) q ∙ rw (le-ltb (length rs) (replyBytes * length cs) g, read-is s z h) refl)
