@@ -1,0 +1,6 @@
+pub mod RunningLaws
+pub mod CallLaws
+pub mod CheckedLaws
+pub mod LeaveLaws
+pub mod DemandLaws
+pub mod RefusalLaws
