@@ -24,6 +24,8 @@ mod plain;
 mod plain_cases;
 mod plain_kinds;
 mod plain_slices;
+#[cfg(test)]
+mod plain_tests;
 mod pools;
 mod program;
 mod reserve_cases;

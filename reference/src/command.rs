@@ -157,7 +157,7 @@ pub(crate) fn only(answer: u8) -> Reply {
 }
 
 /// A reply that gives an entry with its base; of a reservation the base alone.
-pub(crate) fn giving(entry: Entry) -> Reply {
+pub fn giving(entry: Entry) -> Reply {
     let Entry { base, order, word, marks } = entry;
     if entry.is_reservation() {
         return Reply { index: base, ..only(DONE) };
