@@ -3,6 +3,7 @@
 
 use crate::loads::{batches, dense_stores, find, mark, one_in_97, store, Load, Random, Work, MARK};
 use crate::measure::{blank, least, median, nanoseconds};
+use std::collections::BTreeSet;
 use std::time::Instant;
 use xapool_host::{BatchBuilder, Command, Engine, Plain, Pool, MOST_BATCH_BYTES, REPLY_BYTES};
 
@@ -15,8 +16,18 @@ const ROUNDS: u32 = 100;
 pub const ENTRIES: [u64; 3] = [40, 400, 4096];
 const FINDS: u64 = 1000;
 
-/// Enough for 4,096 entries at random below 2^24.
-const NODES: usize = 12_000;
+/// The nodes that stores of order 0 below 2^24 take, at most: a node of each shift over each. A pool of no more has the
+/// shortest check.
+fn nodes_of(work: &Work) -> usize {
+    let index = |command: &Command| match command {
+        Command::Store { index, .. } => Some(*index),
+        _ => None,
+    };
+    let indices: Vec<u64> = work.setup.iter().chain(&work.timed).filter_map(index).collect();
+    let blocks =
+        |bits: u32| indices.iter().map(|index| index >> bits).collect::<BTreeSet<_>>().len();
+    [6, 12, 18, 24].into_iter().map(blocks).sum()
+}
 
 /// A load for so many entries.
 fn loads(entries: u64) -> [Load; 3] {
@@ -28,7 +39,10 @@ fn loads(entries: u64) -> [Load; 3] {
     // Of few entries the last is marked, so that most finds end with one.
     setup.push(mark(entries - 1));
     let timed = (0..FINDS).map(|_| find(random.below(entries), MARK)).collect();
-    let new = |name, pools| Load { nodes: NODES, ..Load::new(name, "", pools) };
+    let new = |name, pools: Vec<Work>| {
+        let nodes = pools.iter().map(nodes_of).max().unwrap_or(1);
+        Load { nodes, ..Load::new(name, "", pools) }
+    };
     [
         new("dense stores", alone(dense_stores(entries))),
         new("sparse stores", alone(sparse)),
@@ -40,8 +54,8 @@ fn loads(entries: u64) -> [Load; 3] {
 pub struct Row {
     name: &'static str,
     entries: u64,
+    nodes: usize,
     commands: usize,
-    batches: usize,
     runs: [Vec<f64>; 2],
     checks: [Vec<f64>; 2],
 }
@@ -96,8 +110,8 @@ fn row(load: &Load, entries: u64, rounds: u32) -> Result<Row, String> {
     let mut row = Row {
         name: load.name,
         entries,
+        nodes: load.nodes,
         commands: work.timed.len(),
-        batches: timed.len(),
         runs: Default::default(),
         checks: Default::default(),
     };
@@ -128,31 +142,30 @@ pub fn rows(rounds: u32) -> Result<Vec<Row>, String> {
     Ok(rows)
 }
 
-/// Nanoseconds a command without the check, and microseconds of a check: from the shortest time and from the median.
+/// Nanoseconds a command by the tree and by the plain engine, and how many times the tree's the latter is.
+fn both(times: [f64; 2]) -> String {
+    let [tree, plain] = times;
+    format!("{tree:.0} | {plain:.0} | {:.2}", plain / tree)
+}
+
+/// From the shortest times and, in a second row of columns, from the medians, with the check of each batch and without it.
 pub fn table(rows: &[Row]) -> String {
     let mut text = String::from(
-        "| load | entries | commands | batches | tree, ns a command without the check | plain | plain / tree \
-         | tree, µs a check | plain |\n|---|---|---|---|---|---|---|---|---|\n",
+        "| load | entries | nodes | commands | tree, ns a command, shortest | plain | plain / tree \
+         | tree, without the check | plain | plain / tree | tree, median | plain | plain / tree |\n\
+         |---|---|---|---|---|---|---|---|---|---|---|---|---|\n",
     );
-    for Row { name, entries, commands, batches, runs, checks } in rows {
-        let less = |at: usize| -> Vec<f64> {
-            let each = runs[at].iter().zip(&checks[at]);
-            each.map(|(run, check)| (run - check).max(0.0) / *commands as f64).collect()
+    for Row { name, entries, nodes, commands, runs, checks } in rows {
+        let each = |of: fn(&[f64]) -> f64, times: &[Vec<f64>; 2]| {
+            [0, 1].map(|at| of(&times[at]) / *commands as f64)
         };
-        let [tree, plain] = [less(0), less(1)];
-        let two = |times: &[f64]| format!("{:.1}, {:.1}", least(times), median(times));
-        let check = |at: usize| {
-            let a_check: Vec<f64> =
-                checks[at].iter().map(|time| time / *batches as f64 / 1000.0).collect();
-            format!("{:.2}, {:.2}", least(&a_check), median(&a_check))
-        };
+        let (run, check) = (each(least, runs), each(least, checks));
+        let less = [0, 1].map(|at| run[at] - check[at]);
         text += &format!(
-            "| {name} | {entries} | {commands} | {batches} | {} | {} | {:.2} | {} | {} |\n",
-            two(&tree),
-            two(&plain),
-            median(&plain) / median(&tree),
-            check(0),
-            check(1)
+            "| {name} | {entries} | {nodes} | {commands} | {} | {} | {} |\n",
+            both(run),
+            both(less),
+            both(each(median, runs))
         );
     }
     text
