@@ -65,7 +65,7 @@ pub use file::FileError;
 pub use find::{Finds, MOST_FINDS};
 pub use gate::{floats_are_ieee, Gate, GateRefusal};
 pub use list::{BadListed, ListFault, Listing, LISTED_BYTES};
-pub use plain::{Plain, MOST_ENTRIES, PLAIN_FILE, RESERVED_WORD};
+pub use plain::{Plain, MOST_ENTRIES, PLAIN_FILE};
 pub use pool::{
     bytes_of_words, node_count, nodes_for, pool_words, words_of_bytes, Pool, MOST_NODES,
 };

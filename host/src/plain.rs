@@ -4,6 +4,7 @@ use crate::answer::{Refusal, RefusedBatch};
 use crate::batch::BatchBuilder;
 use crate::command::Command;
 use crate::engine::{ran, Engine};
+use crate::layout::RESERVED_WORD;
 use crate::pool::{bytes_of_words, words_of_bytes};
 use crate::raw;
 use crate::reply::{Entry, Marks, Replies};
@@ -11,9 +12,6 @@ use crate::word::Word;
 
 /// Each slice of the plain engine has at most so many elements, one for each entry.
 pub const MOST_ENTRIES: usize = 4096;
-
-/// The word of a reserved index in the slices.
-pub const RESERVED_WORD: u64 = 1030;
 
 /// What a saved list begins with, so that no pool is taken for one: the first word of a pool is its nodes. Then come
 /// the room and the four slices.
