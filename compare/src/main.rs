@@ -142,7 +142,7 @@ fn compare(seconds: u64, seed: u64) -> Result<bool, String> {
     let left = all.saturating_sub(started.elapsed()).max(all / 2);
     let programs = if program { left / 4 } else { Duration::ZERO };
     let (finds, engines, evidence, gates) = (left / 4, left / 8, left / 16, left / 64);
-    let plain = left / 8;
+    let plain = left / 16;
     let calls = left - programs - finds - engines - evidence - gates - plain;
     same &= random_trials(Kind::Calls, seed, calls, figures);
     figures.print_calls();

@@ -29,7 +29,7 @@ fn new_run_and_list() {
     let (status, replies, errors) = tool(&["run", "--plain", &name], &batch(&more));
     assert_eq!((status, errors.as_str()), (0, ""));
     let lines = text(&tool(&["decode"], &replies).1);
-    assert_eq!(lines.lines().last(), Some("find: done, index 64 order 3 value 2 marks 1 steps 0"));
+    assert_eq!(lines.lines().last(), Some("find: done, 64 order 3 value 2 marks 1, count 0"));
     let after = Plain::from_bytes(&fs::read(&path).expect("a list")).expect("a list");
     assert_eq!(after.slices(), [[7, 64, 0], [0, 3, 0], [1030, 5, 0], [0, 2, 0]]);
     let listed = tool(&["list", &name], &[]);
