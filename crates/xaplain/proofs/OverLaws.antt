@@ -1,28 +1,27 @@
 -- A store into the larger entry over its index.
 use Prim.Native.Nat.{ℕ, zero, suc, _+_, _-_, _*_, _/_, _%_, _^_, _≤_, _<_}
-use mathlib.Core.Path.{_≡_, refl, sym, ap, subst, _∙_}
+use mathlib.Core.Path.{_≡_, refl, sym, ap, _∙_}
 use mathlib.Core.Bool.{Bool, true, false}
 use mathlib.Core.List.{List, [], _∷_, map}
 use mathlib.Core.Option.{some}
 use native.Mathlib.Omega.{arith}
 use native.Mathlib.Nat.{div-eq-of-lt}
 use lib.Dec.{leb, ltb, eqb}
-use lib.ListN.{length, getD, set, length-map}
-use borrow.Author.Tests.{ltb-true, ltb-false, lt-ltb, le-ltb, le-leb, lt-leb, leb-true, leb-false, eqb-true, eqb-false, eq-eqb, ne-eqb}
-use Rattle.blocks.specs.Choice.{pick, both}
+use lib.ListN.{length, getD, set}
+use borrow.Author.Tests.{ltb-true, ltb-false, lt-ltb, le-leb, leb-true, eqb-true, eq-eqb}
+use Rattle.blocks.specs.Choice.{pick}
 use Rattle.blocks.specs.Blocks.{bit, setBit}
-use Rattle.blocks.specs.Lists.{any, first, In}
-use Rattle.blocks.proofs.BoolLaws.{byT, clash, is-false, both-l, both-r, both-no}
+use Rattle.blocks.specs.Lists.{any, In}
+use Rattle.blocks.proofs.BoolLaws.{byT, clash, is-false, both-l, both-r}
 use Rattle.blocks.proofs.ListLaws.{look, each, any-none, in-any}
 use Rattle.blocks.proofs.BlockLaws.{pow-pos}
 use Rattle.blocks.proofs.PlacingLaws.{none-some}
 use Rattle.model.specs.declared.Entry.{Entry}
-use Rattle.model.specs.Model.{EntryOk, Sorted, Valid, covers, covering, covered, over, withWord, store, matchedMark}
-use Rattle.model.specs.declared.Covered.the-variants.{By}
+use Rattle.model.specs.Model.{EntryOk, covers, covering, over, withWord, store, matchedMark}
 use Rattle.model.proofs.ValidLaws.{covers-i, covers-lo, covers-hi, sorted-ok, sole}
 use Rattle.xaplain.specs.Slices.{column}
 use Rattle.xaplain.specs.Moves.{Holds, Columns, Splits}
-use Rattle.xaplain.specs.Stores.{Stored, Done, overAt, entryWith, storedAs, Stores}
+use Rattle.xaplain.specs.Stores.{overAt, entryWith}
 use Rattle.xaplain.proofs.PlainLaws.{
   nth,
   nth-in,

@@ -1,24 +1,23 @@
 -- A store in the slices.
-use Prim.Native.Nat.{ℕ, zero, suc, _+_, _-_, _*_, _/_, _%_, _^_, _≤_, _<_}
-use mathlib.Core.Path.{_≡_, refl, sym, ap, subst, _∙_}
-use mathlib.Core.Bool.{Bool, true, false}
+use Prim.Native.Nat.{ℕ, zero, suc, _+_, _-_, _*_, _%_, _^_, _≤_, _<_}
+use mathlib.Core.Path.{_≡_, refl, sym, ap, _∙_}
+use mathlib.Core.Bool.{true, false}
 use mathlib.Core.List.{List, [], _∷_}
 use native.Mathlib.Omega.{arith}
-use lib.Dec.{leb, ltb, eqb}
+use lib.Dec.{ltb}
 use lib.ListN.{length, getD, take, drop, length-append, length-take, length-drop}
 use native.Mathlib.Nat.{le-refl}
 use Rattle.xaplain.proofs.LoopLaws.{shl-one}
 use borrow.Author.Tests.{ltb-true, ltb-false, lt-ltb, le-ltb, le-leb, lt-leb, eq-eqb, ne-eqb}
-use Rattle.blocks.specs.Choice.{pick, both, either}
-use Rattle.blocks.specs.Lists.{any, keep, All, end, also}
+use Rattle.blocks.specs.Lists.{any, keep}
 use Rattle.blocks.specs.Blocks.{bit}
-use Rattle.blocks.proofs.BoolLaws.{byT, both-no}
+use Rattle.blocks.proofs.BoolLaws.{byT}
 use Rattle.blocks.proofs.BlockLaws.{pow-pos}
 use Rattle.blocks.proofs.ListLaws.{keep-none}
 use Rattle.model.specs.declared.Entry.{Entry}
-use Rattle.model.specs.Model.{Sorted, more, done, Valid, startsIn, inside, keptMarks, hasMark, newEntry, storeNew}
+use Rattle.model.specs.Model.{Sorted, more, done, startsIn, inside, keptMarks, hasMark, newEntry, storeNew}
 use Rattle.xaplain.specs.Moves.{Holds, Splits, Parts, anyFrom, keptFrom, replaced, below}
-use Rattle.xaplain.proofs.PlainLaws.{blank, nth, index-at, marks-at}
+use Rattle.xaplain.proofs.PlainLaws.{nth, index-at, marks-at}
 use Rattle.xaplain.proofs.ColumnLaws.{insert-clear, stops-below, sorted-starts, below-none}
 
 -- the loop over marks
@@ -55,7 +54,8 @@ keep-segment i k (more {e = x} {l = l} g ok s) =
     (λ u. let e₀ : below (i + 2 ^ k) l - 0 ≡ below (i + 2 ^ k) l = omega arith in
     let e₁ : suc (below (i + 2 ^ k) l) - 0 ≡ suc (below (i + 2 ^ k) l) = omega arith in
     let z : below i l ≡ 0 = below-none i s (omega (arith, pow-pos (x .order))) in
-    let r : keep (startsIn i k) l ≡ take (below (i + 2 ^ k) l) l = keep-segment i k s ∙ ap (λ (y : ℕ). segment y (below (i + 2 ^ k) l) l) z ∙ ap (λ (y : ℕ). take y l) e₀ in
+    let r : keep (startsIn i k) l ≡ take (below (i + 2 ^ k) l) l =
+    keep-segment i k s ∙ ap (λ (y : ℕ). segment y (below (i + 2 ^ k) l) l) z ∙ ap (λ (y : ℕ). take y l) e₀ in
     rw (t, u, le-leb i (x .base) a, e₁) (ap (λ (y : List Entry). x ∷ y) r))
     (λ u. let b : i + 2 ^ k ≤ x .base = ltb-false _ _ u in
     rw (t, u, le-leb i (x .base) a) (keep-none (startsIn i k) (sorted-starts i k s (omega (arith, pow-pos (x .order)))))))

@@ -7,40 +7,24 @@ use mathlib.Core.Option.{Option, none, some}
 use native.Mathlib.Omega.{arith}
 use lib.Dec.{leb, ltb}
 use lib.ListN.{length, getD, set, length-map}
-use borrow.Author.Tests.{lt-ltb, le-ltb, le-leb, lt-leb, leb-false, eqb-true, eq-eqb}
+use borrow.Author.Tests.{lt-ltb, le-ltb, le-leb, leb-false, eqb-true}
 use Rattle.blocks.specs.Choice.{pick}
 use Rattle.blocks.specs.Blocks.{block, setBit}
-use Rattle.blocks.specs.Lists.{any, All}
+use Rattle.blocks.specs.Lists.{any}
 use Rattle.blocks.proofs.BoolLaws.{byT, clash}
-use Rattle.blocks.proofs.ListLaws.{All-map, All-without, any-no, any-none, first-no}
+use Rattle.blocks.proofs.ListLaws.{All-map, All-without, any-no}
 use Rattle.blocks.proofs.BlockLaws.{block-up, block-lo, block-hi}
 use Rattle.answers.specs.Answers.{badOrder, notAligned, badEntry, isCovered}
 use Rattle.model.specs.declared.Entry.{Entry}
 use Rattle.model.specs.declared.Covered.{Covered}
 use Rattle.model.specs.declared.Covered.the-variants.{Nothing, By}
-use Rattle.model.specs.Model.{
-  Valid,
-  covers,
-  covering,
-  covered,
-  startsIn,
-  over,
-  newEntry,
-  storeNew,
-  store,
-  withWord,
-  storable,
-  reservedWord,
-  aligned,
-  maxOrder,
-  matchedMark,
-}
+use Rattle.model.specs.Model.{covers, covering, covered, startsIn, over, newEntry, storeNew, store, withWord}
+use Rattle.model.specs.Model.{storable, reservedWord, aligned, maxOrder, matchedMark}
 use Rattle.model.proofs.ValidLaws.{covers-self}
 use Rattle.model.proofs.InsertLaws.{first-insert}
 use Rattle.model.proofs.AlignedLaws.{whole}
 use Rattle.batch.specs.declared.Command.{Command}
 use Rattle.batch.specs.declared.Command.the-variants.{Store, Reserve}
-use Rattle.batch.specs.Reply.{answered}
 use Rattle.commands.specs.Commands.{Executed, refuse, replyOf, storing, reserving}
 use Rattle.commands.specs.Replies.{coveredReply}
 use Rattle.xaplain.specs.Moves.{Holds, Columns, Splits, Parts, keptFrom, replaced}

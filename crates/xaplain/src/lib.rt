@@ -41,8 +41,11 @@ ghost use lib.ListN.{length, getD, set};
 ghost use Rattle.model.specs.Model.{covering, covered, storeNew, markCount, over, store, aligned, maxOrder, matchedMark};
 ghost use mathlib.Core.Bool.{true, false};
 ghost use Rattle.model.specs.Matches.{firstMatch};
-ghost use Rattle.xaplain.specs.Slices.{slices, entryAt, checkAnswer, initAnswer, initSlices, fitsEntry, restZero, inOrder, listOf, allZero, holdsList, sizedAs};
-ghost use Rattle.xaplain.specs.Moves.{Rising, Splits, Searchable, Placed, Closed, removed, seen, foundReply, remarking, Holds, Opened, Pulled, Cleared, Spliced, Columns, replaced, Counts, wordFits, lowOf, Parts, anyFrom, keptFrom, Begins, acceptsBy};
+ghost use Rattle.xaplain.specs.Slices.{slices, entryAt, checkAnswer, initAnswer, initSlices, fitsEntry};
+ghost use Rattle.xaplain.specs.Slices.{restZero, inOrder, listOf, allZero, holdsList, sizedAs};
+ghost use Rattle.xaplain.specs.Moves.{Rising, Splits, Searchable, Placed, Closed, removed, seen, foundReply, remarking};
+ghost use Rattle.xaplain.specs.Moves.{Holds, Opened, Pulled, Cleared, Spliced, Columns, replaced, Counts};
+ghost use Rattle.xaplain.specs.Moves.{wordFits, lowOf, Parts, anyFrom, keptFrom, Begins, acceptsBy};
 ghost use Rattle.xaplain.specs.Engine.{execute};
 ghost use Rattle.xaplain.specs.Executes.{Executes};
 ghost use Rattle.blocks.specs.Lists.{any};
@@ -54,7 +57,7 @@ pub const MAX_ROOM: usize = 4096;
 // The highest order of an entry.
 const MAX_ORDER: u64 = 63;
 
-// Marks from this number on are none that a store hands on: mark 2 is worth it.
+// Mark 2, which no store hands on (R190), is worth this; marks 0 and 1 are below it.
 const MATCHED: u64 = 4;
 
 // What a command comes to: its reply, and the number of entries after it.
@@ -450,7 +453,8 @@ fn store_new(
         Stores h i (storeNew (h .list) i k w) r (now (index .exit)) (now (order .exit)) (now (word .exit)) (now (marks .exit))) ⌝ }
 {
     let p = starts_below(index, n, i);
-    let q = position(index, n, i + ((1u64 << k) - 1));
+    let last = i + ((1u64 << k) - 1);
+    let q = position(index, n, last);
     let count = p + 1 + (n - q);
     if index.len() < count {
         return Stored::Short;

@@ -1,5 +1,5 @@
 -- `run_reserve`: a store where nothing covers the index.
-use mathlib.Core.Path.{sym, refl, _∙_}
+use mathlib.Core.Path.{sym, _∙_}
 use native.Mathlib.Nat.{mod-one}
 use borrow.Author.Tests.{eq-eqb}
 use Rattle.batch.specs.declared.Command.the-variants.{Reserve}

@@ -29,12 +29,12 @@ done c = c .before .before .before .before .before .before .before .before
 starts-below-requires : tie.Need-starts-below-requires
 starts-below-requires c κs = let h = c .before .before .before .before .before .pre .0 in (h .fits, holds-rises h)
 
-sub-position : tie.Need-sub-position
-sub-position c = let z = start (c .before) in rw (shl-one (z .args .k) (z .pre .1 .0 .0)) (pow-pos (z .args .k))
+sub-last : tie.Need-sub-last
+sub-last c = let z = start c in rw (shl-one (z .args .k) (z .pre .1 .0 .0)) (pow-pos (z .args .k))
 
 -- the last index of the run
-add-position : tie.Need-add-position
-add-position c = let z = start (c .before) in let k≤ = z .pre .1 .0 .0 in
+add-last : tie.Need-add-last
+add-last c = let z = start c in let k≤ = z .pre .1 .0 .0 in
     rw (shl-one (z .args .k) k≤)
     (omega (arith, pow-pos (z .args .k), end-fits (z .args .k) (z .args .i) k≤ (z .fits .i .fits) (whole (z .args .i) (z .args .k) (z .pre .1 .0 .1))))
 
@@ -52,7 +52,8 @@ kept-requires c κs = let y = c .before .before in let x = low y in let z = star
 
 put-requires : tie.Need-put-requires
 put-requires c κs = let r = room (gathered c) in let y = r .before in let x = low y in let z = start x in let h = z .pre .0 in
-    (h, (ordered h (z .args .i) (z .args .k) (z .args .w) _ _ 0 (z .pre .1 .0 .0) (x .starts-below .ensures) (y .position .ensures), r .if1 .left))
+    let (pq, qn) = ordered h (z .args .i) (z .args .k) (z .args .w) _ _ 0 (z .pre .1 .0 .0) (x .starts-below .ensures) (y .position .ensures) in
+    (h, ((pq, qn), r .if1 .left))
 
 returns-2 : tie.Need-returns-2
 returns-2 c = let d = done c in let g = gathered (d .before) in let r = room g in let y = r .before in let x = low y in let z = start x in
@@ -65,8 +66,8 @@ store-new-spec =
     (tie.spec
     starts-below-requires
     (λ c. search needs)
-    sub-position
-    add-position
+    sub-last
+    add-last
     position-requires
     (λ c. search needs)
     (λ c. search needs)
