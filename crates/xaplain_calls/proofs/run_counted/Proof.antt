@@ -38,7 +38,8 @@ same-length-5 c = search needs
 
 returns-2 : tie.Need-returns-2
 returns-2 c = let p = c  .before .before .before .before .before .before .before .before .before .before .before .before .before .before .before .before .before .before .before .before .before .before .before .before .before .pre in let r = was-read (p .1) in
-    let h = holds-checked (record { small = λ i. omega (arith, c  .before .before .before .before .before .before .before .before .before .before .before .before .before .before .before .before .before .before .before .before .before .before .before .before .slice-known .given i) }) (record { small = λ i. omega (arith, c  .before .before .before .before .before .before .before .before .before .before .before .before .before .before .before .before .before .before .before .before .before .before .slice-known3 .given i) }) (p .0) (c  .before .before .before .before .before .before .before .before .before .before .before .before .before .before .before .before .count .ensures) in
+    let a = c .before .before .before .before .before .before .before .before .before .before .before .before .before .before .before .before .before .before .before .before .before .before .before .before .before .args in
+    let h = holds-checked {is = a .index .now} {os = a .order .now} {ws = a .word .now} {ms = a .marks .now} (record { small = λ i. omega (arith, c  .before .before .before .before .before .before .before .before .before .before .before .before .before .before .before .before .before .before .before .before .before .before .before .before .slice-known .given i) }) (record { small = λ i. omega (arith, c  .before .before .before .before .before .before .before .before .before .before .before .before .before .before .before .before .before .before .before .before .before .before .slice-known3 .given i) }) (p .0) (c  .before .before .before .before .before .before .before .before .before .before .before .before .before .before .before .before .count .ensures) in
     as-ensures (ran (p .0) r (omega arith) (list-held h) (c  .before .before .before .before .before .before .before .before .before .before .run-all .ensures h (r .cs) (r .rest)))
 
 pub run-counted-spec : {M : Type 1} → statement M
