@@ -1,2 +1,3 @@
 pub mod SameLaws
 pub mod BothLaws
+pub mod Literals

@@ -152,7 +152,7 @@ module _ (room : ℕ) (l : List Entry) (k₀ : Keeps room l) where
 pub columns-room : {is os ws ms : List ℕ} {room : ℕ} {l : List Entry} → Columns is os ws ms room l → length is ≡ room
 columns-room {room = room} {l} c = ap length (c .index-is) ∙ column-length (λ x. x .base) room l
 
-pub holds-of : {is os ws ms : List ℕ} {room n : ℕ} {l : List Entry} → Keeps room l → n ≡ length l → Columns is os ws ms room l → Holds is os ws ms n
+abbrev pub holds-of : {is os ws ms : List ℕ} {room n : ℕ} {l : List Entry} → Keeps room l → n ≡ length l → Columns is os ws ms room l → Holds is os ws ms n
 holds-of {is} {os} {ws} {ms} {room} {n} {l} k e c =
     let i : length is ≡ room = columns-room c in
     record {

@@ -4,3 +4,4 @@ pub mod CheckedLaws
 pub mod LeaveLaws
 pub mod DemandLaws
 pub mod RefusalLaws
+pub mod Literals

@@ -1,3 +1,12 @@
+use Prim.Native.Nat.{_-_}
+use mathlib.Core.Path.{sym, _∙_}
+use native.Mathlib.Omega.{arith}
+use lib.ListN.{length}
+use Rattle.batch.proofs.ParseLaws.{next-after}
+use Rattle.batch.proofs.BoundLaws.{read-fits}
+use Rattle.commands.proofs.BatchesLaws.{room-for, stands}
+use Rattle.xaplain_calls.specs.Running.{Running}
+use Rattle.xaplain_calls.proofs.RunningLaws.{running-start, running-on, running-end}
 use Rattle.xaplain_calls.proofs.run_all.Statement.{statement}
 use Rattle.xaplain_calls.proofs.run_all.Tie as tie
 use Rattle.xaplain_calls.proofs.run_all.Reads as reads
@@ -7,59 +16,48 @@ use Rattle.xaplain_calls.proofs.run_one.Reads as run-one-reads
 
 abbrev Inv-loop : tie.InvT-loop
 Inv-loop index₀ order₀ word₀ marks₀ n batch reply₀ at₀ out₀ entries₀ index order word marks reply at out entries =
-    ?
+    Running index₀ order₀ word₀ marks₀ reply₀ batch index order word marks reply n entries at out
 
 abbrev μ-loop : tie.MeasureT-loop
 μ-loop index₀ order₀ word₀ marks₀ n batch reply₀ at₀ out₀ entries₀ index order word marks reply at out entries =
-    ?
+    length batch - at
 
--- src/lib.rt:72:5
 loop-holds : tie.Need-loop-holds Inv-loop μ-loop
-loop-holds c = ?
+loop-holds c = running-start (c  .before .before .before .before .before .before .pre .0) (c  .before .before .before .before .before .before .pre .1)
 
--- src/lib.rt:73:13
 step-at-requires : tie.Need-step-at-requires Inv-loop μ-loop
-step-at-requires c κs = ?
+step-at-requires c κs = stands (c  .before .loop .inv .ahead) (omega arith)
 
--- src/lib.rt:75:9
 run-one-requires : tie.Need-run-one-requires Inv-loop μ-loop
-run-one-requires c κs = ?
+run-one-requires c κs = let r = c  .before .before .before .before .before .before .before .loop .inv in (r .held, room-for (r .ahead) (c  .before .before .before .before .before .step-at .ensures))
 
--- src/lib.rt:77:15
 add-out : tie.Need-add-out Inv-loop μ-loop
-add-out c = ?
+add-out c = omega (arith, room-for (c  .before .before .before .before .before .before .before .before .before .before .before .before .before .before .before .before .before .before .loop .inv .ahead) (c  .before .before .before .before .before .before .before .before .before .before .before .before .before .before .before .before .step-at .ensures))
 
--- src/lib.rt:72:5
 loop-less : tie.Need-loop-less Inv-loop μ-loop
-loop-less c = ?
+loop-less c = omega (arith, next-after _ _ (sym (c  .before .before .before .before .before .before .before .before .before .before .before .before .before .before .before .before .step-at .ensures)))
 
--- src/lib.rt:72:5
 loop-again : tie.Need-loop-again Inv-loop μ-loop
-loop-again c = ?
+loop-again c = let v = c  .before .before .before .before .before .before .before .before .before .before .before .before .before .before .before .before .before .before .loop .inv in let q = c  .before .before .before .before .before .before .before .before .before .before .before .before .before .before .before .before .step-at .ensures in
+    running-on v q (read-fits (record { small = λ i. omega (arith, c  .before .before .before .before .before .before .before .before .before .before .before .before .before .before .before .before .before .before .before .before .shared-slice-known .given i) }) _ (sym q)) (c  .before .before .before .before .before .before .before .before .before .before .run-one .ensures (v .held)) (c  .before .reply .given)
 
--- src/lib.rt:53:1
 same-length : tie.Need-same-length Inv-loop μ-loop
-same-length c = ?
+same-length c = c  .before .loop .inv .same-room
 
--- src/lib.rt:53:1
 same-length-2 : tie.Need-same-length-2 Inv-loop μ-loop
-same-length-2 c = ?
+same-length-2 c = let v = c  .before .loop .inv in v .held .order-fits ∙ v .same-room ∙ sym (c  .before .before .before .before .before .before .before .before .pre .0 .order-fits)
 
--- src/lib.rt:53:1
 same-length-3 : tie.Need-same-length-3 Inv-loop μ-loop
-same-length-3 c = ?
+same-length-3 c = let v = c  .before .loop .inv in v .held .word-fits ∙ v .same-room ∙ sym (c  .before .before .before .before .before .before .before .before .pre .0 .word-fits)
 
--- src/lib.rt:53:1
 same-length-4 : tie.Need-same-length-4 Inv-loop μ-loop
-same-length-4 c = ?
+same-length-4 c = let v = c  .before .loop .inv in v .held .marks-fit ∙ v .same-room ∙ sym (c  .before .before .before .before .before .before .before .before .pre .0 .marks-fit)
 
--- src/lib.rt:53:1
 same-length-5 : tie.Need-same-length-5 Inv-loop μ-loop
-same-length-5 c = ?
+same-length-5 c = c  .before .loop .inv .same-length
 
--- src/lib.rt:53:1
 returns : tie.Need-returns Inv-loop μ-loop
-returns c = ?
+returns c = λ h cs e. running-end (c  .before .loop .inv) (omega arith) h cs e
 
 pub run-all-spec : {M : Type 1} → statement M
 run-all-spec =

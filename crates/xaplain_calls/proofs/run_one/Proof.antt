@@ -1,3 +1,4 @@
+use Rattle.xaplain_calls.proofs.RunningLaws.{turned}
 use borrow.Author.Needs.{needs}
 use Rattle.xaplain_calls.proofs.run_one.Statement.{statement}
 use Rattle.xaplain_calls.proofs.run_one.Tie as tie
@@ -6,37 +7,29 @@ use Rattle.xaplain_calls.proofs.run_one.Lts as lts
 use Rattle.batch.proofs.write_reply.Reads as write-reply-reads
 use Rattle.xaplain.proofs.execute.Reads as execute-reads
 
--- src/lib.rt:47:9
 execute-requires : tie.Need-execute-requires
 execute-requires c κs = search needs
 
--- src/lib.rt:48:5
 write-reply-requires : tie.Need-write-reply-requires
 write-reply-requires c κs = search needs
 
--- src/lib.rt:31:1
 same-length : tie.Need-same-length
 same-length c = search needs
 
--- src/lib.rt:31:1
 same-length-2 : tie.Need-same-length-2
 same-length-2 c = search needs
 
--- src/lib.rt:31:1
 same-length-3 : tie.Need-same-length-3
 same-length-3 c = search needs
 
--- src/lib.rt:31:1
 same-length-4 : tie.Need-same-length-4
 same-length-4 c = search needs
 
--- src/lib.rt:31:1
 same-length-5 : tie.Need-same-length-5
 same-length-5 c = search needs
 
--- src/lib.rt:31:1
 returns : tie.Need-returns
-returns c = ?
+returns c = λ h. turned h (c  .before .before .before .before .before .before .before .before .before .before .before .before .execute .ensures h) (c  .before .before .write-reply .ensures)
 
 pub run-one-spec : {M : Type 1} → statement M
 run-one-spec =
