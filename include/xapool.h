@@ -305,11 +305,11 @@ xapool_result xapool_list(const uint64_t *pool, size_t pool_words,
  *   word    its word; XAPOOL_RESERVED_WORD for a reserved index, whose order and marks are 0
  *   marks   0 to 7
  *
- * The room is that length: a store or a reserve has answer 11 exactly if the new list would have more entries
- * than that. The count in the replies to load and find is 0, and no find pauses: a budget of 0 is refused with 9,
- * any other is as good as another. All else in a reply is the tree's, byte for byte, on every list of batches from
- * empty in which no reply says 11 or 13 (proved). Its time grows with the entries: a store moves those behind it.
- * There is no list: the slices are the list. */
+ * The room is that length: a store or a reserve that would leave more entries has answer 11, and no other has. Replies
+ * to load and find have count 0, and no find pauses: a budget of 0 is refused with 9, any other is as good as
+ * another. Every other byte of a reply is the one that xapool_run gives on a pool that ran the same batches from
+ * empty, until a reply of either says 11 or 13 (proved). Its time grows with the entries: a store moves those
+ * behind it. There is no list call: the slices are the list. */
 
 /* Makes the slices an empty list, all zeros, whatever stood there. Gives 0, or 1 (the lengths are not equal, or
  * above XAPLAIN_ENTRIES_MAX), and then nothing is written. The number is 0. */

@@ -1,5 +1,5 @@
-/* The plain engine beside the tree: the same batch on a pool and on four slices, the replies compared byte for byte but for
- * the counts of load and find, and the list printed as it stands in the slices. Then what is refused. */
+/* The plain engine beside the tree: the same batch on a pool and on four slices, whose replies are compared but for what load
+ * and find count; the list, printed as it stands in the slices; and what is refused. */
 #include "xapool.h"
 #include <inttypes.h>
 #include <stdio.h>
