@@ -12,7 +12,7 @@ use Rattle.answers.specs.Answers.{result, done, badBatch, replySpace}
 use Rattle.model.specs.declared.Entry.{Entry}
 use Rattle.batch.specs.declared.Command.{Command}
 use Rattle.batch.specs.Batch.{Parsed, Parsed.commands, Parsed.refused, parse}
-use Rattle.batch.specs.Reply.{replyBytes}
+use Rattle.batch.specs.Reply.{replyBytes, loadReply, findReply}
 use Rattle.commands.specs.Commands.{Executed}
 use Rattle.commands.specs.Batches.{repliesBy, feedBy}
 use Rattle.xaplain_calls.specs.Demand.{Call, Call.init, Call.check, Call.batch}
@@ -28,7 +28,7 @@ seen r rs = record { answer = r .answer; number = r .number; reply = rs }
 
 -- LEFT OUT: in the bytes of a reply the last two, its count, where the tag is that of a load or a find (R49, R78)
 abbrev pub withoutCount : List ℕ → List ℕ
-withoutCount bs = pick (either (eqb (getD bs 0 0) 130) (eqb (getD bs 0 0) 134)) (take 22 bs ++ (0 ∷ 0 ∷ [])) bs
+withoutCount bs = pick (either (eqb (getD bs 0 0) loadReply) (eqb (getD bs 0 0) findReply)) (take 22 bs ++ (0 ∷ 0 ∷ [])) bs
 
 -- in the bytes of k replies
 abbrev pub leaving : ℕ → List ℕ → List ℕ
