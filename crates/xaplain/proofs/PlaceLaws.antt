@@ -16,7 +16,20 @@ use Rattle.model.specs.Model.{EntryOk, Sorted, reservedWord, covers, covering, 
 use Rattle.model.proofs.ValidLaws.{covers-lo, covers-hi, sorted-ok}
 use Rattle.xaplain.specs.Slices.{entryAt}
 use Rattle.xaplain.specs.Moves.{Holds, Splits, Searchable, Placed}
-use Rattle.xaplain.proofs.PlainLaws.{nth, nth-in, apart, index-at, order-at, word-at, marks-at, entry-ok, holds-rises, before-first, last-none, last-some}
+use Rattle.xaplain.proofs.PlainLaws.{
+  nth,
+  nth-in,
+  apart,
+  index-at,
+  order-at,
+  word-at,
+  marks-at,
+  entry-ok,
+  holds-rises,
+  before-first,
+  last-none,
+  last-some,
+}
 
 -- at most one entry covers an index
 pub covers-one : {m : ℕ} {l : List Entry} (i j k : ℕ) → Sorted m l → j < length l → k < length l → j ≢ k → covers i (nth l k) ≡ true →

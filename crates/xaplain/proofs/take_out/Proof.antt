@@ -1,48 +1,37 @@
+-- `take_out`: takes entry k out, in all four slices.
 use Rattle.xaplain.proofs.EraseLaws.{take-columns}
 use borrow.Author.Needs.{needs}
 use Rattle.xaplain.proofs.take_out.Statement.{statement}
 use Rattle.xaplain.proofs.take_out.Tie as tie
-use Rattle.xaplain.proofs.take_out.Reads as reads
-use Rattle.xaplain.proofs.take_out.Lts as lts
-use Rattle.xaplain.proofs.close.Reads as close-reads
 
-close-requires : tie.Need-close-requires
-close-requires c κs = search needs
+-- THE PLACES IN THE CODE, each from one after it
+abbrev start-from-slice-known8 : tie.After-slice-known8 → tie.Start
+start-from-slice-known8 c = c .before .before .before .before .before .before .before .before .before .before .before .before .before .before .before .before
+    .before .before .before .before
 
-close-requires-2 : tie.Need-close-requires-2
-close-requires-2 c κs = search needs
+abbrev close-from-slice-known8 : tie.After-slice-known8 → tie.After-close
+close-from-slice-known8 c = c .before .before .before .before .before .before .before .before .before .before .before .before .before .before
 
-close-requires-3 : tie.Need-close-requires-3
-close-requires-3 c κs = search needs
+abbrev close2-from-slice-known8 : tie.After-slice-known8 → tie.After-close2
+close2-from-slice-known8 c = c .before .before .before .before .before .before .before .before .before .before
 
-close-requires-4 : tie.Need-close-requires-4
-close-requires-4 c κs = search needs
-
-same-length : tie.Need-same-length
-same-length c = search needs
-
-same-length-2 : tie.Need-same-length-2
-same-length-2 c = search needs
-
-same-length-3 : tie.Need-same-length-3
-same-length-3 c = search needs
-
-same-length-4 : tie.Need-same-length-4
-same-length-4 c = search needs
+abbrev close3-from-slice-known8 : tie.After-slice-known8 → tie.After-close3
+close3-from-slice-known8 c = c .before .before .before .before .before .before
 
 returns : tie.Need-returns
-returns c = λ h. take-columns h _ (c  .before .before .before .before .before .before .before .before .before .before .before .before .before .before .before .before .before .before .before .before .pre .1) (c  .before .before .before .before .before .before .before .before .before .before .before .before .before .before .close .ensures) (c  .before .before .before .before .before .before .before .before .before .before .close2 .ensures) (c  .before .before .before .before .before .before .close3 .ensures) (c  .before .before .close4 .ensures)
+returns c = λ h. take-columns h _ (start-from-slice-known8 c .pre .1) (close-from-slice-known8 c .close .ensures) (close2-from-slice-known8 c .close2
+    .ensures) (close3-from-slice-known8 c .close3 .ensures) (c .before .before .close4 .ensures)
 
 pub take-out-spec : {M : Type 1} → statement M
 take-out-spec =
     tie.close
     (tie.spec
-    close-requires
-    close-requires-2
-    close-requires-3
-    close-requires-4
-    same-length
-    same-length-2
-    same-length-3
-    same-length-4
+    (λ c κs. search needs)
+    (λ c κs. search needs)
+    (λ c κs. search needs)
+    (λ c κs. search needs)
+    (λ c. search needs)
+    (λ c. search needs)
+    (λ c. search needs)
+    (λ c. search needs)
     returns)
