@@ -90,7 +90,7 @@ module _ {is os ws ms : List ℕ} {n : ℕ} (h : Holds is os ws ms n) (i m : ℕ
         leaves h (remarking i m on)
         (runs
         ∙ ap (λ (l : List Entry). record { reply = replyOf (pick on 132 133) 0 (present (covering l i)); list = l }) (remark-absent i m on (h .list) (h
-            .valid) p)
+        .valid) p)
         ∙ ap (λ (o : Option Entry). leave (h .list) (replyOf (pick on 132 133) 0 o)) p)
         (q ∙ ap (λ (y : ℕ). refusedBy y absent n) e)
 

@@ -9,9 +9,9 @@ use answers::COVERED;
 use answers::DONE;
 use answers::ENDED;
 use answers::FIRST_ABOVE_LAST;
+use answers::NO_BUDGET;
 use answers::NOT_ALIGNED;
 use answers::NOT_WELL_FORMED;
-use answers::NO_BUDGET;
 use answers::POOL_LENGTH;
 use answers::TOO_FEW_NODES;
 use batch::Command;
@@ -726,14 +726,7 @@ fn seen(c: Covered) -> Covered
     }
 }
 
-fn run_load(
-    index: &[u64],
-    order: &[u64],
-    word: &[u64],
-    marks: &[u64],
-    n: usize,
-    i: u64,
-) -> Reply
+fn run_load(index: &[u64], order: &[u64], word: &[u64], marks: &[u64], n: usize, i: u64) -> Reply
     requires { ⌜ Holds (now index) (now order) (now word) (now marks) n ⌝ }
     ensures { λ r. ⌜ ((h : Holds (now (index .entry)) (now (order .entry)) (now (word .entry)) (now (marks .entry)) n) →
         r ≡ execute (length (now (index .entry))) (h .list) (Command.Load i) .reply) ⌝ }
@@ -752,14 +745,7 @@ fn found_reply(c: Covered) -> Reply
 }
 
 // A find never pauses; all its budget does is not to be 0 (R305).
-fn run_find(
-    index: &[u64],
-    order: &[u64],
-    word: &[u64],
-    marks: &[u64],
-    n: usize,
-    s: Sought,
-) -> Reply
+fn run_find(index: &[u64], order: &[u64], word: &[u64], marks: &[u64], n: usize, s: Sought) -> Reply
     requires { ⌜ Holds (now index) (now order) (now word) (now marks) n ⌝ }
     ensures { λ r. ⌜ ((h : Holds (now (index .entry)) (now (order .entry)) (now (word .entry)) (now (marks .entry)) n) →
         r ≡ execute (length (now (index .entry))) (h .list) (Command.Find (s .first) (s .last) (s .filter) (s .budget)) .reply) ⌝ }
@@ -885,12 +871,16 @@ fn run_remark(
     let x = with_mark(e.marks, m, on);
     marks[p - 1] = x;
     Turned {
-        reply: answered_by(tag, Entry {
-            base: e.base,
-            order: e.order,
-            word: e.word,
-            marks: x,
-        }, 0),
+        reply: answered_by(
+            tag,
+            Entry {
+                base: e.base,
+                order: e.order,
+                word: e.word,
+                marks: x,
+            },
+            0,
+        ),
         count: n,
     }
 }
@@ -920,19 +910,35 @@ pub fn execute(
         },
         Command::Erase { index: i } => run_erase(index, order, word, marks, n, i),
         Command::Mark { index: i, mark: m } => run_remark(index, order, word, marks, n, i, m, true),
-        Command::Unmark { index: i, mark: m } => run_remark(index, order, word, marks, n, i, m, false),
+        Command::Unmark { index: i, mark: m } => run_remark(
+            index,
+            order,
+            word,
+            marks,
+            n,
+            i,
+            m,
+            false,
+        ),
         Command::Find {
             first,
             last,
             filter,
             budget,
         } => Turned {
-            reply: run_find(index, order, word, marks, n, Sought {
-                first,
-                last,
-                filter,
-                budget,
-            }),
+            reply: run_find(
+                index,
+                order,
+                word,
+                marks,
+                n,
+                Sought {
+                    first,
+                    last,
+                    filter,
+                    budget,
+                },
+            ),
             count: n,
         },
         Command::Reserve { index: i } => run_reserve(index, order, word, marks, n, i),

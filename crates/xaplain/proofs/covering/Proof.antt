@@ -35,7 +35,7 @@ entry-at-requires c κs = place-reads (start-from-else1 c .pre) (start-from-else
 returns-2 : tie.Need-returns-2
 returns-2 c = λ h. let r = c .before .before .place .result in let d = c .before .before .place .ensures in let p = c .before .if1 .left in
     ap By (c .entry-at .ensures ∙ entry-is h (r - 1) (place-in h (start-from-entry-at c .args .i) r d p)) ∙ sym (ap
-        covered (place-some h (start-from-entry-at c .args .i) r d p))
+    covered (place-some h (start-from-entry-at c .args .i) r d p))
 
 pub covering-spec : {M : Type 1} → statement M
 covering-spec =

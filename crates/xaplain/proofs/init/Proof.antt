@@ -75,9 +75,11 @@ clear-requires-4 c κs = let a = start-from-clear-arg4 c .args in let z = sized-
     (omega arith, omega (arith, z .2))
 
 returns-2 : tie.Need-returns-2
-returns-2 c = let t = sym (sized-from-slice-known8 c .sized .ensures) ∙ not-false _ (else1-from-slice-known8 c .if1 .left) in
-    (rw t refl, init-slices t (clear-from-slice-known8 c .clear
-        .ensures) (clear2-from-slice-known8 c .clear2 .ensures) (clear3-from-slice-known8 c .clear3 .ensures) (c .before .before .clear4 .ensures))
+returns-2 c = let t = sym (sized-from-slice-known8 c .sized .ensures) ∙ not-false _ (else1-from-slice-known8 c .if1 .left) in (
+  rw t refl,
+  init-slices t (clear-from-slice-known8 c .clear
+      .ensures) (clear2-from-slice-known8 c .clear2 .ensures) (clear3-from-slice-known8 c .clear3 .ensures) (c .before .before .clear4 .ensures),
+)
 
 pub init-spec : {M : Type 1} → statement M
 init-spec =

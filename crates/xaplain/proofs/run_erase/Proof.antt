@@ -65,19 +65,25 @@ entry-at-requires c κs = place-reads (start-from-entry-at-arg4 c .pre) (start-f
     .result) (place-from-entry-at-arg4 c .place .ensures) (else1-from-entry-at-arg4 c .if1 .left)
 
 take-out-requires : tie.Need-take-out-requires
-take-out-requires c κs = (start-from-take-out-arg4 c .pre, place-in (start-from-take-out-arg4 c .pre) (start-from-take-out-arg4 c
-    .args .i) (place-from-take-out-arg4 c .place .result) (place-from-take-out-arg4 c .place .ensures) (else1-from-take-out-arg4 c .if1 .left))
+take-out-requires c κs = (
+  start-from-take-out-arg4 c .pre,
+  place-in (start-from-take-out-arg4 c .pre) (start-from-take-out-arg4 c
+      .args .i) (place-from-take-out-arg4 c .place .result) (place-from-take-out-arg4 c .place .ensures) (else1-from-take-out-arg4 c .if1 .left),
+)
 
 sub-t22 : tie.Need-sub-t22
-sub-t22 c = omega (arith, place-in (start-from-answered-by c .pre) (start-from-answered-by c .args .i) (place-from-answered-by c .place .result)
-    (place-from-answered-by c .place .ensures) (else1-from-answered-by c .if1 .left))
+sub-t22 c = omega (
+  arith,
+  place-in (start-from-answered-by c .pre) (start-from-answered-by c .args .i) (place-from-answered-by c .place .result)
+      (place-from-answered-by c .place .ensures) (else1-from-answered-by c .if1 .left),
+)
 
 returns-2 : tie.Need-returns-2
 returns-2 c = λ h. let i = start-from-answered-by c .args .i in let r = place-from-answered-by c .place .result in let d = place-from-answered-by c .place
     .ensures in let p = else1-from-answered-by c .if1 .left in
     erases h i (r - 1) (place-in h i r d p) (place-some h i r d p) (entry-at-from-answered-by c .entry-at .ensures) (c .answered-by .ensures) refl
-        (take-out-from-answered-by c
-        .take-out .ensures h)
+    (take-out-from-answered-by c
+    .take-out .ensures h)
 
 pub run-erase-spec : {M : Type 1} → statement M
 run-erase-spec =

@@ -49,8 +49,14 @@ returns-3 c = λ h. c .answered3 .ensures ∙ sym (ap (λ (x : Executed). x .rep
     _ _ _ (else1-from-answered3 c .if1 .left) (c .before .before .before .if2 .left) (c .before .if3 .taken)))
 
 find-requires : tie.Need-find-requires
-find-requires c κs = (start-from-else3 c .pre, omega (arith, else1-from-else3 c
-    .if1 .left))
+find-requires c κs = (
+  start-from-else3 c .pre,
+  omega (
+    arith,
+    else1-from-else3 c
+        .if1 .left,
+  ),
+)
 
 returns-4 : tie.Need-returns-4
 returns-4 c = λ h. c .found-reply .ensures ∙ find-reply (length (start-from-found-reply c .args .index .now)) (h .list) _ _ _ _ (else1-from-found-reply c

@@ -93,7 +93,7 @@ returns-2 : tie.Need-returns-2
 returns-2 c = λ h. remark-none h (start-from-refused2 c .args .i) (start-from-refused2 c .args .m) (start-from-refused2 c .args .on) (c .before .before
     .before .if1 .left)
     (ap present (place-none h (start-from-refused2 c .args .i) (c .before .before .place .result) (c .before .before .place .ensures) (c .before .if2
-        .taken))) (remarked-tag-from-refused2 c .remarked-tag .ensures) (c .refused2 .ensures)
+    .taken))) (remarked-tag-from-refused2 c .remarked-tag .ensures) (c .refused2 .ensures)
 
 entry-at-requires : tie.Need-entry-at-requires
 entry-at-requires c κs = place-reads (start-from-entry-at-arg c .pre) (start-from-entry-at-arg c .args .i) (c .before .before .place .result) (c .before
@@ -103,15 +103,21 @@ returns-3 : tie.Need-returns-3
 returns-3 c = λ h. remark-none h (start-from-refused3 c .args .i) (start-from-refused3 c .args .m) (start-from-refused3 c .args .on) (else1-from-refused3 c
     .if1 .left)
     (place-reserved h (start-from-refused3 c .args .i) (place-from-refused3 c .place .result) (place-from-refused3 c .place .ensures) (else2-from-refused3 c
-        .if2 .left)
+    .if2 .left)
     (sym (ap (λ (e : Entry). e .word) (c .before .before .before .entry-at .ensures)) ∙ c .before .if3 .taken)) (remarked-tag-from-refused3 c .remarked-tag
-        .ensures) (c .refused3 .ensures)
+    .ensures) (c .refused3 .ensures)
 
 with-mark-requires : tie.Need-with-mark-requires
 with-mark-requires c κs = let h = start-from-else3 c .pre in let k = place-from-else3 c .place .result - 1 in
-    let g = place-in h (start-from-else3 c .args .i) (place-from-else3 c .place .result) (place-from-else3 c .place .ensures) (else2-from-else3 c .if2 .left) in
-    (else1-from-else3 c .if1 .left, omega (arith, ap (λ (e : Entry). e .marks) (c .before .before .entry-at .ensures),
-        marks-at h k g, entry-ok h k g .marks-fit))
+    let g = place-in h (start-from-else3 c .args .i) (place-from-else3 c .place .result) (place-from-else3 c .place .ensures) (else2-from-else3 c .if2 .left) in (
+      else1-from-else3 c .if1 .left,
+      omega (
+        arith,
+        ap (λ (e : Entry). e .marks) (c .before .before .entry-at .ensures),
+        marks-at h k g,
+        entry-ok h k g .marks-fit,
+      ),
+    )
 
 mul-marks : tie.Need-mul-marks
 mul-marks c = let g = place-reads (start-from-with-mark c .pre) (start-from-with-mark c .args .i) (place-from-with-mark c .place .result)
@@ -127,9 +133,9 @@ returns-4 c = λ h. let a = start-from-answered-by c .args in let r =
     place-from-answered-by c .place .result in let d = place-from-answered-by c .place
     .ensures in let p = else2-from-answered-by c .if2 .left in
     remarks h (a .i) (a .m) (a .on) (else1-from-answered-by c .if1 .left) (r - 1) (c .before .with-mark .result)
-        (place-in h (a .i) r d p) (place-some h (a .i) r d p)
+    (place-in h (a .i) r d p) (place-some h (a .i) r d p)
     (entry-at-from-answered-by c .entry-at .result) (entry-at-from-answered-by c .entry-at .ensures) (c .before .before .if3 .left) (c .before
-        .with-mark .ensures) (remarked-tag-from-answered-by c .remarked-tag .ensures) (c .answered-by .ensures) refl
+    .with-mark .ensures) (remarked-tag-from-answered-by c .remarked-tag .ensures) (c .answered-by .ensures) refl
 
 pub run-remark-spec : {M : Type 1} → statement M
 run-remark-spec =

@@ -18,13 +18,17 @@ returns c = let l = bit-le (c .before .before .args .m) (c .before .before .args
     (c .before .before .args .m) (c .before .before .args .w) true true (c .if2 .taken)))
 
 add-result : tie.Need-add-result
-add-result c = let l = small (c .before .before .before .args .m) (c .before .before .before .pre .0) in omega (arith, c .pow2 .ensures, c .before .before
-    .before .pre .1)
+add-result c = let l = small (c .before .before .before .args .m) (c .before .before .before .pre .0) in omega (
+  arith,
+  c .pow2 .ensures,
+  c .before .before
+      .before .pre .1,
+)
 
 returns-2 : tie.Need-returns-2
 returns-2 c = let z : bit (c .before .before .before .args .m) (c .before .before .before .args .w) ≡ 0 = omega (arith, c .before .if2 .left) in
     rw (c .before .before .if1 .taken, c .pow2 .ensures) (omega arith ∙ sym (set-at (c .before .before .before .args .m) (c .before .before .before .args .w)
-        false true z))
+    false true z))
 
 returns-3 : tie.Need-returns-3
 returns-3 c = rw (c .before .if1 .left) (omega arith ∙ sym (set-at (c .before .before .args .m) (c .before .before .args .w) false false (c .if3 .taken)))
@@ -36,7 +40,7 @@ sub-result c = let z : bit (c .before .before .before .args .m) (c .before .befo
 returns-4 : tie.Need-returns-4
 returns-4 c = let z : bit (c .before .before .before .args .m) (c .before .before .before .args .w) ≡ 1 = omega (arith, c .before .if3 .left) in
     rw (c .before .before .if1 .left, c .pow22 .ensures) (omega arith ∙ sym (set-at (c .before .before .before .args .m) (c .before .before .before .args .w)
-        true false z))
+    true false z))
 
 pub with-mark-spec : {M : Type 1} → statement M
 with-mark-spec =

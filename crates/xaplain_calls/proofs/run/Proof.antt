@@ -31,8 +31,11 @@ returns : tie.Need-returns
 returns c = let e = c .before .check .ensures in with-lent (as-ensures (comes-as e (comes-refused (run-unchecked _ _ _ (λ z. c .if1 .taken (e ∙ z)))))) refl
 
 run-counted-requires : tie.Need-run-counted-requires
-run-counted-requires c κs = (sym (check-from-run-counted-arg5 c .check .ensures) ∙ else1-from-run-counted-arg5 c .if1 .left, sym
-    (counted2-from-run-counted-arg5 c .counted2 .given .1) ∙ count-from-run-counted-arg5 c .count .ensures)
+run-counted-requires c κs = (
+  sym (check-from-run-counted-arg5 c .check .ensures) ∙ else1-from-run-counted-arg5 c .if1 .left,
+  sym
+      (counted2-from-run-counted-arg5 c .counted2 .given .1) ∙ count-from-run-counted-arg5 c .count .ensures,
+)
 
 returns-2 : tie.Need-returns-2
 returns-2 c = with-lent (as-ensures (comes-refused (run-bad _ _ _ (sym (check-from-known-told c .check .ensures) ∙ else1-from-known-told c .if1 .left) (sym

@@ -64,7 +64,7 @@ loop-less c = omega (arith, next-after _ _ (sym (step-at-from-slice-known10 c .s
 loop-again : tie.Need-loop-again Inv-loop μ-loop
 loop-again c = let v = loop-from-slice-known10 c .loop .inv in let q = step-at-from-slice-known10 c .step-at .ensures in
     running-on v q (read-fits (record { small = λ i. omega (arith, shared-slice-known-from-slice-known10 c .shared-slice-known .given i) }) _ (sym q))
-        (run-one-from-slice-known10 c .run-one .ensures (v .held)) (c .before .reply .given)
+    (run-one-from-slice-known10 c .run-one .ensures (v .held)) (c .before .reply .given)
 
 same-length : tie.Need-same-length Inv-loop μ-loop
 same-length c = c .before .loop .inv .same-room

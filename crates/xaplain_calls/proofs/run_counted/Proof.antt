@@ -47,18 +47,32 @@ returns c = let p = start-from-then1 c .pre in as-ensures (comes-refused (run-sh
 
 run-all-requires : tie.Need-run-all-requires
 run-all-requires c κs = let z = start-from-run-all-arg5 c in (
-    holds-checked (record { small = λ i. omega (arith, slice-known-from-run-all-arg5 c .slice-known .given i) }) (record { small = λ i. omega (arith,
-        slice-known3-from-run-all-arg5 c .slice-known3 .given i) }) (z .pre .0) (count-from-run-all-arg5 c .count .ensures),
-    ahead (z .args .reply .now) (was-read (z .pre .1)) (omega arith))
+  holds-checked (record { small = λ i. omega (arith, slice-known-from-run-all-arg5 c .slice-known .given i) }) (record {
+    small = λ i. omega (
+      arith,
+      slice-known3-from-run-all-arg5 c .slice-known3 .given i,
+    );
+  }) (z .pre .0) (count-from-run-all-arg5 c .count .ensures),
+  ahead (z .args .reply .now) (was-read (z .pre .1)) (omega arith),
+)
 
 returns-2 : tie.Need-returns-2
 returns-2 c = let p = start-from-slice-known10 c .pre in let r = was-read (p .1) in
     let a = start-from-slice-known10 c .args in
-    let h = holds-checked {is = a .index .now} {os = a .order .now} {ws = a .word .now} {ms = a .marks .now} (record { small = λ i. omega (arith,
-        slice-known-from-slice-known10 c .slice-known .given i) }) (record { small = λ i. omega (arith, slice-known3-from-slice-known10 c .slice-known3
-        .given i) }) (p .0) (count-from-slice-known10 c .count .ensures) in
+    let h = holds-checked {is = a .index .now} {os = a .order .now} {ws = a .word .now} {ms = a .marks .now} (record {
+      small = λ i. omega (
+        arith,
+        slice-known-from-slice-known10 c .slice-known .given i,
+      );
+    }) (record {
+      small = λ i. omega (
+        arith,
+        slice-known3-from-slice-known10 c .slice-known3
+            .given i,
+      );
+    }) (p .0) (count-from-slice-known10 c .count .ensures) in
     as-ensures (ran (p .0) r (omega arith) (list-held h) (run-all-from-slice-known10 c .run-all .ensures
-        h (r .cs) (r .rest)))
+    h (r .cs) (r .rest)))
 
 pub run-counted-spec : {M : Type 1} → statement M
 run-counted-spec =
