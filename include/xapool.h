@@ -1,5 +1,6 @@
-/* xapool.h: entries kept by 64-bit index in a pool of words that the host lends; and digests and
- * comparisons of regions of bytes, texts of evidence looked up in two sheets, and gates over counts.
+/* xapool.h: entries kept by 64-bit index in a pool of words that the host lends, or by a plain
+ * second engine in four slices of words; and digests and comparisons of regions of bytes, texts of
+ * evidence looked up in two sheets, and gates over counts.
  *
  * The library has no memory of its own and keeps nothing between two calls: all state is in the
  * pool. A pool may be moved, saved and loaded: it has no addresses in it.
@@ -13,17 +14,18 @@
  *
  * Platform   x86-64 Linux. libxapool.a is position-independent, so it can go into a shared library;
  *            of other libraries it needs memset alone. It never allocates.
- * Alignment  a pool begins at a multiple of 8, as any array of uint64_t does. Batch, reply, list and
- *            regions and sheets may begin anywhere.
+ * Alignment  a pool begins at a multiple of 8, as any array of uint64_t does, and so does each slice of the
+ *            plain engine. Batch, reply, list and regions and sheets may begin anywhere.
  * Memory     all that is lent must have been written before, the space for replies and lists too: static,
  *            calloc, or = { 0 }.
  * NULL       with length 0 any pointer may be NULL: an empty batch, no reply space, no space for a
- *            list, empty regions and empty sheets are fine, a pool of no words is refused with 1.
+ *            list, empty regions and empty sheets are fine, a pool of no words is refused with 1. Four
+ *            slices of length 0 are fine: they have room for no entry.
  * Stack      a call needs less than 8 KiB of it, whatever the pool holds; xapool_crc32c and
  *            xapool_compare, which keep tables there, less than 16 KiB.
  * Threads    calls on different pools may run at the same time. Two calls at the same time must not
  *            share a pool, not even for finds, unless both are xapool_check or xapool_list, which
- *            only read it. No two buffers of one call may overlap, but for the two regions of
+ *            only read it; nor slices, unless both are xaplain_check. No two buffers of one call may overlap, but for the two regions of
  *            xapool_compare and the two sheets of xapool_evidence, which are only read.
  * Time       each run and each list checks the whole pool first, so many commands in one batch are
  *            far cheaper than one command in each of many. All else follows what is asked: a list
@@ -88,13 +90,17 @@ extern "C" {
 #define XAPOOL_SLOT_FIELD 6  /* its slots */
 #define XAPOOL_SLOTS 64
 
+/* The plain engine's slices have at most so many elements each, one for each entry. */
+#define XAPLAIN_ENTRIES_MAX 4096
+
 /* The bytes of the replies to c commands. */
 #define XAPOOL_REPLIES(c) (XAPOOL_REPLY_BYTES * (c))
 
 /* The bytes of a list of n entries. */
 #define XAPOOL_LISTING(n) (XAPOOL_LISTED_BYTES * (n))
 
-/* What a reserved index has in the pool, as its slot's word or as the head. No store takes it, and
+/* What a reserved index has in the pool, as its slot's word or as the head, and as its word in the plain
+ * engine's slices. No store takes it, and
  * replies and lists have 0 in its place. */
 #define XAPOOL_RESERVED_WORD 1030
 
@@ -131,8 +137,10 @@ static inline uint64_t xapool_value(uint64_t v)
  * it is with 4. */
 enum xapool_answer {
     XAPOOL_DONE = 0,             /* call: done, number: commands run, or entries listed. reply: done */
-    XAPOOL_POOL_LENGTH = 1,      /* pool_words is not XAPOOL_WORDS(N) with N from 1 to XAPOOL_MAX_NODES; number 0 */
-    XAPOOL_NOT_WELL_FORMED = 2,  /* the words are not those of a pool (never initialised, or damaged); number 0 */
+    XAPOOL_POOL_LENGTH = 1,      /* pool_words is not XAPOOL_WORDS(N) with N from 1 to XAPOOL_MAX_NODES; number 0.
+                                    plain: slices of unequal length, or above XAPLAIN_ENTRIES_MAX */
+    XAPOOL_NOT_WELL_FORMED = 2,  /* the words are not those of a pool (never initialised, or damaged); number 0.
+                                    plain: the slices do not hold a list and then zeros */
     XAPOOL_BAD_BATCH = 3,        /* a record is cut off, or its tag or length is none; number: the place of
                                     its first byte. Over XAPOOL_BATCH_BYTES: that many.
                                     evidence: a sheet is malformed */
@@ -145,7 +153,8 @@ enum xapool_answer {
     XAPOOL_NO_BUDGET = 9,        /* find: budget 0 */
     XAPOOL_ABSENT = 10,          /* load, mark, unmark: no entry covers the index. erase: nor is it reserved.
                                     evidence: neither sheet names the index */
-    XAPOOL_TOO_FEW_NODES = 11,   /* store, reserve: it needs more nodes than are free; nothing is changed */
+    XAPOOL_TOO_FEW_NODES = 11,   /* store, reserve: it needs more nodes than are free; nothing is changed.
+                                    plain: the new list would have more entries than room */
     XAPOOL_ENDED = 12,           /* find: nothing more to find */
     XAPOOL_PAUSED = 13,          /* find: the budget is used up; index: where to go on */
     XAPOOL_NOT_ALIGNED = 14,     /* store: the index is not a multiple of 2^order */
@@ -285,6 +294,48 @@ XAPOOL_MUST_USE
 xapool_result xapool_list(const uint64_t *pool, size_t pool_words,
                           uint64_t first, uint64_t last,
                           uint8_t *buffer, size_t buffer_bytes);
+
+/* ---- The plain engine ----
+ *
+ * The same batches and replies on a list that can be read at a glance: the entries in index order, one place for
+ * each in four slices of equal length, 0 to XAPLAIN_ENTRIES_MAX, and then zeros.
+ *
+ *   index   its base
+ *   order   0 to 63
+ *   word    its word; XAPOOL_RESERVED_WORD for a reserved index, whose order and marks are 0
+ *   marks   0 to 7
+ *
+ * The room is that length: a store or a reserve that would leave more entries has answer 11, and no other has. Replies
+ * to load and find have count 0, and no find pauses: a budget of 0 is refused with 9, any other is as good as
+ * another. Every other byte of a reply is the one that xapool_run gives on a pool that ran the same batches from
+ * empty, until a reply of either says 11 or 13 (proved). Its time grows with the entries: a store moves those
+ * behind it. There is no list call: the slices are the list. */
+
+/* Makes the slices an empty list, all zeros, whatever stood there. Gives 0, or 1 (the lengths are not equal, or
+ * above XAPLAIN_ENTRIES_MAX), and then nothing is written. The number is 0. */
+XAPOOL_MUST_USE
+xapool_result xaplain_init(uint64_t *index, size_t index_words,
+                           uint64_t *order, size_t order_words,
+                           uint64_t *word, size_t word_words,
+                           uint64_t *marks, size_t marks_words);
+
+/* Whether the slices hold a list and then zeros. Gives 0, 1 as above, or 2: an entry is none, out of order or
+ * overlaps the one before it, or something stands behind the list. The number is 0. */
+XAPOOL_MUST_USE
+xapool_result xaplain_check(const uint64_t *index, size_t index_words,
+                            const uint64_t *order, size_t order_words,
+                            const uint64_t *word, size_t word_words,
+                            const uint64_t *marks, size_t marks_words);
+
+/* Runs a batch. It checks the slices first, so words from anywhere may be given: 1 and 2 as above, 3 and 4
+ * as xapool_run's; with any of them slices and reply bytes are as they were. */
+XAPOOL_MUST_USE
+xapool_result xaplain_run(uint64_t *index, size_t index_words,
+                          uint64_t *order, size_t order_words,
+                          uint64_t *word, size_t word_words,
+                          uint64_t *marks, size_t marks_words,
+                          const uint8_t *batch, size_t batch_bytes,
+                          uint8_t *reply, size_t reply_bytes);
 
 /* ---- Regions ----
  *

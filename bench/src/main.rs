@@ -2,7 +2,7 @@
 //! the cost by nodes, that of free nodes, lists, digests and comparisons, the check beside an OR, and
 //! look-ups of evidence.
 //! With `engines` that with the engines alone, with `checks` that of the check, with `evidence` a look-up
-//! in a sheet; with `against` two builds of the library in one run; with `redraw` the pictures of the figures in BENCHMARKS.md.
+//! in a sheet, with `plain` the library's two engines; with `against` two builds of the library in one run; with `redraw` the pictures of the figures in BENCHMARKS.md.
 
 mod against;
 mod beside_or;
@@ -25,6 +25,7 @@ mod stores;
 mod table;
 #[cfg(test)]
 mod tests;
+mod two_engines;
 
 use library::Linked;
 use loads::Load;
@@ -47,6 +48,7 @@ usage: bench [--indices N] [--repeats N] [--small-repeats N] [--rounds N] [--wri
        bench engines ..   the loads beside the engines alone
        bench checks ..    the check of pools of many kinds beside an OR of their words
        bench evidence ..  a look-up in a sheet of 1 MB beside plain reading
+       bench plain ..     the plain engine beside the tree, for 40, 400 and 4,096 entries
        bench against ..   two builds in one run: scripts/bench-against
        bench redraw DIR   engines.svg and benchmarks.svg anew, from DIR/BENCHMARKS.md; nothing is measured
 Exit status: 0 fine, 1 a call was refused or a file could not be written, 2 bad usage.";
@@ -85,6 +87,7 @@ fn main() -> ExitCode {
         "against" => (against::run(env::args().skip(2)), against::USAGE),
         "checks" => (beside_or::measure(env::args().skip(2)), beside_or::USAGE),
         "evidence" => (sheets::measure(env::args().skip(2)), sheets::USAGE),
+        "plain" => (two_engines::measure(env::args().skip(2)), two_engines::USAGE),
         "engines" => (engines::measure(env::args().skip(2)), engines::USAGE),
         "redraw" => (env::args().nth(2).map(|folder| redraw(&folder)), USAGE),
         _ => (options().map(|options| measure_all(&options)), USAGE),
@@ -144,6 +147,7 @@ fn measure_alone(options: &Options) -> Result<String, String> {
         table::lists(&lists),
         table::regions(&regions),
         sheets::table(&sheets::rows(options.small_repeats)?),
+        two_engines::table(&two_engines::rows(options.small_repeats.div_ceil(2))?),
     ];
     Ok(texts.join("\n"))
 }

@@ -4,6 +4,8 @@ use crate::gates;
 use crate::lend::{Call, Given};
 use crate::listings::{kinds, KINDS};
 use crate::os::shared_numbers;
+use crate::plain_kinds;
+use crate::plain_slices::Slices;
 use crate::reserves;
 use crate::sheets;
 use crate::stretch::{counts, FindCounts};
@@ -11,7 +13,7 @@ use std::sync::atomic::{AtomicU64, Ordering::Relaxed};
 
 #[derive(Clone, Copy)]
 pub struct Figures {
-    numbers: &'static [AtomicU64; 224],
+    numbers: &'static [AtomicU64; 320],
 }
 
 /// Which number is what.
@@ -46,6 +48,11 @@ pub enum Of {
     LookUps = 69,
     SheetBytes = 70,
     Gates = 71,
+    PlainLists = 208,
+    PlainCalls = 209,
+    PlainWords = 210,
+    PlainReplyBytes = 211,
+    PlainBeside = 212,
 }
 
 /// The first number of the answers of calls and of those in replies.
@@ -67,6 +74,11 @@ const SHEET_KINDS: usize = 160;
 
 /// The first number of the kinds of gates.
 const GATE_KINDS: usize = 192;
+
+/// The first number of the plain engine's answers of calls, of those in replies, and of its kinds.
+const PLAIN_CALL_ANSWERS: usize = 224;
+const PLAIN_REPLY_ANSWERS: usize = 232;
+const PLAIN_KINDS: usize = 256;
 
 impl Figures {
     pub fn new() -> Figures {
@@ -265,6 +277,42 @@ impl Figures {
     pub fn print_gates(self) {
         println!("gates: {} calls, each result compared", self.get(Of::Gates));
         self.print_kinds(GATE_KINDS, &gates::KINDS.map(|(_, name)| name));
+    }
+
+    /// Counts a call of the plain engine, by what reference gave and the slices after it.
+    pub fn count_plain(
+        self,
+        call: &Call,
+        slices: &Slices,
+        given: &Given,
+        kinds: &[plain_kinds::Kind],
+    ) {
+        self.add(Of::PlainCalls, 1);
+        self.add(Of::PlainWords, slices.iter().map(Vec::len).sum());
+        self.add(Of::PlainReplyBytes, given.bytes.len());
+        self.numbers[PLAIN_CALL_ANSWERS + given.answer as usize].fetch_add(1, Relaxed);
+        if let (Call::Run { .. }, 0) = (call, given.answer) {
+            self.count_replies(PLAIN_REPLY_ANSWERS, given);
+        }
+        for kind in kinds {
+            self.numbers[PLAIN_KINDS + *kind as usize].fetch_add(1, Relaxed);
+        }
+    }
+
+    pub fn print_plain(self) {
+        let replies = (0..16).map(|answer| PLAIN_REPLY_ANSWERS + answer);
+        let commands: u64 = replies.map(|number| self.numbers[number].load(Relaxed)).sum();
+        println!(
+            "plain: {} lists of calls, {} calls, {commands} commands, {} words and {} reply bytes compared; {} batches beside the tree",
+            self.get(Of::PlainLists),
+            self.get(Of::PlainCalls),
+            self.get(Of::PlainWords),
+            self.get(Of::PlainReplyBytes),
+            self.get(Of::PlainBeside)
+        );
+        println!("  answers of calls      {}", self.answers(PLAIN_CALL_ANSWERS, 0..5));
+        println!("  answers in replies    {}", self.answers(PLAIN_REPLY_ANSWERS, 0..16));
+        self.print_kinds(PLAIN_KINDS, &plain_kinds::KINDS.map(|(_, name)| name));
     }
 
     pub fn print_engine(self) {

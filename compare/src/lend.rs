@@ -54,8 +54,8 @@ const MOST_SPACE_BYTES: usize = LISTED_BYTES * SLOTS * MOST_NODES + 1000;
 
 /// How many bytes before a lent buffer are watched.
 const EDGE: usize = 512;
-const EDGE_BYTE: u8 = 0xA5;
-const EDGE_WORD: u64 = 0xA5A5_A5A5_A5A5_A5A5;
+pub const EDGE_BYTE: u8 = 0xA5;
+pub const EDGE_WORD: u64 = 0xA5A5_A5A5_A5A5_A5A5;
 
 /// What is in the reply space or the buffer before a call.
 pub fn space_byte(place: usize) -> u8 {
@@ -70,7 +70,7 @@ pub struct Lender {
 }
 
 /// The last `count` elements with what stands before them.
-fn split<T>(all: &mut [T], count: usize) -> (&mut [T], &mut [T]) {
+pub fn split<T>(all: &mut [T], count: usize) -> (&mut [T], &mut [T]) {
     let start = all.len() - count;
     let (before, lent) = all.split_at_mut(start);
     let from = before.len().saturating_sub(EDGE);
@@ -189,7 +189,7 @@ fn fresh_space(all: &mut Guarded, count: usize) -> &mut [u8] {
     space
 }
 
-fn given(result: raw::RawResult, bytes: &[u8]) -> Given {
+pub fn given(result: raw::RawResult, bytes: &[u8]) -> Given {
     Given { answer: result.answer, number: result.number, bytes: bytes.to_vec() }
 }
 

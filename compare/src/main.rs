@@ -20,6 +20,12 @@ mod list;
 mod listing_cases;
 mod listings;
 mod os;
+mod plain;
+mod plain_cases;
+mod plain_kinds;
+mod plain_slices;
+#[cfg(test)]
+mod plain_tests;
 mod pools;
 mod program;
 mod reserve_cases;
@@ -47,11 +53,13 @@ usage: compare [SECONDS [SEED]]     all of it, in about so many seconds (100 if 
        compare engine SECONDS [SEED]   the engines of engine/ alone
        compare evidence SECONDS [SEED]   look-ups in sheets alone
        compare gates SECONDS [SEED]   gates alone, 12 million at least
+       compare plain SECONDS [SEED]   the plain engine alone, and beside the tree
        compare again calls SEED     one list of calls, by the seed that was printed
        compare again finds SEED     one list of calls made for finds
        compare again engine SEED    one list of calls by the engines
        compare again evidence SEED  one look-up in sheets
        compare again gates SEED     one row of gates
+       compare again plain SEED     one list of calls by the plain engine
        compare again program SEED   one input of the program
 The long run: compare 3600
 Exit status: 0 no difference, 1 a difference, 2 bad usage or no program.";
@@ -76,6 +84,10 @@ fn main() -> ExitCode {
         ["gates", seconds] => number(seconds).map(|s| compare_gates(s, clock())),
         ["gates", seconds, seed] => {
             number(seconds).and_then(|s| Ok(compare_gates(s, number(seed)?)))
+        }
+        ["plain", seconds] => number(seconds).map(|s| compare_plain(s, clock())),
+        ["plain", seconds, seed] => {
+            number(seconds).and_then(|s| Ok(compare_plain(s, number(seed)?)))
         }
         ["again", kind, seed] => again(kind, seed),
         [seconds] => number(seconds).and_then(|seconds| compare(seconds, clock())),
@@ -130,7 +142,8 @@ fn compare(seconds: u64, seed: u64) -> Result<bool, String> {
     let left = all.saturating_sub(started.elapsed()).max(all / 2);
     let programs = if program { left / 4 } else { Duration::ZERO };
     let (finds, engines, evidence, gates) = (left / 4, left / 8, left / 16, left / 64);
-    let calls = left - programs - finds - engines - evidence - gates;
+    let plain = left / 16;
+    let calls = left - programs - finds - engines - evidence - gates - plain;
     same &= random_trials(Kind::Calls, seed, calls, figures);
     figures.print_calls();
     same &= random_trials(Kind::Finds, seed, finds, figures);
@@ -143,6 +156,8 @@ fn compare(seconds: u64, seed: u64) -> Result<bool, String> {
     figures.print_sheets();
     same &= random_trials(Kind::Gates, seed, gates, figures);
     figures.print_gates();
+    same &= random_trials(Kind::Plain, seed, plain, figures);
+    figures.print_plain();
     if program {
         same &= random_trials(Kind::Program, seed, programs, figures);
         figures.print_program();
@@ -175,6 +190,14 @@ fn compare_gates(seconds: u64, seed: u64) -> bool {
     let figures = Figures::new();
     let same = random_trials(Kind::Gates, seed, Duration::from_secs(seconds), figures);
     figures.print_gates();
+    same
+}
+
+fn compare_plain(seconds: u64, seed: u64) -> bool {
+    println!("compare plain: {seconds} seconds, seed {seed}");
+    let figures = Figures::new();
+    let same = random_trials(Kind::Plain, seed, Duration::from_secs(seconds), figures);
+    figures.print_plain();
     same
 }
 
@@ -251,6 +274,7 @@ fn again(kind: &str, seed: &str) -> Result<bool, String> {
         "engine" => Kind::Engine,
         "evidence" => Kind::Evidence,
         "gates" => Kind::Gates,
+        "plain" => Kind::Plain,
         "program" => Kind::Program,
         _ => return Err(USAGE.into()),
     };

@@ -6,6 +6,7 @@ use crate::finds;
 use crate::gates::Asks;
 use crate::list::CallList;
 use crate::os::{end_after, in_child, End};
+use crate::plain::PlainList;
 use crate::program::Input;
 use crate::sheets::LookUp;
 use std::time::{Duration, Instant};
@@ -17,6 +18,7 @@ pub enum Kind {
     Engine,
     Evidence,
     Gates,
+    Plain,
     Program,
 }
 
@@ -28,6 +30,7 @@ impl Kind {
             Kind::Engine => "engine",
             Kind::Evidence => "evidence",
             Kind::Gates => "gates",
+            Kind::Plain => "plain",
             Kind::Program => "program",
         }
     }
@@ -41,6 +44,8 @@ pub enum Trial {
     Engine(CallList),
     Evidence(LookUp),
     Gates(Asks),
+    /// The plain engine, and the tree beside it.
+    Plain(PlainList),
     Program(Input),
 }
 
@@ -56,6 +61,7 @@ impl Trial {
             Kind::Engine => Trial::Engine(engines::random_list(seed)),
             Kind::Evidence => Trial::Evidence(LookUp::random(seed)),
             Kind::Gates => Trial::Gates(Asks::random(seed)),
+            Kind::Plain => Trial::Plain(PlainList::random(seed)),
             Kind::Program => Trial::Program(Input::random(seed)),
         }
     }
@@ -67,6 +73,7 @@ impl Trial {
             Trial::Engine(list) => engines::difference(list, figures),
             Trial::Evidence(look_up) => look_up.difference(figures),
             Trial::Gates(asks) => asks.difference(figures),
+            Trial::Plain(list) => list.difference(figures),
             Trial::Program(input) => input.difference(figures),
         }
     }
@@ -78,6 +85,7 @@ impl Trial {
             Trial::Engine(list) => Box::new(list.smaller().map(Trial::Engine)),
             Trial::Evidence(look_up) => Box::new(look_up.smaller().map(Trial::Evidence)),
             Trial::Gates(asks) => Box::new(asks.smaller().map(Trial::Gates)),
+            Trial::Plain(list) => Box::new(list.smaller().map(Trial::Plain)),
             Trial::Program(input) => Box::new(input.smaller().map(Trial::Program)),
         }
     }
@@ -87,6 +95,7 @@ impl Trial {
             Trial::Calls(list) | Trial::Finds(list) | Trial::Engine(list) => list.show(),
             Trial::Evidence(look_up) => look_up.show(),
             Trial::Gates(asks) => asks.show(),
+            Trial::Plain(list) => list.show(),
             Trial::Program(input) => input.show(),
         }
     }

@@ -486,6 +486,9 @@ static void null_with_length_0_is_fine(void)
     CHECK(xapool_crc32c(7, NULL, 0) == 7);
     CHECK(xapool_compare(NULL, 0, NULL, 0).verdict == XAPOOL_NOTHING_TO_COMPARE);
     CHECK(xapool_evidence(NULL, 0, NULL, 0, 7).answer == XAPOOL_ABSENT);
+    CHECK(xaplain_init(NULL, 0, NULL, 0, NULL, 0, NULL, 0).answer == XAPOOL_DONE);
+    CHECK(xaplain_check(NULL, 0, NULL, 0, NULL, 0, NULL, 0).answer == XAPOOL_DONE);
+    CHECK(xaplain_run(NULL, 0, NULL, 0, NULL, 0, NULL, 0, NULL, 0, NULL, 0).answer == XAPOOL_DONE);
     CHECK(xapool_init(pool, XAPOOL_WORDS(1)).answer == XAPOOL_DONE);
     CHECK(xapool_run(pool, XAPOOL_WORDS(1), NULL, 0, NULL, 0).answer == XAPOOL_DONE);
 }
@@ -515,6 +518,35 @@ static void bytes_may_begin_anywhere(void)
     }
 }
 
+/* The limits of the plain engine's slices, and that its list is what the header says. */
+static void plain_slices_are_as_said(void)
+{
+    static uint64_t s[4][XAPLAIN_ENTRIES_MAX + 1];
+    static const uint64_t wanted[4][2] = { { 7, 64 }, { 0, 3 }, { XAPOOL_RESERVED_WORD, 5 }, { 0, 2 } };
+    uint8_t bytes[64], replies[XAPOOL_REPLIES(3)] = { 0 };
+    const size_t n = XAPLAIN_ENTRIES_MAX;
+    memset(s, 0xee, sizeof s);
+    CHECK(n == 4096 && xaplain_init(s[0], n + 1, s[1], n + 1, s[2], n + 1, s[3], n + 1).answer == XAPOOL_POOL_LENGTH);
+    CHECK(xaplain_init(s[0], n, s[1], n, s[2], n - 1, s[3], n).answer == XAPOOL_POOL_LENGTH);
+    CHECK(s[0][0] != 0 && s[3][n - 1] != 0);
+    CHECK(xaplain_check(s[0], n, s[1], n, s[2], n, s[3], n).answer == XAPOOL_NOT_WELL_FORMED);
+    xapool_result r = xaplain_init(s[0], n, s[1], n, s[2], n, s[3], n);
+    CHECK(r.answer == XAPOOL_DONE && r.number == 0 && s[3][n - 1] == 0 && s[3][n] != 0);
+    xapool_batch b = xapool_batch_over(bytes, sizeof bytes);
+    CHECK(xapool_put_store(&b, 64, 3, XAPOOL_VALUE(2)) && xapool_put_reserve(&b, 7) && xapool_put_mark(&b, 71, 1));
+    r = xaplain_run(s[0], n, s[1], n, s[2], n, s[3], n, bytes, b.used, replies, sizeof replies - 1);
+    CHECK(r.answer == XAPOOL_REPLY_SPACE && r.number == 3 && s[2][0] == 0);
+    r = xaplain_run(s[0], n, s[1], n, s[2], n, s[3], n, bytes, b.used - 1, replies, sizeof replies);
+    CHECK(r.answer == XAPOOL_BAD_BATCH && r.number == 31 && s[2][0] == 0);
+    r = xaplain_run(s[0], n, s[1], n, s[2], n, s[3], n, bytes, b.used, replies, sizeof replies);
+    CHECK(r.answer == XAPOOL_DONE && r.number == 3);
+    for (unsigned field = 0; field < 4; field++)
+        CHECK(memcmp(s[field], wanted[field], sizeof wanted[field]) == 0 && s[field][2] == 0 && s[field][n - 1] == 0);
+    CHECK(xaplain_check(s[0], n, s[1], n, s[2], n, s[3], n).answer == XAPOOL_DONE);
+    s[3][0] = 1; /* a reservation has no mark */
+    CHECK(xaplain_check(s[0], n, s[1], n, s[2], n, s[3], n).answer == XAPOOL_NOT_WELL_FORMED);
+}
+
 int main(void)
 {
     builders_look_at_the_room();
@@ -533,6 +565,7 @@ int main(void)
     answers_have_texts();
     verdicts_have_texts();
     gates_are_as_said();
+    plain_slices_are_as_said();
     null_with_length_0_is_fine();
     bytes_may_begin_anywhere();
     puts(failures ? "some do not hold" : "all hold");

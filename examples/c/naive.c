@@ -82,6 +82,9 @@ static int nothing_looked_at(void)
     xapool_gate(XAPOOL_MATCHED_AT_LEAST, 1, 1, 64, 64); /* dropped */
     xapool_floats_are_ieee(); /* dropped */
     xapool_list(pool, XAPOOL_WORDS(NODES), 0, UINT64_MAX, bytes, sizeof bytes); /* dropped */
+    xaplain_init(pool, 9, pool + 9, 9, pool + 18, 9, pool + 27, 9); /* dropped */
+    xaplain_check(pool, 9, pool + 9, 9, pool + 18, 9, pool + 27, 9); /* dropped */
+    xaplain_run(pool, 9, pool + 9, 9, pool + 18, 9, pool + 27, 9, bytes, 64, replies, 64); /* dropped */
     return 1;
 }
 

@@ -90,6 +90,23 @@ static int job_passes(uint32_t matched, uint32_t unread, uint32_t total, double 
            xapool_gate(XAPOOL_UNREAD_AT_MOST, 0, most, unread, total).number == 1;
 }
 
+/* A second opinion: the plain engine */
+
+/* Runs a batch that the tree has run on a plain list as well: whether it says the same, but for the counts of load and find.
+ * The list is four rows of so many words, which were initialised when the pool was and ran every batch since. A reply with
+ * 11, or with 13 of the tree, cannot be compared: 0 then, too. */
+static int says_the_same(uint64_t *rows, size_t room, const xapool_batch *batch, const uint8_t *by_tree, uint8_t *space, size_t bytes)
+{
+    xapool_result r = xaplain_run(rows, room, rows + room, room, rows + 2 * room, room, rows + 3 * room, room, batch->bytes,
+                                  batch->used, space, bytes);
+    if (r.answer != XAPOOL_DONE)
+        return 0;
+    for (size_t i = 0; i < r.number; i++) /* the count is last, and is 0 but for load and find */
+        if (memcmp(by_tree + XAPOOL_REPLIES(i), space + XAPOOL_REPLIES(i), XAPOOL_AT_COUNT) != 0)
+            return 0;
+    return 1;
+}
+
 /* Before you sign */
 
 typedef struct run {
@@ -451,6 +468,27 @@ static void halves(void)
     CHECK(!split(pool, copy, WORDS, &entry));
 }
 
+static void second_opinion(void)
+{
+    static uint64_t rows[4][2];
+    static uint8_t space[XAPOOL_REPLIES(8)];
+    xapool_batch batch = xapool_batch_over(bytes, sizeof bytes);
+    CHECK(xapool_init(pool, WORDS).answer == XAPOOL_DONE);
+    CHECK(xaplain_init(rows[0], 2, rows[1], 2, rows[2], 2, rows[3], 2).answer == XAPOOL_DONE);
+    CHECK(xapool_put_store(&batch, 64, 3, 5) && xapool_put_reserve(&batch, 7) && xapool_put_load(&batch, 71));
+    CHECK(xapool_put_find(&batch, 0, UINT64_MAX, XAPOOL_FIND_ANY, 1000) && xapool_put_mark(&batch, 64, 1));
+    CHECK(xapool_run(pool, WORDS, bytes, batch.used, replies, sizeof replies).number == 5);
+    CHECK(says_the_same(rows[0], 2, &batch, replies, space, sizeof space));
+    CHECK(rows[0][0] == 7 && rows[0][1] == 64 && rows[1][1] == 3 && rows[2][0] == XAPOOL_RESERVED_WORD && rows[3][1] == 2);
+    batch = xapool_batch_over(bytes, sizeof bytes);
+    CHECK(xapool_put_load(&batch, 64) && xapool_run(pool, WORDS, bytes, batch.used, replies, sizeof replies).number == 1);
+    CHECK(says_the_same(rows[0], 2, &batch, replies, space, sizeof space));
+    rows[2][1] = 9; /* another word than the tree's */
+    CHECK(!says_the_same(rows[0], 2, &batch, replies, space, sizeof space));
+    rows[0][0] = 65; /* no list */
+    CHECK(!says_the_same(rows[0], 2, &batch, replies, space, sizeof space));
+}
+
 int main(void)
 {
     if (!freopen("/dev/null", "w", stderr)) /* what the recipes say where they must fail */
@@ -460,6 +498,7 @@ int main(void)
     room();
     comparison();
     written();
+    second_opinion();
     signature();
     whole_batches();
     large_pools();

@@ -13,6 +13,7 @@
 
 static uint64_t pool[XAPOOL_WORDS(XAPOOL_MAX_NODES)];
 static uint8_t bytes[XAPOOL_BATCH_BYTES], replies[XAPOOL_REPLIES(XAPOOL_MAX_COMMANDS)];
+static uint64_t rows[4][XAPLAIN_ENTRIES_MAX]; /* the plain engine's slices */
 static uint8_t list[XAPOOL_LISTING(64 * XAPOOL_MAX_NODES)]; /* more entries than any pool has */
 
 /* A call that must be done; gives its number. */
@@ -51,11 +52,37 @@ static void list_the_last_index(void)
         exit(1);
 }
 
+/* A batch by the plain engine, with all the room that there is. */
+static uint64_t run_plain(const xapool_batch *b)
+{
+    const size_t n = XAPLAIN_ENTRIES_MAX;
+    must(xaplain_check(rows[0], n, rows[1], n, rows[2], n, rows[3], n));
+    return must(xaplain_run(rows[0], n, rows[1], n, rows[2], n, rows[3], n, b->bytes, b->used, replies, sizeof replies));
+}
+
+/* Filled to the last place, each entry before the others, so that each store moves all of them. */
+static uint64_t fill_plain(void)
+{
+    const size_t n = XAPLAIN_ENTRIES_MAX;
+    uint64_t index = 2 * n, ran = 0;
+    must(xaplain_init(rows[0], n, rows[1], n, rows[2], n, rows[3], n));
+    while (index > 0) {
+        xapool_batch b = xapool_batch_over(bytes, sizeof bytes);
+        while (index > 0 && xapool_put_store(&b, index - 1, 0, XAPOOL_VALUE(index)))
+            index -= 2;
+        ran += run_plain(&b);
+    }
+    if (rows[2][n - 1] == 0)
+        exit(1);
+    return ran;
+}
+
 static void *calls(void *argument)
 {
     size_t *ran = argument;
     must(xapool_init(pool, XAPOOL_WORDS(XAPOOL_MAX_NODES)));
     list_the_last_index();
+    *ran += fill_plain();
     for (unsigned round = 0; round < 40; round++) {
         xapool_batch b = xapool_batch_over(bytes, sizeof bytes);
         for (unsigned i = 0; i < 400; i++)
@@ -63,6 +90,7 @@ static void *calls(void *argument)
                 exit(1);
         *ran += must(xapool_run(pool, XAPOOL_WORDS(XAPOOL_MAX_NODES), b.bytes, b.used, replies, sizeof replies));
         must(xapool_check(pool, XAPOOL_WORDS(XAPOOL_MAX_NODES)));
+        *ran += run_plain(&b);
         must(xapool_count(b.bytes, b.used));
         *ran += xapool_evidence(b.bytes, b.used, NULL, 0, round).answer == XAPOOL_DONE; /* a batch is no sheet */
         must(xapool_gate(XAPOOL_MATCHED_BETWEEN, 0, 1, round, 40));
@@ -106,5 +134,5 @@ int main(void)
     size_t ran = 0, compared = 0, before = used(nothing, &ran), after = used(calls, &ran), most = used(digests, &compared);
     printf("%zu commands used at most %zu bytes of stack\n", ran, after - before);
     printf("%zu digests used at most %zu bytes of stack\n", compared, most - before);
-    return ran < 10000 || compared != 2 || after - before >= SAID || most - before >= SAID_OF_DIGESTS;
+    return ran < 30000 || compared != 2 || after - before >= SAID || most - before >= SAID_OF_DIGESTS;
 }

@@ -1,6 +1,7 @@
 //! Every answer by name, and the refusals of a call.
 
 use crate::layout::{ANCHOR_WORDS, NODE_WORDS};
+use crate::plain::MOST_ENTRIES;
 use crate::pool::MOST_NODES;
 use crate::raw::RawResult;
 use crate::reply::Replies;
@@ -14,9 +15,10 @@ use std::fmt;
 pub enum Answer {
     /// It is done.
     Done = 0,
-    /// Call: no pool of 1 to [`MOST_NODES`] nodes has so many words ([`pool_words`](crate::pool_words)).
+    /// Call: no pool of 1 to [`MOST_NODES`] nodes has so many words ([`pool_words`](crate::pool_words)). Of the plain
+    /// engine: its slices are not of one length, or have more than [`MOST_ENTRIES`] elements.
     PoolLength = 1,
-    /// Call: the words are not those of a pool.
+    /// Call: the words are not those of a pool. Of the plain engine: the slices do not hold a list and then zeros.
     NotWellFormed = 2,
     /// Call: the batch is too long, or has a record that is cut off, or whose tag or length is none.
     BadBatch = 3,
@@ -34,7 +36,8 @@ pub enum Answer {
     NoBudget = 9,
     /// Load, mark, unmark: no entry covers the index. Erase: nor is it reserved.
     Absent = 10,
-    /// Store, reserve: it needs more nodes than are free; nothing is changed.
+    /// Store, reserve: it needs more nodes than are free; nothing is changed. Of the plain engine: the new list would
+    /// have more entries than room.
     TooFewNodes = 11,
     /// Find: nothing more to find.
     Ended = 12,
@@ -124,6 +127,11 @@ pub enum Refusal {
     PoolLength,
     /// The words are not those of a pool: never initialised, or damaged.
     NotWellFormed,
+    /// The slices of a plain list are not of one length, or have more than [`MOST_ENTRIES`] elements. Of saved bytes:
+    /// their head or their length is none of a plain list.
+    SliceLength,
+    /// The slices do not hold a list and then zeros: never initialised, or damaged.
+    NotAList,
     /// The first record that is cut, of unknown tag or of wrong length begins at this place;
     /// [`MOST_BATCH_BYTES`](crate::MOST_BATCH_BYTES) if the batch is too long.
     BadBatch {
@@ -165,6 +173,15 @@ impl Refusal {
         }
     }
 
+    /// The same for the plain engine: what answers 1 and 2 say is of its slices.
+    pub(crate) fn unless_plain_done(result: RawResult) -> Result<u64, Refusal> {
+        Refusal::unless_done(result).map_err(|refusal| match refusal {
+            Refusal::PoolLength => Refusal::SliceLength,
+            Refusal::NotWellFormed => Refusal::NotAList,
+            other => other,
+        })
+    }
+
     /// The same for a list: the entries, or the refusal. It has no batch.
     pub(crate) fn unless_listed(result: RawResult) -> Result<u64, Refusal> {
         let RawResult { answer, number } = result;
@@ -179,8 +196,8 @@ impl Refusal {
     /// The answer by name, where it is one.
     pub fn answer(self) -> Option<Answer> {
         match self {
-            Refusal::PoolLength => Some(Answer::PoolLength),
-            Refusal::NotWellFormed => Some(Answer::NotWellFormed),
+            Refusal::PoolLength | Refusal::SliceLength => Some(Answer::PoolLength),
+            Refusal::NotWellFormed | Refusal::NotAList => Some(Answer::NotWellFormed),
             Refusal::BadBatch { .. } => Some(Answer::BadBatch),
             Refusal::ReplySpace { .. } | Refusal::ListSpace { .. } => Some(Answer::ReplySpace),
             Refusal::FirstAboveLast => Some(Answer::FirstAboveLast),
@@ -194,6 +211,10 @@ impl fmt::Display for Refusal {
         match self {
             Refusal::PoolLength => Answer::PoolLength.fmt(f),
             Refusal::NotWellFormed => Answer::NotWellFormed.fmt(f),
+            Refusal::SliceLength => {
+                write!(f, "the four slices are not of one length, or above {MOST_ENTRIES} entries")
+            }
+            Refusal::NotAList => f.write_str("the slices do not hold a list and then zeros"),
             Refusal::BadBatch { place } => write!(f, "{} (at byte {place})", Answer::BadBatch),
             Refusal::ReplySpace { commands } => {
                 write!(f, "{} ({commands} commands)", Answer::ReplySpace)

@@ -24,7 +24,8 @@
 //! call that the library refuses is a [`Refusal`]: nothing ran. [`Pool::save`] and [`Pool::load`] keep a
 //! pool in a file with a digest. [`compare`] says whether two regions match, and [`Crc32c`] is their
 //! digest. [`evidence`] is the text that a base sheet or its supplement has of a region. A [`Gate`] says
-//! whether a share of the job is within its limits. A record that is not there is never a match: see 'Before you sign' in docs/HOST.md and
+//! whether a share of the job is within its limits. A [`Plain`] runs the same commands as a pool on a sorted run of entries that
+//! can be read at a glance; [`Engine`] is either. A record that is not there is never a match: see 'Before you sign' in docs/HOST.md and
 //! examples/inspection.rs. Nothing here panics, whatever it is given, but for an index past the end of
 //! [`Replies`]; `unsafe` is in [`raw`] alone.
 
@@ -33,12 +34,14 @@
 mod answer;
 mod batch;
 mod command;
+mod engine;
 mod evidence;
 mod file;
 mod find;
 mod gate;
 pub mod layout;
 mod list;
+mod plain;
 mod pool;
 pub mod raw;
 mod region;
@@ -54,6 +57,7 @@ pub use batch::{
     MOST_BATCH_BYTES, PROGRAM_BATCH_BYTES,
 };
 pub use command::{Command, Tag, FIND_ANY, MOST_ORDER};
+pub use engine::Engine;
 pub use evidence::{
     evidence, put_evidence, MalformedSheet, Sheet, TextTooLong, EVIDENCE_TAG, MOST_TEXT_BYTES,
 };
@@ -61,6 +65,7 @@ pub use file::FileError;
 pub use find::{Finds, MOST_FINDS};
 pub use gate::{floats_are_ieee, Gate, GateRefusal};
 pub use list::{BadListed, ListFault, Listing, LISTED_BYTES};
+pub use plain::{Plain, MOST_ENTRIES, PLAIN_FILE};
 pub use pool::{
     bytes_of_words, node_count, nodes_for, pool_words, words_of_bytes, Pool, MOST_NODES,
 };

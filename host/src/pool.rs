@@ -1,13 +1,14 @@
 //! A pool that owns or borrows its words.
 
 use crate::answer::{Refusal, RefusedBatch};
-use crate::batch::{BatchBuilder, Batches};
+use crate::batch::BatchBuilder;
 use crate::command::Command;
+use crate::engine::{ran, Engine};
 use crate::find::{ends, Finds};
 use crate::layout::{node_place, ANCHOR_WORDS, NODE_WORDS, SLOTS};
 use crate::list::{Listing, LISTED_BYTES};
 use crate::raw;
-use crate::reply::{Replies, REPLY_BYTES};
+use crate::reply::Replies;
 use std::ops::RangeBounds;
 
 /// A pool has at most so many nodes.
@@ -62,21 +63,6 @@ pub fn words_of_bytes(bytes: &[u8]) -> Option<Vec<u64>> {
     let words = bytes.chunks_exact(8);
     let word = |bytes: &[u8]| bytes.iter().rev().fold(0, |word, byte| word << 8 | u64::from(*byte));
     words.remainder().is_empty().then(|| words.map(word).collect())
-}
-
-/// Runs the batches one after another, up to the first that is refused.
-pub(crate) fn run_each(
-    batches: &Batches,
-    mut run: impl FnMut(&BatchBuilder) -> Result<Replies, Refusal>,
-) -> Result<Replies, RefusedBatch> {
-    let mut replies = Replies::default();
-    for (number, batch) in batches.iter().enumerate() {
-        match run(batch) {
-            Ok(more) => replies.append(more),
-            Err(refusal) => return Err(RefusedBatch { refusal, batch: number, replies }),
-        }
-    }
-    Ok(replies)
 }
 
 #[derive(Debug)]
@@ -140,14 +126,7 @@ impl<'a> Pool<'a> {
 
     /// Runs a batch and gives its replies, one for each command.
     pub fn run(&mut self, batch: &BatchBuilder) -> Result<Replies, Refusal> {
-        let mut space = vec![0; REPLY_BYTES * batch.len()];
-        let commands = self.run_bytes(batch.bytes(), &mut space)?;
-        // The library answers every command, and with good replies; anything else would be told here.
-        let unexpected = |number: usize| Refusal::Unexpected { answer: 0, number: number as u64 };
-        if commands != batch.len() {
-            return Err(unexpected(commands));
-        }
-        Replies::read(&space).map_err(|bad| unexpected(bad.place))
+        Engine::run(self, batch)
     }
 
     /// Runs any number of commands, as many batches as they need, and gives all replies, which know the
@@ -168,12 +147,7 @@ impl<'a> Pool<'a> {
     where
         T: IntoIterator<Item = Command>,
     {
-        let batches: Batches = commands.into_iter().collect();
-        if batches.is_empty() {
-            let refused = |refusal| RefusedBatch { refusal, batch: 0, replies: Replies::default() };
-            return self.check().map_err(refused).map(|()| Replies::default());
-        }
-        run_each(&batches, |batch| self.run(batch))
+        Engine::run_all(self, commands)
     }
 
     /// Every entry that meets the range and has the mark `filter`, or any with
@@ -247,10 +221,7 @@ impl<'a> Pool<'a> {
     /// Runs the bytes of a batch, whatever they are, into this reply space; gives how many
     /// commands ran, each with 24 bytes of replies.
     pub fn run_bytes(&mut self, batch: &[u8], reply: &mut [u8]) -> Result<usize, Refusal> {
-        let commands = Refusal::unless_done(raw::run(self.words_mut(), batch, reply))?;
-        let fits =
-            usize::try_from(commands).ok().filter(|count| *count <= reply.len() / REPLY_BYTES);
-        fits.ok_or(Refusal::Unexpected { answer: 0, number: commands })
+        ran(Refusal::unless_done(raw::run(self.words_mut(), batch, reply))?, reply)
     }
 
     /// How many nodes it has; none if no pool has so many words.
@@ -297,5 +268,19 @@ impl<'a> Pool<'a> {
             Words::Owned(words) => words,
             Words::Borrowed(words) => words.to_vec(),
         }
+    }
+}
+
+impl Engine for Pool<'_> {
+    fn init(&mut self) -> Result<(), Refusal> {
+        Pool::init(self)
+    }
+
+    fn check(&self) -> Result<(), Refusal> {
+        Pool::check(self)
+    }
+
+    fn run_bytes(&mut self, batch: &[u8], reply: &mut [u8]) -> Result<usize, Refusal> {
+        Pool::run_bytes(self, batch, reply)
     }
 }

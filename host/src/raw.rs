@@ -74,6 +74,40 @@ extern "C" {
         index: u64,
     ) -> RawPart;
     fn xapool_gate(kind: u64, a: f64, b: f64, part: u32, total: u32) -> RawResult;
+    fn xaplain_init(
+        index: *mut u64,
+        index_words: usize,
+        order: *mut u64,
+        order_words: usize,
+        word: *mut u64,
+        word_words: usize,
+        marks: *mut u64,
+        marks_words: usize,
+    ) -> RawResult;
+    fn xaplain_check(
+        index: *const u64,
+        index_words: usize,
+        order: *const u64,
+        order_words: usize,
+        word: *const u64,
+        word_words: usize,
+        marks: *const u64,
+        marks_words: usize,
+    ) -> RawResult;
+    fn xaplain_run(
+        index: *mut u64,
+        index_words: usize,
+        order: *mut u64,
+        order_words: usize,
+        word: *mut u64,
+        word_words: usize,
+        marks: *mut u64,
+        marks_words: usize,
+        batch: *const u8,
+        batch_bytes: usize,
+        reply: *mut u8,
+        reply_bytes: usize,
+    ) -> RawResult;
 }
 
 /// Makes the words an empty pool, whatever stood there.
@@ -141,4 +175,62 @@ pub fn evidence(base: &[u8], supplement: &[u8], index: u64) -> RawPart {
 pub fn gate(kind: u64, a: f64, b: f64, part: u32, total: u32) -> RawResult {
     // SAFETY: numbers alone.
     unsafe { xapool_gate(kind, a, b, part, total) }
+}
+
+/// Makes the four slices of the plain engine (index, order, word, marks) an empty list, whatever stood there.
+pub fn plain_init(slices: [&mut [u64]; 4]) -> RawResult {
+    let [index, order, word, marks] = slices;
+    // SAFETY: four slices borrowed for the call, each of them alone.
+    unsafe {
+        xaplain_init(
+            index.as_mut_ptr(),
+            index.len(),
+            order.as_mut_ptr(),
+            order.len(),
+            word.as_mut_ptr(),
+            word.len(),
+            marks.as_mut_ptr(),
+            marks.len(),
+        )
+    }
+}
+
+/// Whether the four slices of the plain engine hold a list and then zeros.
+pub fn plain_check(slices: [&[u64]; 4]) -> RawResult {
+    let [index, order, word, marks] = slices;
+    // SAFETY: four slices borrowed for the call, which only reads.
+    unsafe {
+        xaplain_check(
+            index.as_ptr(),
+            index.len(),
+            order.as_ptr(),
+            order.len(),
+            word.as_ptr(),
+            word.len(),
+            marks.as_ptr(),
+            marks.len(),
+        )
+    }
+}
+
+/// Runs a batch by the plain engine; the replies go into `reply`.
+pub fn plain_run(slices: [&mut [u64]; 4], batch: &[u8], reply: &mut [u8]) -> RawResult {
+    let [index, order, word, marks] = slices;
+    // SAFETY: six slices borrowed for the call; the five that are written are borrowed alone.
+    unsafe {
+        xaplain_run(
+            index.as_mut_ptr(),
+            index.len(),
+            order.as_mut_ptr(),
+            order.len(),
+            word.as_mut_ptr(),
+            word.len(),
+            marks.as_mut_ptr(),
+            marks.len(),
+            batch.as_ptr(),
+            batch.len(),
+            reply.as_mut_ptr(),
+            reply.len(),
+        )
+    }
 }

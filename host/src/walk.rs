@@ -3,8 +3,8 @@
 use crate::answer::{Answer, Error};
 use crate::batch::BatchBuilder;
 use crate::command::Command;
+use crate::engine::Engine;
 use crate::find::ends;
-use crate::pool::Pool;
 use crate::reply::{Entry, Reply};
 use std::ops::RangeBounds;
 
@@ -33,7 +33,7 @@ use std::ops::RangeBounds;
 /// ```
 ///
 /// For a find in a batch of one's own, with other commands before it and after it, put [`Walk::find`]
-/// there and give its reply to [`Walk::read`]. [`Pool::find`] holds the pool and needs fewer batches.
+/// there and give its reply to [`Walk::read`]. [`Pool::find`](crate::Pool::find) holds the pool and needs fewer batches.
 #[derive(Clone, Debug)]
 pub struct Walk {
     rest: Option<(u64, u64)>,
@@ -77,7 +77,7 @@ impl Walk {
     }
 
     /// The next entry, over as many pauses as there are; none if the walk is over.
-    pub fn next_in(&mut self, pool: &mut Pool) -> Result<Option<Entry>, Error> {
+    pub fn next_in(&mut self, pool: &mut impl Engine) -> Result<Option<Entry>, Error> {
         while let Some(find) = self.find() {
             let mut batch = BatchBuilder::new();
             // There is room for one.

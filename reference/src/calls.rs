@@ -13,7 +13,7 @@ pub struct Outcome {
     pub number: u64,
 }
 
-fn outcome(answer: u8, number: usize) -> Outcome {
+pub(crate) fn outcome(answer: u8, number: usize) -> Outcome {
     Outcome { answer: u64::from(answer), number: number as u64 }
 }
 

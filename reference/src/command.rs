@@ -59,7 +59,7 @@ pub fn needed_to_reserve(state: &State, index: u64) -> Option<usize> {
 }
 
 /// Answer 14 stands between 5 and 6 (request P4).
-fn store_refusal(index: u64, order: u8, word: u64) -> Option<u8> {
+pub(crate) fn store_refusal(index: u64, order: u8, word: u64) -> Option<u8> {
     if order > 63 {
         Some(BAD_ORDER)
     } else if !is_aligned(index, order) {
@@ -71,7 +71,7 @@ fn store_refusal(index: u64, order: u8, word: u64) -> Option<u8> {
     }
 }
 
-fn find_refusal(first: u64, last: u64, filter: u8, budget: u16) -> Option<u8> {
+pub(crate) fn find_refusal(first: u64, last: u64, filter: u8, budget: u16) -> Option<u8> {
     if filter > ANY_ENTRY {
         Some(BAD_MARK)
     } else if first > last {
@@ -152,12 +152,12 @@ fn find_reply(state: &State, first: u64, last: u64, filter: u8, budget: u16) -> 
 }
 
 /// A reply that gives this answer and nothing else.
-fn only(answer: u8) -> Reply {
+pub(crate) fn only(answer: u8) -> Reply {
     Reply { answer, ..Reply::default() }
 }
 
 /// A reply that gives an entry with its base; of a reservation the base alone.
-fn giving(entry: Entry) -> Reply {
+pub fn giving(entry: Entry) -> Reply {
     let Entry { base, order, word, marks } = entry;
     if entry.is_reservation() {
         return Reply { index: base, ..only(DONE) };

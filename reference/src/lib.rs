@@ -15,6 +15,7 @@ pub mod listing;
 pub mod lists;
 pub mod model;
 pub mod part;
+pub mod plain;
 pub mod pool;
 pub mod random;
 pub mod recover;

@@ -34,7 +34,7 @@ pub fn act(name: &str, words: &[OsString]) -> Result<(), Failure> {
             words,
             &[("--all", false), ("--mark", true), ("--budget", true), ("--json", false)],
         )?),
-        "new" => pool_file::create(Arguments::of(words, &[])?),
+        "new" => pool_file::create(Arguments::of(words, &[("--plain", false)])?),
         "run" => pool_file::run(Arguments::of(words, &pool_file::RUN_OPTIONS)?),
         "crc" => regions::crc(Arguments::of(words, &[])?),
         "compare" => {

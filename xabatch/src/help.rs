@@ -13,7 +13,9 @@ usage: xabatch encode [--long | --split PREFIX] [FILE]     text to a batch
        xabatch list [OPTIONS] POOLFILE [FIRST..LAST]       the entries of a pool, as evidence
        xabatch find [OPTIONS] POOLFILE [FIRST..LAST]       the entries of a pool with a mark, the first or all
        xabatch new NODES [POOLFILE]                        an empty pool of 1 to 16,384 nodes
+       xabatch new --plain ENTRIES [FILE]                  an empty plain list with room for 0 to 4,096 entries
        xabatch run [OPTIONS] POOLFILE [FILE]               a batch on a pool file; replies to standard output
+       xabatch run --plain [OPTIONS] PLAINFILE [FILE]      the same on a plain list, by the plain engine
        xabatch crc [FILE..]                                the digest CRC-32C of each file
        xabatch compare [OPTIONS] OLD NEW                   whether two files match: before you erase one
        xabatch evidence BASE SUPPLEMENT INDEX              the text that was written about an index
@@ -111,6 +113,9 @@ held, and there is no entry. The pool is only read.
   4096 order 3 handle 0x1000 marks - the 2^3 indices from 4096 on, no mark is set
   4104 reserved                      index 4104 is held
 
+The file may also be a plain list (see 'xabatch help new'): its entries are read from its own rows, which
+the library checks first.
+
   --bytes   the list as the library gives it, 21 bytes an entry: tag 32, length 18 (2 bytes), index
             (8), order, entry (8), marks, each number highest byte first; entry 0 is a reserved
             index. Keep it as evidence; 'xabatch decode' writes its lines
@@ -141,6 +146,7 @@ what is wrong.
 
 const NEW: &str = "\
 usage: xabatch new NODES [POOLFILE]
+       xabatch new --plain ENTRIES [PLAINFILE]
 
 Writes an empty pool of 1 to 16,384 nodes to a new file, or to standard output. A file that is there
 already is not touched. A pool file has the pool's 64-bit words in order, each as 8 bytes, lowest
@@ -149,10 +155,14 @@ byte first.
 The file has its name only when it is whole and flushed to disk; then the folder is flushed. A new
 that fails or is killed leaves nothing at that name, or the whole pool. Exit status 3: a flush
 failed; what stands is said.
+
+  --plain   an empty plain list in place of a pool, with room for 0 to 4,096 entries. Its file has 16 + 32 N
+            bytes for N entries: 'xaplain' and a line feed, N, then four rows of N words, lowest byte first:
+            index, order, word and marks of each entry, by rising index, and then zeros
 ";
 
 const RUN: &str = "\
-usage: xabatch run [--no-wait] [--strict] [--json] POOLFILE [FILE]
+usage: xabatch run [--plain] [--no-wait] [--strict] [--json] POOLFILE [FILE]
 
 Runs a batch on a pool file and writes the replies to standard output. In this order: the batch is
 read; the pool file is locked and read; the batch runs in memory; the new pool is written beside the
@@ -161,12 +171,16 @@ the replies are written. Where the batch changes nothing, the file stays, and it
 flushed all the same. So a reply that you read is of a pool that is safe, a run that fails or is
 killed leaves the old pool or the new one, whole, and runs at the same time go one after another.
 
+  --plain     the file is a plain list, as 'xabatch new --plain' makes one, and the plain engine runs the
+              batch: the same replies, but counts of load and find are 0, no find pauses, and 11 ('too few
+              free nodes') says that there is no room for another entry. All else here holds of it too. A
+              file of the other kind is refused: which engine runs is never guessed
   --no-wait   where another run has the lock, fail in place of waiting
   --strict    nothing is kept unless there is a command and each was done: else the exit status is 4
               and standard error names the commands, up to twenty. No reply is written then: a 'done'
               would be of nothing that is in the pool
   --json      in place of the replies a line of JSON: commands, done, not_done, answers (answer, text
-              and replies of each), kept, changed, nodes, in_use, free
+              and replies of each), kept, changed, nodes (of a plain list: room), in_use, free
 
 A command was done if its answer is 0; of a find also 12, ended, and 13, paused. All else was not,
 also a load of what is absent. Without --strict the status is 0 then, and a line on standard error
@@ -208,10 +222,10 @@ of these lines:
   different: from byte 512, where old ends   the other is longer, and the same up to there
   nothing to compare: both are empty         also if one of them is: it is no match
   nothing to compare: one file               OLD is NEW, by a link, a second name or a second device file
-  nothing to compare: both are pools ..      pool files and lists as bytes are an index, not data: that they
-                                             are equal is no evidence, and one of them is enough
+  nothing to compare: both are pools ..      pool files, plain lists and lists as bytes are an index, not data:
+                                             that they are equal is no evidence, and one of them is enough
 
-  --bytes   compares pool files and lists as any other files
+  --bytes   compares pool files, plain lists and lists as any other files
   --json    one object: verdict, why, old and new (bytes and crc32c of each), first_difference
 
 Exit status: 0 matched, and nothing else; 1 different; 2 nothing to compare, or a fault: bad usage, a

@@ -1,12 +1,16 @@
 //! What a file looks like by its bytes.
 
 use std::fmt;
-use xapool_host::{pool_words, Command, Entry, Pool, Records, LISTED_BYTES, MOST_NODES};
+use xapool_host::{
+    pool_words, Command, Entry, Plain, Pool, Records, LISTED_BYTES, MOST_ENTRIES, MOST_NODES,
+    PLAIN_FILE,
+};
 
 /// What is told apart from data.
 #[derive(Clone, Copy, Debug, PartialEq, Eq)]
 pub enum FileKind {
     Pool,
+    Plain,
     List,
     Batch,
     Replies,
@@ -17,6 +21,7 @@ impl fmt::Display for FileKind {
     fn fmt(&self, f: &mut fmt::Formatter) -> fmt::Result {
         f.write_str(match self {
             FileKind::Pool => "a pool file ('xabatch show' and 'xabatch list' read it)",
+            FileKind::Plain => "a plain list ('xabatch list' and 'xabatch run --plain' read it)",
             FileKind::List => "a list as bytes ('xabatch decode' reads it)",
             FileKind::Batch => "a batch ('xabatch decode' and 'xabatch run' read it)",
             FileKind::Replies => "replies ('xabatch decode' reads them)",
@@ -32,6 +37,9 @@ impl FileKind {
     /// By the first bytes of a file: a guess for a message, and no more.
     #[must_use]
     pub fn guess(start: &[u8]) -> Option<FileKind> {
+        if start.starts_with(&PLAIN_FILE) {
+            return Some(FileKind::Plain);
+        }
         if begins_a_pool(start) {
             return Some(FileKind::Pool);
         }
@@ -69,19 +77,21 @@ fn is_text(start: &[u8]) -> bool {
     start.iter().any(u8::is_ascii_graphic) && start.iter().all(plain)
 }
 
-/// Looks at a file as it goes by in pieces, and tells at the end whether it is a pool, by the library's
-/// own check, or a list.
+/// Looks at a file as it goes by in pieces, and tells at the end whether it is a pool or a plain list, by the
+/// library's own checks, or a list.
 #[derive(Clone, Debug)]
 pub struct Sniffer {
     /// All bytes so far, while they may be those of a pool: no more than a pool has, and a piece.
     pool: Option<Vec<u8>>,
+    /// The same, while they may be those of a plain list.
+    plain: Option<Vec<u8>>,
     /// How many bytes went by, while all may be those of a list.
     list: Option<usize>,
 }
 
 impl Default for Sniffer {
     fn default() -> Sniffer {
-        Sniffer { pool: Some(Vec::new()), list: Some(0) }
+        Sniffer { pool: Some(Vec::new()), plain: Some(Vec::new()), list: Some(0) }
     }
 }
 
@@ -89,6 +99,13 @@ impl Sniffer {
     pub fn take(&mut self, piece: &[u8]) {
         self.list = self.list.filter(|seen| goes_on_as_list(*seen, piece));
         self.list = self.list.map(|seen| seen + piece.len());
+        if let Some(bytes) = &mut self.plain {
+            bytes.extend(piece);
+            let start = bytes.len().min(PLAIN_FILE.len());
+            if bytes[..start] != PLAIN_FILE[..start] || bytes.len() > MOST_PLAIN_BYTES {
+                self.plain = None;
+            }
+        }
         if let Some(bytes) = &mut self.pool {
             bytes.extend(piece);
             let most = word(bytes, 0).map_or(Some(8), pool_bytes);
@@ -105,9 +122,16 @@ impl Sniffer {
         if self.pool.as_ref().is_some_and(is_pool) {
             return Some(FileKind::Pool);
         }
+        let is_plain = |bytes: &Vec<u8>| Plain::from_bytes(bytes).is_ok();
+        if self.plain.as_ref().is_some_and(is_plain) {
+            return Some(FileKind::Plain);
+        }
         self.list.is_some_and(|seen| seen >= LISTED_BYTES).then_some(FileKind::List)
     }
 }
+
+/// No plain list has more bytes.
+const MOST_PLAIN_BYTES: usize = 16 + 32 * MOST_ENTRIES;
 
 /// Each record of a list begins with its tag and length; so many bytes of it went by.
 fn goes_on_as_list(seen: usize, piece: &[u8]) -> bool {

@@ -8,6 +8,7 @@ mod failure;
 mod files;
 mod gate;
 mod help;
+mod kept;
 mod os;
 mod pool_file;
 mod regions;

@@ -1,9 +1,10 @@
-//! The commands that write a pool file: a new one, and a batch run on one.
+//! The commands that write a pool file or a plain list: a new one, and a batch run on one.
 
 use crate::args::{Arguments, Known};
 use crate::commands::decode::bad_record;
 use crate::failure::{malformed, usage, Failure, NOT_DONE, NOT_FLUSHED};
 use crate::files::{self, of_file, MOST_POOL_BYTES};
+use crate::kept::Kept;
 use std::ffi::{OsStr, OsString};
 use std::path::Path;
 use xabatch::decode::{command_at, Bad};
@@ -12,20 +13,19 @@ use xabatch::kind::FileKind;
 use xabatch::locked::{self, KeepError, LockedFile, Locking};
 use xabatch::progress::Progress;
 use xabatch::tally::{is_done, Tally};
-use xapool_host::{split_batches, Commands, Pool, Refusal, Reply, REPLY_BYTES};
+use xapool_host::{split_batches, Commands, Engine, Refusal, Reply, REPLY_BYTES};
 
-pub const RUN_OPTIONS: [Known; 3] = [("--no-wait", false), ("--strict", false), ("--json", false)];
+pub const RUN_OPTIONS: [Known; 4] =
+    [("--plain", false), ("--no-wait", false), ("--strict", false), ("--json", false)];
 
 /// So many commands that were not done are named one by one.
 const MOST_NAMED: usize = 20;
 
-/// `new`: an empty pool.
+/// `new`: an empty pool, or an empty plain list.
 pub fn create(arguments: Arguments) -> Result<(), Failure> {
     let words = arguments.between(1, 2)?;
-    let nodes = words[0].to_string_lossy();
-    let count = nodes.parse().map_err(|_| usage(format!("'{nodes}' is no number of nodes")))?;
-    let pool = Pool::new(count).map_err(|refusal| usage(format!("{nodes} nodes: {refusal}")))?;
-    let bytes = pool.to_bytes();
+    let kept = Kept::new(&words[0].to_string_lossy(), arguments.has("--plain"))?;
+    let bytes = kept.to_bytes();
     match words.get(1) {
         None => files::write(&bytes),
         Some(file) if file == "-" => files::write(&bytes),
@@ -44,21 +44,20 @@ fn not_kept(file: &OsStr, error: &KeepError) -> Failure {
     failure
 }
 
-/// `run`: a batch on a pool file.
+/// `run`: a batch on a pool file, or on a plain list.
 pub fn run(arguments: Arguments) -> Result<(), Failure> {
     let job = Job::of(&arguments)?;
     let file = &job.file;
     let failed = |error| of_file(file, error);
     let mut locked = LockedFile::open(Path::new(file), job.locking).map_err(failed)?;
     let bytes = files::no_longer(file, locked.read(MOST_POOL_BYTES).map_err(failed)?)?;
-    let words = files::words_of(file, &bytes)?;
-    let mut pool = Pool::from_words(words.clone());
-    let outcome = job.run(&mut pool, words)?;
+    let mut kept = Kept::of(file, &bytes, job.plain)?;
+    let outcome = job.run(&mut kept, &bytes)?;
     // After this the lock is free: who reads what is written may be slow.
-    outcome.keep(locked, &pool).map_err(|error| not_kept(file, &error))?;
+    outcome.keep(locked, &kept).map_err(|error| not_kept(file, &error))?;
     job.complain_of(&outcome);
     let written = match (job.json, outcome.kept) {
-        (true, _) => outcome.write(outcome.json(&pool).as_bytes()),
+        (true, _) => outcome.write(outcome.json(&kept).as_bytes()),
         (false, true) => outcome.write(&outcome.replies),
         // A 'done' would be of nothing that is in the pool.
         (false, false) => Ok(()),
@@ -79,6 +78,7 @@ struct Job {
     batch_file: OsString,
     batch: Vec<u8>,
     locking: Locking,
+    plain: bool,
     strict: bool,
     json: bool,
 }
@@ -96,14 +96,15 @@ impl Job {
         let batch = files::read(&batch_file)?;
         let no_wait = arguments.has("--no-wait");
         let locking = if no_wait { Locking::Refuse } else { Locking::Wait };
-        let (strict, json) = (arguments.has("--strict"), arguments.has("--json"));
-        Ok(Job { file, batch_file, batch, locking, strict, json })
+        let [plain, strict, json] =
+            ["--plain", "--strict", "--json"].map(|name| arguments.has(name));
+        Ok(Job { file, batch_file, batch, locking, plain, strict, json })
     }
 
-    /// Runs the batch in memory, on a pool that has these words; it has them again if nothing is to
-    /// be kept.
-    fn run(&self, pool: &mut Pool, before: Vec<u64>) -> Result<Outcome, Failure> {
-        let replies = run_batches(pool, &self.batch).map_err(|refusal| match refusal {
+    /// Runs the batch in memory, on what the file's bytes are; it is that again if nothing is to be kept.
+    fn run(&self, kept: &mut Kept, before: &[u8]) -> Result<Outcome, Failure> {
+        let replies = run_batches(kept.engine(), before.len(), &self.batch);
+        let replies = replies.map_err(|refusal| match refusal {
             Refusal::BadBatch { place } => bad_batch(&self.batch_file, &self.batch, place),
             _ => of_file(&self.file, refusal),
         })?;
@@ -111,12 +112,12 @@ impl Job {
         // Cannot be: the library is proved to write replies. Is it the right one?
         let read = read.ok_or_else(|| of_file(&self.file, "the library gave what is no reply"))?;
         let tally: Tally = read.iter().collect();
-        let kept = !self.strict || tally.is_all_done();
-        let changed = kept && pool.words() != before;
-        if !kept {
-            *pool = Pool::from_words(before);
+        let is_kept = !self.strict || tally.is_all_done();
+        let changed = is_kept && kept.to_bytes() != before;
+        if !is_kept {
+            *kept = Kept::of(&self.file, before, self.plain)?;
         }
-        Ok(Outcome { replies, tally, kept, changed })
+        Ok(Outcome { replies, tally, kept: is_kept, changed })
     }
 
     /// Says how many commands were not done and, where nothing is kept for that, which.
@@ -134,23 +135,26 @@ impl Job {
     }
 }
 
-/// Runs a batch, or a longer row of records as several; gives all replies.
-fn run_batches(pool: &mut Pool, records: &[u8]) -> Result<Vec<u8>, Refusal> {
+/// Runs a batch, or a longer row of records as several, on what has so many bytes; gives all replies.
+fn run_batches(
+    engine: &mut dyn Engine,
+    kept_bytes: usize,
+    records: &[u8],
+) -> Result<Vec<u8>, Refusal> {
     // A pool that cannot be used is told before a batch that cannot.
-    pool.check()?;
+    engine.check()?;
     let batches = split_batches(records)?;
     // With each batch the library reads the whole pool.
-    let pool_bytes = 8 * pool.words().len();
-    let work = records.len() + batches.len() * pool_bytes;
+    let work = records.len() + batches.len() * kept_bytes;
     let mut progress = Progress::of(Some(work as u64));
     let mut replies = Vec::new();
     for batch in batches {
         let start = replies.len();
         // The shortest record has 11 bytes, so this is space enough for any batch.
         replies.resize(start + REPLY_BYTES * (batch.len() / 11 + 1), 0);
-        let commands = pool.run_bytes(batch, &mut replies[start..])?;
+        let commands = engine.run_bytes(batch, &mut replies[start..])?;
         replies.truncate(start + REPLY_BYTES * commands);
-        progress.add(batch.len() + pool_bytes);
+        progress.add(batch.len() + kept_bytes);
     }
     Ok(replies)
 }
@@ -166,7 +170,7 @@ fn bad_batch(file: &OsStr, batch: &[u8], place: u64) -> Failure {
     }
 }
 
-/// What a batch did to a pool in memory.
+/// What a batch did in memory.
 struct Outcome {
     replies: Vec<u8>,
     tally: Tally,
@@ -177,10 +181,10 @@ struct Outcome {
 }
 
 impl Outcome {
-    /// The pool's file and folder are on disk after this, changed or not; the lock is free.
-    fn keep(&self, locked: LockedFile, pool: &Pool) -> Result<(), KeepError> {
+    /// The file and its folder are on disk after this, changed or not; the lock is free.
+    fn keep(&self, locked: LockedFile, kept: &Kept) -> Result<(), KeepError> {
         match self.changed {
-            true => locked.replace(&pool.to_bytes()),
+            true => locked.replace(&kept.to_bytes()),
             false => locked.flush(),
         }
     }
@@ -197,21 +201,17 @@ impl Outcome {
         })
     }
 
-    /// One line; the pool is the one that the file has now.
-    fn json(&self, pool: &Pool) -> String {
+    /// One line; what is kept is what the file has now.
+    fn json(&self, kept: &Kept) -> String {
         let (replies, not_done) = (self.tally.replies(), self.tally.not_done());
-        let (nodes, in_use) = (pool.nodes().unwrap_or(0), pool.nodes_in_use());
         let object = Object::new()
             .with("commands", replies)
             .with("done", replies - not_done)
             .with("not_done", not_done)
             .with("answers", self.tally.answers_json())
             .with("kept", self.kept)
-            .with("changed", self.changed)
-            .with("nodes", nodes)
-            .with("in_use", in_use)
-            .with("free", nodes.saturating_sub(in_use));
-        format!("{}\n", object.end())
+            .with("changed", self.changed);
+        format!("{}\n", kept.json(object).end())
     }
 }
 

@@ -170,7 +170,11 @@ fn found(pieces: Pieces, kinds: [Option<FileKind>; 2], as_bytes: bool) -> Found 
 
 fn index_text(kinds: [Option<FileKind>; 2]) -> Option<String> {
     let name = |kind: Option<FileKind>| {
-        Some(if kind? == FileKind::Pool { ("a pool", "pools") } else { ("a list", "lists") })
+        Some(match kind? {
+            FileKind::Pool => ("a pool", "pools"),
+            FileKind::Plain => ("a plain list", "plain lists"),
+            _ => ("a list", "lists"),
+        })
     };
     let which = match kinds.map(name) {
         [None, None] => return None,

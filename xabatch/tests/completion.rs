@@ -34,7 +34,9 @@ fn commands_options_and_files_are_offered() {
         std::fs::write(folder.path(name), []).expect("written");
     }
     let none: [&str; 0] = [];
-    let cases: [(&[&str], &[&str]); 10] = [
+    let cases: [(&[&str], &[&str]); 12] = [
+        (&["run", "--p"], &["--plain"]),
+        (&["new", "--"], &["--help", "--plain"]),
         (&["comp"], &["compare"]),
         (&["e"], &["encode", "evidence"]),
         (&["--v"], &["--version"]),

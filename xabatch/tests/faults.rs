@@ -113,6 +113,8 @@ impl Place {
 
 /// The old pool, a batch that changes it, the pool after that, and a batch to go on with.
 struct Job {
+    /// Of each run.
+    options: &'static [&'static str],
     old: Vec<u8>,
     new: Vec<u8>,
     batch: Vec<u8>,
@@ -121,23 +123,34 @@ struct Job {
 
 impl Job {
     fn new() -> Job {
+        Job::of(&[])
+    }
+
+    /// On a plain list.
+    fn plain() -> Job {
+        Job::of(&["--plain"])
+    }
+
+    fn of(options: &'static [&'static str]) -> Job {
         let folder = Folder::new();
-        let pool = folder.pool(3);
-        tool::run(&pool, "store 7 order 0 value 1\n");
+        let (pool, name) = (folder.path("p.pool"), folder.name("p.pool"));
+        assert_eq!(tool(&[&["new"], options, &["3", &name]].concat(), &[]).0, 0);
+        let run = |batch: &[u8]| tool(&[&["run"], options, &[&name]].concat(), batch).0;
+        assert_eq!(run(&batch("store 7 order 0 value 1\n")), 0);
         let old = fs::read(&pool).expect("a pool");
         let batch = batch("store 64 order 0 value 2\nload 7\n");
-        assert_eq!(tool(&["run", &folder.name("p.pool")], &batch).0, 0);
+        assert_eq!(run(&batch), 0);
         let new = fs::read(&pool).expect("a pool");
         assert!(old != new);
         let next = tool::batch("store 9 order 0 value 3\nload 7\n");
-        Job { old, new, batch, next }
+        Job { options, old, new, batch, next }
     }
 
     /// Runs the batch with a fault, on the old pool or once more on the new one; gives the trace, and
     /// holds what is left to the promise.
     fn with_fault(&self, before: &[u8], fault: Fault) -> Trace {
         let place = Place::of(before, &self.batch);
-        let trace = place.run(fault);
+        let trace = place.run_with(self.options, fault);
         self.hold(&place, before, &trace, &format!("{fault:?}"));
         trace
     }
@@ -155,7 +168,9 @@ impl Job {
 
     /// What comes next works, and leaves nothing beside the pool.
     fn goes_on(&self, place: &Place, what: &str) {
-        let (status, replies, errors) = tool(&["run", &place.0.name("p.pool")], &self.next);
+        let name = place.0.name("p.pool");
+        let words = [&["run"], self.options, &[&name]].concat();
+        let (status, replies, errors) = tool(&words, &self.next);
         assert_eq!((status, replies.len()), (0, 48), "{what}: {errors}");
         // Byte 44 is the last of the loaded word, and value 1 the word 3.
         assert_eq!((replies[27], replies[44]), (0, 3), "{what}: the old entry is lost");
@@ -207,6 +222,13 @@ fn lock_read_flush_rename_flush_reply() {
 #[test]
 fn a_fault_at_each_system_call() {
     let job = Job::new();
+    job.at_each_call(&job.old);
+}
+
+/// The list is replaced as a pool is.
+#[test]
+fn a_fault_at_each_system_call_on_a_plain_list() {
+    let job = Job::plain();
     job.at_each_call(&job.old);
 }
 

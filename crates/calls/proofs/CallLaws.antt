@@ -1,69 +1,22 @@
 -- What a run comes to, test by test as the code has them.
 use Prim.Native.Nat.{ℕ, _*_, _≤_, _<_}
-use mathlib.Core.Path.{_≡_, refl, sym, ap, subst, _∙_}
+use mathlib.Core.Path.{_≡_, sym, ap, subst, _∙_}
 use mathlib.Core.Logic.{_≢_}
-use mathlib.Core.List.{List, _++_}
+use mathlib.Core.List.{List}
 use native.Mathlib.Omega.{arith}
-use lib.Dec.{ltb}
-use lib.ListN.{length, drop}
-use borrow.Author.Tests.{eq-eqb, ne-eqb, lt-ltb, le-ltb, ltb-true, ltb-false}
-use Rattle.blocks.proofs.BoolLaws.{byT}
+use lib.ListN.{length}
+use borrow.Author.Tests.{eq-eqb, ne-eqb, lt-ltb, le-ltb}
 use Rattle.layout.specs.Decide.{nodeCount}
 use Rattle.verify.specs.Answers.{checkAnswer}
 use Rattle.verify.proofs.AnswerLaws.{accepted}
-use Rattle.batch.specs.declared.Command.{Command}
 use Rattle.batch.specs.declared.Counted.the-variants.{Commands, Refused}
-use Rattle.batch.specs.Batch.{maxBatch, Parsed, Parsed.commands, Parsed.refused, counted, restAt, parse}
+use Rattle.batch.specs.Batch.{Parsed, counted, parse}
 use Rattle.batch.specs.Reply.{replyBytes}
-use Rattle.batch.proofs.ParseLaws.{parse-long, parse-rest, not-refused}
-use Rattle.words.proofs.WriteLaws.{overwrite-all}
-use Rattle.calls.specs.Calls.{Called, counts, countResult, refuseCall, replies, runParsed, run}
+use Rattle.commands.proofs.BatchesLaws.{Read, was-read, was-refused, replies-all}
+use Rattle.execute.specs.Execute.{execute}
+use Rattle.calls.specs.Calls.{Called, counts, countResult, refuseCall, runParsed, run}
 use Rattle.answers.specs.Answers.{result, badBatch, replySpace, done}
-use Rattle.calls.specs.Running.{Ahead, Ends}
-use Rattle.calls.proofs.RunningLaws.{replies-length}
-
--- A BATCH THAT WAS COUNTED
-pub record Read (bs : List ℕ) (k : ℕ) : Type 0 where
-  pub cs : List Command
-  pub parsed : parse bs ≡ Parsed.commands cs
-  pub rest : restAt bs 0 ≡ Parsed.commands cs
-  pub count : length cs ≡ k
-
-parse-is : (bs : List ℕ) {cs : List Command} → parse bs ≡ Parsed.commands cs → restAt bs 0 ≡ Parsed.commands cs
-parse-is bs e =
-    byT (ltb maxBatch (length bs)) (λ t. absurd (not-refused (sym (parse-long bs (ltb-true _ _ t)) ∙ e)))
-    (λ t. sym (parse-rest bs (ltb-false _ _ t)) ∙ e)
-
-pub was-read : {bs : List ℕ} {k : ℕ} → Commands k ≡ counted (parse bs) → Read bs k
-was-read {bs} {k} e = go (parse bs) refl
-  where
-    go : (p : Parsed) → parse bs ≡ p → Read bs k
-    go (Parsed.commands cs) q = record {
-      cs = cs;
-      parsed = q;
-      rest = parse-is bs q;
-      count = same (e ∙ ap counted q);
-    }
-      where
-        same : Commands k ≡ Commands (length cs) → length cs ≡ k
-        same x = cc
-    go (Parsed.refused at) q = absurd (never (e ∙ ap counted q))
-      where
-        never : Commands k ≡ Refused at → ⊥
-        never x = let z : _≡_ {A = ℕ} 0 1 = cc in omega arith
-
-was-refused : (bs : List ℕ) {at : ℕ} → Refused at ≡ counted (parse bs) → parse bs ≡ Parsed.refused at
-was-refused bs {at} e = go (parse bs) refl
-  where
-    go : (p : Parsed) → parse bs ≡ p → parse bs ≡ Parsed.refused at
-    go (Parsed.refused p) q = q ∙ ap Parsed.refused (same (e ∙ ap counted q))
-      where
-        same : Refused at ≡ Refused p → p ≡ at
-        same x = cc
-    go (Parsed.commands cs) q = absurd (never (e ∙ ap counted q))
-      where
-        never : Refused at ≡ Commands (length cs) → ⊥
-        never x = let z : _≡_ {A = ℕ} 0 1 = cc in omega arith
+use Rattle.calls.specs.Running.{Ends}
 
 -- THE COUNT
 pub count-done : (bs : List ℕ) {k : ℕ} → Commands k ≡ counted (parse bs) → result done k ≡ countResult bs
@@ -94,11 +47,6 @@ module _ (ws bs rs : List ℕ) where
           ∙ rw (r .count, lt-ltb (length rs) (replyBytes * k) h)
 
 -- DONE
--- there is room for all replies
-pub ahead : {bs : List ℕ} {k : ℕ} (rs : List ℕ) (r : Read bs k) → replyBytes * k ≤ length rs →
-    Ahead bs 0 (length rs) 0
-ahead rs r h = record { rest = r .cs; rest-is = r .rest; room = omega (arith, r .count) }
-
 -- what a call leaves is what the definition says
 pub record Comes (ws bs rs : List ℕ) (a n : ℕ) (ws′ rs′ : List ℕ) : Type 0 where
   pub result-is : result a n ≡ run ws bs rs .result
@@ -118,9 +66,6 @@ pub ran : {ws bs rs ws′ rs′ : List ℕ} {k : ℕ} (e : checkAnswer ws ≡ do
 ran {ws} {bs} {rs} {ws′} {rs′} {k} e r h d =
     let q : replyBytes * length (r .cs) ≤ length rs = omega (arith, r .count) in
     let c = run-checked ws bs rs e (r .parsed) in
-    let n : ℕ = nodeCount ws in
-    let x : List ℕ = replies n (accepted ws e .list) (r .cs) in
-    let w : length x ≡ replyBytes * length (r .cs) = replies-length n (accepted ws e .list) (r .cs) in
     record {
       result-is = sym (ap (λ (y : Called). y .result) c ∙ rw
           (le-ltb (length rs) (replyBytes * length (r .cs)) q, r .count));
@@ -128,7 +73,7 @@ ran {ws} {bs} {rs} {ws′} {rs′} {k} e r h d =
           d .words-are
           ∙ sym (ap (λ (y : Called). y .words) c ∙ rw (le-ltb (length rs) (replyBytes * length (r .cs)) q));
       reply-is =
-          d .reply-is ∙ overwrite-all rs x (omega arith) ∙ ap (λ (m : ℕ). x ++ drop m rs) w
+          d .reply-is ∙ replies-all (execute (nodeCount ws)) rs (accepted ws e .list) (r .cs) q
           ∙ sym (ap (λ (y : Called). y .reply) c ∙ rw (le-ltb (length rs) (replyBytes * length (r .cs)) q));
     }
 

@@ -1,6 +1,6 @@
 -- The calls: the result, and every word and byte after the call (R68 to R72, R81 to R84, R87, R145 to R148).
 use Prim.Native.Nat.{ℕ, _*_}
-use mathlib.Core.List.{List, [], _∷_, _++_}
+use mathlib.Core.List.{List, _++_}
 use lib.Dec.{ltb, eqb}
 use lib.ListN.{length, drop}
 use Rattle.blocks.specs.Choice.{pick}
@@ -11,7 +11,8 @@ use Rattle.layout.specs.Decide.{nodeCount}
 use Rattle.verify.specs.Answers.{checkAnswer, initAnswer}
 use Rattle.batch.specs.declared.Command.{Command}
 use Rattle.batch.specs.Batch.{Parsed, Parsed.commands, Parsed.refused, parse}
-use Rattle.batch.specs.Reply.{replyBytes, encode}
+use Rattle.batch.specs.Reply.{replyBytes}
+use Rattle.commands.specs.Batches.{repliesBy}
 use Rattle.listing.specs.Listing.{listed, outcome, filledWith}
 use Rattle.listing.specs.declared.Listed.{Listed}
 use Rattle.listing.specs.declared.Listed.the-variants.{Short, Done}
@@ -49,8 +50,7 @@ countResult bs = counts (parse bs)
 module _ (n : ℕ) where
   -- the replies in order, each of that moment's list
   abbrev pub replies : List Entry → List Command → List ℕ
-  replies l [] = []
-  replies l (c ∷ cs) = encode (execute n l c .reply) ++ replies (execute n l c .list) cs
+  replies = repliesBy (execute n)
 
   -- a batch that runs (R68); the other bytes of the reply stay (R87)
   abbrev pub running : State → List Command → List ℕ → Called

@@ -8,9 +8,7 @@ use mathlib.Core.Path.{_≡_}
 use mathlib.Core.Bool.{true, false}
 use mathlib.Core.List.{List, [], _∷_, _++_}
 use mathlib.Core.Option.{none}
-use lib.Dec.{ltb}
 use lib.ListN.{length, getD, take, drop}
-use Rattle.blocks.specs.Choice.{pick}
 use Rattle.blocks.specs.Lists.{All}
 use Rattle.model.specs.declared.Entry.{Entry}
 use Rattle.model.specs.Model.{storable, maxOrder, aligned, store, reservedWord, covering}
@@ -29,6 +27,7 @@ use Rattle.listing.specs.Listing.{listed}
 use Rattle.listing.specs.Claims.{FitsListed}
 use Rattle.execute.specs.Execute.{execute}
 use Rattle.commands.specs.Commands.{Executed}
+use Rattle.commands.specs.Batches.{listBy, feedBy}
 use Rattle.answers.specs.Answers.{tooFewNodes, result, done, badBatch, replySpace}
 use Rattle.execute.specs.Part.{mayWrite}
 use Rattle.execute.specs.Table.{CommandRow}
@@ -60,13 +59,11 @@ wordsAfterAll ws (c ∷ cs) = wordsAfterAll (wordsAfter ws c) cs
 module _ (n : ℕ) where
   -- R96
   abbrev pub executeAll : List Entry → List Command → List Entry
-  executeAll l [] = l
-  executeAll l (c ∷ cs) = executeAll (execute n l c .list) cs
+  executeAll = listBy (execute n)
 
   -- R95
   abbrev pub feed : List Entry → (replyLength : ℕ) → Parsed → List Entry
-  feed l k (refused at) = l
-  feed l k (commands cs) = pick (ltb k (replyBytes * length cs)) l (executeAll l cs)
+  feed = feedBy (execute n)
 
   -- R93, R94, R149
   abbrev pub listAfter : List Entry → Call → List Entry

@@ -1,5 +1,5 @@
 -- What the loop over a batch's commands keeps.
-use Prim.Native.Nat.{ℕ, _+_, _*_, _≤_}
+use Prim.Native.Nat.{ℕ}
 use mathlib.Core.Path.{_≡_}
 use mathlib.Core.List.{List}
 use lib.ListN.{length}
@@ -9,7 +9,8 @@ use Rattle.freenodes.specs.FreeNodes.{FreeMap}
 use Rattle.words.specs.Bytes.{overwrite}
 use Rattle.batch.specs.declared.Command.{Command}
 use Rattle.batch.specs.Batch.{Parsed, Parsed.commands, restAt}
-use Rattle.batch.specs.Reply.{replyBytes, encode}
+use Rattle.batch.specs.Reply.{encode}
+use Rattle.commands.specs.Batches.{Ahead}
 use Rattle.execute.specs.State.{State, states}
 use Rattle.execute.specs.Contracts.{stateOf, replyTo, wordsTo}
 use Rattle.calls.specs.Calls.{replies}
@@ -17,12 +18,6 @@ use Rattle.calls.specs.Calls.{replies}
 -- the words of a state
 abbrev pub wordsOf : ℕ → State → List ℕ
 wordsOf n s = render (s .list) (s .places) n
-
--- the batch from a place on is a list of commands, and their replies have room from `out` on
-pub record Ahead (batch : List ℕ) (at : ℕ) (replyLength out : ℕ) : Type 0 where
-  pub rest : List Command
-  pub rest-is : restAt batch at ≡ Parsed.commands rest
-  pub room : out + replyBytes * length rest ≤ replyLength
 
 -- what a batch that runs leaves, from any well-formed pool and place on
 pub record Ends {pool : List ℕ} (s : WellFormed pool) (cs : List Command) (out : ℕ) (reply pool′ reply′ : List ℕ) :

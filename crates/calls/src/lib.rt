@@ -23,10 +23,11 @@ ghost use Rattle.batch.specs.Batch.{restAt, counted, parse};
 ghost use Rattle.batch.specs.Batch;
 ghost use Rattle.batch.specs.Reply.{replyBytes};
 ghost use Rattle.batch.specs.declared.Counted.the-variants.{Commands};
+ghost use Rattle.commands.specs.Batches.{Ahead};
 ghost use Rattle.verify.specs.Answers.{checkAnswer, initWords};
 ghost use Rattle.calls.specs.Calls;
 ghost use Rattle.calls.specs.Calls.{initResult, checkResult, countResult};
-ghost use Rattle.calls.specs.Running.{Turned, Ahead, Ends};
+ghost use Rattle.calls.specs.Running.{Turned, Ends};
 
 const REPLY_SIZE: u64 = 24;
 

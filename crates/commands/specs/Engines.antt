@@ -1,15 +1,24 @@
 -- Two engines on one list: what agrees of what a command comes to, and where.
 use Prim.Native.Nat.{ℕ, _≤_}
 use mathlib.Core.Path.{_≡_}
+use mathlib.Core.Logic.{_≢_}
+use mathlib.Core.Bool.{Bool}
 use mathlib.Core.List.{List}
+use lib.Dec.{eqb}
+use Rattle.blocks.specs.Choice.{pick, either}
 use Rattle.model.specs.declared.Entry.{Entry}
-use Rattle.model.specs.Model.{reservedWord, store}
+use Rattle.model.specs.Model.{markCount}
 use Rattle.batch.specs.declared.Command.{Command}
-use Rattle.batch.specs.declared.Command.the-variants.{Store, Load, Erase, Mark, Unmark, Find, Reserve}
+use Rattle.batch.specs.declared.Command.the-variants.{Find}
 use Rattle.batch.specs.declared.Reply.{Reply}
+use Rattle.batch.specs.Reply.{replyTag}
 use Rattle.commands.specs.Commands.{Executed, Engine}
 
--- a reply without its count
+-- the replies of loads and finds count (R49, R78)
+abbrev pub counting : (tag : ℕ) → Bool
+counting t = either (eqb t 130) (eqb t 134)
+
+-- a reply without its count, where it is a load's or a find's
 abbrev pub uncounted : Reply → Reply
 uncounted r =
     record {
@@ -19,30 +28,14 @@ uncounted r =
       order = r .order;
       word = r .word;
       marks = r .marks;
-      count = 0;
+      count = pick (counting (r .tag)) 0 (r .count);
     }
 
--- the replies but for their counts, and the lists
+-- the replies but for those counts, and the lists
 abbrev pub Agree : Executed → Executed → Type 0
 Agree x y = (uncounted (x .reply) ≡ uncounted (y .reply)) × (x .list ≡ y .list)
 
-module _ (E F : Engine) (l : List Entry) where
-  -- neither lacks room for the list that the command would leave unless the other does
-  abbrev pub SameRoom : Command → Type 0
-  SameRoom (Store i k w) = E .lacks l (store l i k w) ≡ F .lacks l (store l i k w)
-  SameRoom (Load i) = Unit
-  SameRoom (Erase i) = Unit
-  SameRoom (Mark i m) = Unit
-  SameRoom (Unmark i m) = Unit
-  SameRoom (Find a z f k) = Unit
-  SameRoom (Reserve i) = E .lacks l (store l i 0 reservedWord) ≡ F .lacks l (store l i 0 reservedWord)
-
-  -- the find that the command is, if it is one, comes to the same
-  abbrev pub SameFind : (tag : ℕ) → Command → Type 0
-  SameFind t (Store i k w) = Unit
-  SameFind t (Load i) = Unit
-  SameFind t (Erase i) = Unit
-  SameFind t (Mark i m) = Unit
-  SameFind t (Unmark i m) = Unit
-  SameFind t (Find a z f k) = a ≤ z → uncounted (E .finds t l a z f k) ≡ uncounted (F .finds t l a z f k)
-  SameFind t (Reserve i) = Unit
+-- the find that the command is, if it is one and nothing refuses it, comes to the same
+abbrev pub SameFind : (E F : Engine) → List Entry → Command → Type 0
+SameFind E F l c = (a z f k : ℕ) → c ≡ Find a z f k → f ≤ markCount → a ≤ z → k ≢ 0 →
+    uncounted (E .finds (replyTag c) l a z f k) ≡ uncounted (F .finds (replyTag c) l a z f k)

@@ -1,4 +1,3 @@
-pub mod EngineLaws
 pub mod ExecuteLaws
 pub mod ReplyLaws
 pub mod LocalLaws

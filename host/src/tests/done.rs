@@ -2,7 +2,7 @@
 //! taken for an end.
 
 use super::*;
-use crate::pool::run_each;
+use crate::engine::run_each;
 
 /// A store has 20 bytes, so a batch takes 1,638 of them.
 const STORE_BYTES: usize = 20;

@@ -14,6 +14,7 @@ mod lists;
 mod matched;
 mod mistakes;
 mod parts;
+mod plain;
 mod program;
 mod random;
 mod refusals;

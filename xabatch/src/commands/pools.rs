@@ -3,12 +3,13 @@
 use crate::args::Arguments;
 use crate::failure::{malformed, usage, Failure};
 use crate::files::{self, of_file};
+use crate::kept::plain_of;
 use std::ffi::{OsStr, OsString};
 use std::fmt::Display;
 use std::ops::RangeInclusive;
 use xabatch::kind::FileKind;
 use xabatch::{decode, draw, inspect, json, text};
-use xapool_host::{node_count, Entry, Pool, FIND_ANY};
+use xapool_host::{node_count, Entry, Listing, Pool, FIND_ANY, PLAIN_FILE};
 
 pub fn show(arguments: Arguments) -> Result<(), Failure> {
     let file = &arguments.between(1, 1)?[0];
@@ -60,9 +61,7 @@ pub fn list(arguments: Arguments) -> Result<(), Failure> {
         return Err(usage("--bytes or --json, not both"));
     }
     let (first, last) = range_of("", named.get(1).map(OsString::as_os_str))?;
-    let file = &named[0];
-    let pool = Pool::from_words(read_words(file)?);
-    let list = pool.list(first..=last).map_err(|refusal| of_file(file, refusal))?;
+    let list = listing_of(&named[0], first, last)?;
     if arguments.has("--bytes") {
         return files::write(list.bytes());
     }
@@ -72,6 +71,19 @@ pub fn list(arguments: Arguments) -> Result<(), Failure> {
         return files::write_lines(&[object.with("entries", entries).end()]);
     }
     files::write_lines(&list.map(|entry| entry.to_string()).collect::<Vec<_>>())
+}
+
+/// The list of a pool is the library's own. That of a plain list is read from its slices, which the library checks.
+fn listing_of(file: &OsStr, first: u64, last: u64) -> Result<Listing, Failure> {
+    let bytes = files::read_pool(file)?;
+    if !bytes.starts_with(&PLAIN_FILE) {
+        let pool = Pool::from_words(words_of(file, &bytes)?);
+        return pool.list(first..=last).map_err(|refusal| of_file(file, refusal));
+    }
+    let entries = plain_of(file, &bytes)?.entries().map_err(|refusal| of_file(file, refusal))?;
+    let meets = |entry: &Entry| entry.base <= last && first <= entry.last();
+    let bytes = entries.into_iter().filter(meets).flat_map(Entry::listed).collect();
+    Listing::read(bytes).map_err(|bad| of_file(file, bad))
 }
 
 /// The walk of `Pool::find`, over the pauses of any budget: it misses no entry (`no-index-missed` and
@@ -113,12 +125,15 @@ fn number_of<T: TryFrom<u64> + PartialOrd + Display>(
 
 /// The words of a pool file; a file of another kind is named.
 fn read_words(file: &OsStr) -> Result<Vec<u64>, Failure> {
-    let bytes = files::read_pool(file)?;
-    let kind = FileKind::guess(&bytes).filter(|kind| *kind != FileKind::Pool);
-    if let Some(kind) = kind.filter(|_| !has_its_nodes(&bytes)) {
+    words_of(file, &files::read_pool(file)?)
+}
+
+fn words_of(file: &OsStr, bytes: &[u8]) -> Result<Vec<u64>, Failure> {
+    let kind = FileKind::guess(bytes).filter(|kind| *kind != FileKind::Pool);
+    if let Some(kind) = kind.filter(|_| !has_its_nodes(bytes)) {
         return Err(of_file(file, format!("no pool file: it looks like {kind}")));
     }
-    files::words_of(file, &bytes)
+    files::words_of(file, bytes)
 }
 
 /// Whether the first word has as many nodes as the length: then it is a pool file, whatever else it is.

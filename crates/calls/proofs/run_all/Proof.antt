@@ -6,7 +6,8 @@ use lib.ListN.{length}
 use Rattle.batch.proofs.ParseLaws.{next-after}
 use Rattle.batch.proofs.BoundLaws.{read-fits}
 use Rattle.calls.specs.Running.{Running}
-use Rattle.calls.proofs.RunningLaws.{running-start, room-for, stands, running-on, running-end}
+use Rattle.commands.proofs.BatchesLaws.{room-for, stands}
+use Rattle.calls.proofs.RunningLaws.{running-start, running-on, running-end}
 use Rattle.calls.proofs.run_all.Statement.{statement}
 use Rattle.calls.proofs.run_all.Tie as tie
 
@@ -37,13 +38,13 @@ loop-holds : tie.Need-loop-holds Inv-loop μ-loop
 loop-holds c = let p = c .before .before .before .before .pre in (refl, refl, running-start (p .0) (p .1 .0) (p .1 .1))
 
 step-at-requires : tie.Need-step-at-requires Inv-loop μ-loop
-step-at-requires c κs = stands (c .before .loop .inv .2) (omega arith)
+step-at-requires c κs = stands (c .before .loop .inv .2 .ahead) (omega arith)
 
 run-one-requires : tie.Need-run-one-requires Inv-loop μ-loop
-run-one-requires c κs = let r = at-loop (read c) .loop .inv .2 in (r .formed, (r .mapped, room-for r (read c .step-at .ensures)))
+run-one-requires c κs = let r = at-loop (read c) .loop .inv .2 in (r .formed, (r .mapped, room-for (r .ahead) (read c .step-at .ensures)))
 
 add-out : tie.Need-add-out Inv-loop μ-loop
-add-out c = omega (arith, room-for (at-loop (done c) .loop .inv .2) (done c .step-at .ensures))
+add-out c = omega (arith, room-for (at-loop (done c) .loop .inv .2 .ahead) (done c .step-at .ensures))
 
 loop-less : tie.Need-loop-less Inv-loop μ-loop
 loop-less c = omega (arith, next-after _ _ (sym (done c .step-at .ensures)))

@@ -1,7 +1,8 @@
 -- `run_counted`: a batch of k commands, on a pool that the check passed.
 use native.Mathlib.Omega.{arith}
 use Rattle.verify.proofs.AnswerLaws.{accepted}
-use Rattle.calls.proofs.CallLaws.{was-read, ahead, run-short, comes-refused, ran, as-ensures}
+use Rattle.commands.proofs.BatchesLaws.{was-read, ahead}
+use Rattle.calls.proofs.CallLaws.{run-short, comes-refused, ran, as-ensures}
 use borrow.Author.Needs.{needs}
 use Rattle.calls.proofs.run_counted.Statement.{statement}
 use Rattle.calls.proofs.run_counted.Tie as tie

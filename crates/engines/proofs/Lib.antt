@@ -1,0 +1,3 @@
+pub mod SameLaws
+pub mod BothLaws
+pub mod Literals
