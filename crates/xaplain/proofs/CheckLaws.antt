@@ -162,7 +162,8 @@ module _ (is os ws ms : List ℕ) (lo : length os ≡ length is) (lw : length ws
 
   -- no other list does: what is read is the list
   nonzero : (e : Entry) → EntryOk e → e .word ≢ 0
-  nonzero e o z = subst (λ (w : ℕ). T (either (both (not (eqb w 0)) (not (eqb (w % 4) 2))) (both (eqb w 1030) (both (eqb (e .order) 0) (eqb (e .marks) 0))))) z (o .word-ok)
+  nonzero e o z = subst (λ (w : ℕ). T (either (both (not (eqb w 0)) (not (eqb (w % 4) 2)))
+      (both (eqb w 1030) (both (eqb (e .order) 0) (eqb (e .marks) 0))))) z (o .word-ok)
 
   read-is : (l : List Entry) (n k : ℕ) → length l ≤ n → ((j : ℕ) → j < length l → entryAt is os ws ms (k + j) ≡ nth l j) →
       ((j : ℕ) → j < length l → nth l j .word ≢ 0) → (length l < n → getD ws (k + length l) 0 ≡ 0) → entriesFrom is os ws ms n k ≡ l

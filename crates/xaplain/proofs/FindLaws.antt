@@ -51,7 +51,11 @@ module _ {index order word marks : List ℕ} {n : ℕ} (h : Holds index order wo
   not-before r b j g =
       let (lt, le) = b .before j g in
       let far = apart j (j + 1) (h .valid) (omega arith) (omega (arith, h .count)) in
-      rw (le-ltb a (nth (h .list) j .base + 2 ^ nth (h .list) j .order) (omega (arith, far, le, index-at h (j + 1) lt)), both-no (leb (nth (h .list) j .base) z)) (both-no (acceptsBy f (nth (h .list) j .word) (nth (h .list) j .marks)))
+      rw (
+        le-ltb a (nth (h .list) j .base + 2 ^ nth (h .list) j .order) (omega (arith, far, le, index-at h (j + 1) lt)),
+        both-no
+            (leb (nth (h .list) j .base) z),
+      ) (both-no (acceptsBy f (nth (h .list) j .word) (nth (h .list) j .marks)))
 
   module _ (k : ℕ) (before : (j : ℕ) → j < k → meets f a z (nth (h .list) j) ≡ false) where
     -- past last

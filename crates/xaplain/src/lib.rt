@@ -58,7 +58,7 @@ pub const MAX_ROOM: usize = 4096;
 const MAX_ORDER: u64 = 63;
 
 // Mark 2, which no store hands on (R190), is worth this; marks 0 and 1 are below it.
-const MATCHED: u64 = 4;
+const MATCHED_BIT: u64 = 4;
 
 // What a command comes to: its reply, and the number of entries after it.
 pub struct Turned {
@@ -501,7 +501,7 @@ fn store_over(
     ensures { λ _. ⌜ now (word .exit) ≡ set (now (word .entry)) j w ⌝ }
     ensures { λ _. ⌜ now (marks .exit) ≡ set (now (marks .entry)) j (setBit matchedMark false (getD (now (marks .entry)) j 0)) ⌝ }
 {
-    let m = marks[j] % MATCHED;
+    let m = marks[j] % MATCHED_BIT;
     word[j] = w;
     marks[j] = m;
     Entry {

@@ -28,7 +28,9 @@ shr-if1 : tie.Need-shr-if1 Inv-loop μ-loop
 shr-if1 c = omega arith
 
 returns : tie.Need-returns Inv-loop μ-loop
-returns c = sym (c .before .before .before .loop .inv .2 ∙ any-hit (c .before .before .before .before .args .marks .now) (c .before .before .before .before .args .m) (c .before .before .before .before .args .q) (c .before .before .before .loop .k) (c .before .before .loop-test .taken) (c .if1 .taken))
+returns c = sym (c .before .before .before .loop .inv .2 ∙ any-hit (c .before .before .before .before .args .marks .now)
+    (c .before .before .before .before .args .m) (c .before .before .before .before .args .q) (c .before .before .before .loop .k)
+    (c .before .before .loop-test .taken) (c .if1 .taken))
 
 add-k : tie.Need-add-k Inv-loop μ-loop
 add-k c = omega arith
@@ -37,10 +39,17 @@ loop-less : tie.Need-loop-less Inv-loop μ-loop
 loop-less c = omega arith
 
 loop-again : tie.Need-loop-again Inv-loop μ-loop
-loop-again c = (omega arith, omega arith, c .before .before .before .loop .inv .2 ∙ any-on (c .before .before .before .before .args .marks .now) (c .before .before .before .before .args .m) (c .before .before .before .before .args .q) (c .before .before .before .loop .k) (c .before .before .loop-test .taken) (c .if1 .left))
+loop-again c = (
+  omega arith,
+  omega arith,
+  c .before .before .before .loop .inv .2 ∙ any-on (c .before .before .before .before .args .marks .now)
+      (c .before .before .before .before .args .m) (c .before .before .before .before .args .q) (c .before .before .before .loop .k)
+      (c .before .before .loop-test .taken) (c .if1 .left),
+)
 
 returns-2 : tie.Need-returns-2 Inv-loop μ-loop
-returns-2 c = sym (c .before .loop .inv .2 ∙ any-end (c .before .before .args .marks .now) (c .before .before .args .m) (c .before .before .args .q) (c .before .loop .k) (omega arith))
+returns-2 c = sym (c .before .loop .inv .2 ∙ any-end (c .before .before .args .marks .now) (c .before .before .args .m) (c .before .before .args .q)
+    (c .before .loop .k) (omega arith))
 
 pub any-mark-spec : {M : Type 1} → statement M
 any-mark-spec =

@@ -22,13 +22,22 @@ returns : tie.Need-returns
 returns c = rw (sym (c .before .sized .ensures) ∙ not-true _ (c .if1 .taken))
 
 holds-requires : tie.Need-holds-requires
-holds-requires c κs = let a = c .before .before .before .before .before .before .args in sized-lengths (a .index .now) (a .order .now) (a .word .now) (a .marks .now) (sym (c .before .sized .ensures) ∙ not-false _ (c .if1 .left))
+holds-requires c κs = let a = c .before .before .before .before .before .before .args in sized-lengths (a .index .now) (a .order .now) (a .word .now)
+    (a .marks .now) (sym (c .before .sized .ensures) ∙ not-false _ (c .if1 .left))
 
 returns-2 : tie.Need-returns-2
-returns-2 c = rw (sym (c .before .before .before .sized .ensures) ∙ not-false _ (c .before .before .if1 .left), sym (c .before .holds .ensures) ∙ not-true _ (c .if2 .taken))
+returns-2 c = rw (
+  sym (c .before .before .before .sized .ensures) ∙ not-false _ (c .before .before .if1 .left),
+  sym
+      (c .before .holds .ensures) ∙ not-true _ (c .if2 .taken),
+)
 
 returns-3 : tie.Need-returns-3
-returns-3 c = rw (sym (c .before .before .before .sized .ensures) ∙ not-false _ (c .before .before .if1 .left), sym (c .before .holds .ensures) ∙ not-false _ (c .if2 .left))
+returns-3 c = rw (
+  sym (c .before .before .before .sized .ensures) ∙ not-false _ (c .before .before .if1 .left),
+  sym
+      (c .before .holds .ensures) ∙ not-false _ (c .if2 .left),
+)
 
 pub check-spec : {M : Type 1} → statement M
 check-spec = tie.close (tie.spec sized-requires returns holds-requires returns-2 returns-3)

@@ -23,7 +23,11 @@ rem-if2 c = rw (shl-one (c .before .args .order) (c .if1 .left)) (pow-pos (c .be
 
 returns-2 : tie.Need-returns-2
 returns-2 c = let a = c .before .before .args in
-    rw (le-leb (a .order) 63 (c .before .if1 .left), ne-eqb _ 0 (λ z. c .if2 .taken (ap (λ (x : ℕ). a .base % x) (shl-one (a .order) (c .before .if1 .left)) ∙ z)))
+    rw (
+      le-leb (a .order) 63 (c .before .if1 .left),
+      ne-eqb _ 0 (λ z. c .if2 .taken
+          (ap (λ (x : ℕ). a .base % x) (shl-one (a .order) (c .before .if1 .left)) ∙ z)),
+    )
 
 word-fits-requires : tie.Need-word-fits-requires
 word-fits-requires c κs = search needs

@@ -30,7 +30,8 @@ all-zero-requires c κs = search needs
 returns-2 : tie.Need-returns-2
 returns-2 c = let a = c .before .before .before .before .before .before .before .before .args in
     let e : c .before .before .before .count .result ≡ length (listOf (a .index .now) (a .order .now) (a .word .now) (a .marks .now)) =
-    count-is (a .index .now) (a .order .now) (a .word .now) (a .marks .now) (c .before .before .before .count .result) (c .before .before .before .before .before .before .before .before .pre .1) (c .before .before .before .count .ensures) in
+    count-is (a .index .now) (a .order .now) (a .word .now) (a .marks .now) (c .before .before .before .count .result)
+    (c .before .before .before .before .before .before .before .before .pre .1) (c .before .before .before .count .ensures) in
     rw (sym (c .before .before .in-order .ensures) ∙ not-false _ (c .before .if1 .left), ← e) (c .all-zero .ensures)
 
 pub holds-spec : {M : Type 1} → statement M

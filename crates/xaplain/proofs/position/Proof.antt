@@ -37,14 +37,16 @@ loop-less : tie.Need-loop-less Inv-loop μ-loop
 loop-less c = omega arith
 
 loop-again : tie.Need-loop-again Inv-loop μ-loop
-loop-again c = let v = c .before .before .before .loop .inv in let r = c .before .before .before .before .pre .1 in let m = c .before .before .before .loop .low + (c .before .before .before .loop .high - c .before .before .before .loop .low) / 2 in
+loop-again c = let v = c .before .before .before .loop .inv in let r = c .before .before .before .before .pre .1 in
+    let m = c .before .before .before .loop .low + (c .before .before .before .loop .high - c .before .before .before .loop .low) / 2 in
     (omega arith, omega arith, (λ k h. omega (arith, r .rises k m (omega arith) (omega arith), c .if1 .taken)), v .3)
 
 loop-less-2 : tie.Need-loop-less-2 Inv-loop μ-loop
 loop-less-2 c = omega arith
 
 loop-again-2 : tie.Need-loop-again-2 Inv-loop μ-loop
-loop-again-2 c = let v = c .before .before .before .loop .inv in let r = c .before .before .before .before .pre .1 in let m = c .before .before .before .loop .low + (c .before .before .before .loop .high - c .before .before .before .loop .low) / 2 in
+loop-again-2 c = let v = c .before .before .before .loop .inv in let r = c .before .before .before .before .pre .1 in
+    let m = c .before .before .before .loop .low + (c .before .before .before .loop .high - c .before .before .before .loop .low) / 2 in
     (omega arith, omega arith, v .2, (λ k h g. omega (arith, r .rises m k h g, c .if1 .left)))
 
 returns : tie.Need-returns Inv-loop μ-loop

@@ -32,7 +32,9 @@ same-length-4 : tie.Need-same-length-4
 same-length-4 c = search needs
 
 returns : tie.Need-returns
-returns c = λ h. put-columns h _ _ _ (omega arith) (omega arith) (c .before .before .before .before .before .before .before .before .before .before .before .before .before .before .splice .ensures) (c .before .before .before .before .before .before .before .before .before .before .splice2 .ensures) (c .before .before .before .before .before .before .splice3 .ensures) (c .before .before .splice4 .ensures)
+returns c = λ h. put-columns h _ _ _ (omega arith) (omega arith) (c .before .before .before .before .before .before .before .before .before .before
+    .before .before .before .before .splice .ensures) (c .before .before .before .before .before .before .before .before .before .before .splice2
+    .ensures) (c .before .before .before .before .before .before .splice3 .ensures) (c .before .before .splice4 .ensures)
 
 pub put-spec : {M : Type 1} → statement M
 put-spec =

@@ -109,7 +109,8 @@ returns-3 c = λ h. remark-none h (start-from-refused3 c .args .i) (start-from-r
 
 with-mark-requires : tie.Need-with-mark-requires
 with-mark-requires c κs = let h = start-from-else3 c .pre in let k = place-from-else3 c .place .result - 1 in
-    let g = place-in h (start-from-else3 c .args .i) (place-from-else3 c .place .result) (place-from-else3 c .place .ensures) (else2-from-else3 c .if2 .left) in (
+    let g = place-in h (start-from-else3 c .args .i) (place-from-else3 c .place .result) (place-from-else3 c .place .ensures)
+    (else2-from-else3 c .if2 .left) in (
       else1-from-else3 c .if1 .left,
       omega (
         arith,

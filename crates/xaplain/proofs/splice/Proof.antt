@@ -24,7 +24,8 @@ same-length : tie.Need-same-length
 same-length c = search needs
 
 returns : tie.Need-returns
-returns c = splice-open _ _ _ _ _ _ (c .before .before .before .before .if1 .taken) (omega arith) (omega (arith, c .before .before .before .before .if1 .taken)) (c .before .before .«open» .ensures)
+returns c = splice-open _ _ _ _ _ _ (c .before .before .before .before .if1 .taken) (omega arith)
+    (omega (arith, c .before .before .before .before .if1 .taken)) (c .before .before .«open» .ensures)
 
 add-pull : tie.Need-add-pull
 add-pull c = search needs
@@ -51,10 +52,13 @@ slice-write-xs-2 : tie.Need-slice-write-xs-2
 slice-write-xs-2 c = search needs
 
 same-length-2 : tie.Need-same-length-2
-same-length-2 c = length-set (c .before .before .clear .last .0) (c .before .before .before .before .before .before .before .before .before .before .args .p) (c .before .before .before .before .before .before .before .before .before .before .args .v) ∙ c .before .before .clear .ensures .same-length ∙ c .before .before .before .before .before .before .pull .ensures .same-length
+same-length-2 c = length-set (c .before .before .clear .last .0) (c .before .before .before .before .before .before .before .before .before .before
+    .args .p) (c .before .before .before .before .before .before .before .before .before .before .args .v) ∙ c .before .before .clear .ensures
+    .same-length ∙ c .before .before .before .before .before .before .pull .ensures .same-length
 
 returns-2 : tie.Need-returns-2
-returns-2 c = splice-close _ _ _ _ _ _ _ (omega (arith, c .before .before .before .before .before .before .before .before .if1 .left)) (omega arith) (omega arith) (c .before .before .before .before .before .before .pull .ensures) (c .before .before .clear .ensures)
+returns-2 c = splice-close _ _ _ _ _ _ _ (omega (arith, c .before .before .before .before .before .before .before .before .if1 .left)) (omega arith)
+    (omega arith) (c .before .before .before .before .before .before .pull .ensures) (c .before .before .clear .ensures)
 
 pub splice-spec : {M : Type 1} → statement M
 splice-spec =

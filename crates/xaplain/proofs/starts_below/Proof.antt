@@ -17,7 +17,12 @@ position-requires c κs = search needs
 
 returns-2 : tie.Need-returns-2
 returns-2 c = let s = c .position .ensures in
-    record { within = s .within; low = λ k h. omega (arith, s .low k h, c .before .if1 .left); high = λ k h g. omega (arith, s .high k h g, c .before .if1 .left) }
+    record {
+      within = s .within;
+      low = λ k h. omega (arith, s .low k h, c .before .if1 .left);
+      high = λ k h g. omega
+          (arith, s .high k h g, c .before .if1 .left);
+    }
 
 pub starts-below-spec : {M : Type 1} → statement M
 starts-below-spec = tie.close (tie.spec returns sub-position position-requires returns-2)
