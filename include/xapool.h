@@ -1,6 +1,6 @@
 /* xapool.h: entries kept by 64-bit index in a pool of words that the host lends, or by a plain
  * second engine in four slices of words; and digests and comparisons of regions of bytes, texts of
- * evidence looked up in two sheets, and gates over counts.
+ * evidence looked up in two sheets, gates over counts, and commands cut in two for power cuts.
  *
  * The library has no memory of its own and keeps nothing between two calls: all state is in the
  * pool. A pool may be moved, saved and loaded: it has no addresses in it.
@@ -14,18 +14,19 @@
  *
  * Platform   x86-64 Linux. libxapool.a is position-independent, so it can go into a shared library;
  *            of other libraries it needs memset alone. It never allocates.
- * Alignment  a pool begins at a multiple of 8, as any array of uint64_t does, and so does each slice of the
- *            plain engine. Batch, reply, list and regions and sheets may begin anywhere.
+ * Alignment  a pool and a script begin at a multiple of 8, as any array of uint64_t does, and so does each
+ *            slice of the plain engine. Batch, reply, list and regions and sheets may begin anywhere.
  * Memory     all that is lent must have been written before, the space for replies and lists too: static,
  *            calloc, or = { 0 }.
  * NULL       with length 0 any pointer may be NULL: an empty batch, no reply space, no space for a
- *            list, empty regions and empty sheets are fine, a pool of no words is refused with 1. Four
+ *            list or a script, empty regions, empty sheets and an empty script are fine, a pool of no words
+ *            is refused with 1. Four
  *            slices of length 0 are fine: they have room for no entry.
  * Stack      a call needs less than 8 KiB of it, whatever the pool holds; xapool_crc32c and
- *            xapool_compare, which keep tables there, less than 16 KiB.
+ *            xapool_compare, which keep tables there, less than 16 KiB, and xapool_prepare less than 24 KiB.
  * Threads    calls on different pools may run at the same time. Two calls at the same time must not
- *            share a pool, not even for finds, unless both are xapool_check or xapool_list, which
- *            only read it; nor slices, unless both are xaplain_check. No two buffers of one call may overlap, but for the two regions of
+ *            share a pool, not even for finds, unless both are xapool_check, xapool_list or xapool_prepare,
+ *            which only read it; nor slices, unless both are xaplain_check. No two buffers of one call may overlap, but for the two regions of
  *            xapool_compare and the two sheets of xapool_evidence, which are only read.
  * Time       each run and each list checks the whole pool first, so many commands in one batch are
  *            far cheaper than one command in each of many. All else follows what is asked: a list
@@ -35,7 +36,9 @@
  *            something else, its answer is worth nothing: ask xapool_floats_are_ieee first.
  * Power cut  a run writes word by word and is not atomic: a pool in a mapped file that loses power
  *            in mid-run may be lost. Where that matters, run on a copy and put the copy in place
- *            when it is on disk, as the tool 'xabatch run' does.
+ *            when it is on disk, as the tool 'xabatch run' does; or have xapool_prepare make a script of
+ *            the words that change, keep it on disk, and have xapool_apply write them: cut anywhere, it is
+ *            called again.
  */
 #ifndef XAPOOL_H
 #define XAPOOL_H
@@ -128,13 +131,13 @@ static inline uint64_t xapool_value(uint64_t v)
 
 /* ---- Answers ----
  *
- * 0 to 4 are the answer of a call, of xapool_list also 8, 0, 3 or 10 of xapool_evidence, and 0 or 18 to 20
- * of xapool_gate. All but 0 refuse it: nothing ran, and
- * pool, reply and list bytes are as they were, so the reply bytes may still hold the replies to an
- * earlier batch, which read as done: look at the call's answer first. 0 and 5 to 15 are the answer in
+ * 0 to 4 are the answer of a call, of xapool_list also 8, 0, 3 or 10 of xapool_evidence, 0 to 7, 10, 11,
+ * 14 or 15 of xapool_prepare, 0, 1 or 17 of xapool_apply, and 0 or 18 to 20 of xapool_gate. All but 0 refuse
+ * it: nothing ran, and pool, reply and list bytes are as they were, so the reply bytes may still hold the replies to an earlier batch, which
+ * read as done: look at the call's answer first. 0 and 5 to 15 are the answer in
  * one command's reply; whatever it is, the next command runs, on a pool without what was refused. Where
- * several apply, the lowest is given, but 14 before 6, 15 before 11, and a list is refused with 8 before
- * it is with 4. */
+ * several apply, the lowest is given, but 14 before 6, 15 before 11, a list is refused with 8 before
+ * it is with 4, and xapool_prepare gives 4 last. */
 enum xapool_answer {
     XAPOOL_DONE = 0,             /* call: done, number: commands run, or entries listed. reply: done */
     XAPOOL_POOL_LENGTH = 1,      /* pool_words is not XAPOOL_WORDS(N) with N from 1 to XAPOOL_MAX_NODES; number 0.
@@ -143,9 +146,11 @@ enum xapool_answer {
                                     plain: the slices do not hold a list and then zeros */
     XAPOOL_BAD_BATCH = 3,        /* a record is cut off, or its tag or length is none; number: the place of
                                     its first byte. Over XAPOOL_BATCH_BYTES: that many.
-                                    evidence: a sheet is malformed */
+                                    evidence: a sheet is malformed. prepare: the bytes are not one record of
+                                    a command that changes the pool; number 0 */
     XAPOOL_REPLY_SPACE = 4,      /* run: reply_bytes is under 24 a command; number: commands.
-                                    list: buffer_bytes is under 21 an entry; number: entries */
+                                    list: buffer_bytes is under 21 an entry; number: entries.
+                                    prepare: script_words is under the script's; number: its words */
     XAPOOL_BAD_ORDER = 5,        /* store: the order is above 63 */
     XAPOOL_BAD_ENTRY = 6,        /* store: the entry is 0 or ends in binary 10 */
     XAPOOL_BAD_MARK = 7,         /* mark, unmark: above 2. find: filter above 3 */
@@ -159,6 +164,7 @@ enum xapool_answer {
     XAPOOL_PAUSED = 13,          /* find: the budget is used up; index: where to go on */
     XAPOOL_NOT_ALIGNED = 14,     /* store: the index is not a multiple of 2^order */
     XAPOOL_COVERED = 15,         /* reserve: an entry covers the index, or it is reserved already */
+    XAPOOL_BAD_SCRIPT = 17,      /* apply: a place is outside the pool, or the last pair is half; number 0 */
     XAPOOL_BAD_GATE = 18,        /* gate: a limit is no number from 0 to 1, or the first is above the second;
                                     or there is no such kind; number 0 */
     XAPOOL_NO_TOTAL = 19,        /* gate: the total is 0, of which nothing passes; number 0 */
@@ -259,7 +265,8 @@ enum xapool_tag {
 /* ---- Calls ---- */
 
 typedef struct xapool_result {
-    uint64_t answer; /* enum xapool_answer, 0 to 4; of xapool_list also 8 */
+    uint64_t answer; /* enum xapool_answer, 0 to 4; of xapool_list also 8, of xapool_prepare the command's own, of
+                        xapool_apply 17, of a gate 18 to 20 */
     uint64_t number; /* see there */
 } xapool_result;
 
@@ -336,6 +343,46 @@ xapool_result xaplain_run(uint64_t *index, size_t index_words,
                           uint64_t *marks, size_t marks_words,
                           const uint8_t *batch, size_t batch_bytes,
                           uint8_t *reply, size_t reply_bytes);
+
+/* ---- Scripts ----
+ *
+ * A command that changes the pool (store, erase, mark, unmark or reserve) in two halves: preparing it writes
+ * nothing in the pool and gives a script, applying the script does what the command does. A script is the
+ * words that change: pairs of a word's place in the pool, from 0, and its new value, one after the other, by
+ * rising place. Applying it to the pool that it was prepared from gives the words that xapool_run of the one
+ * record leaves; and so it does whatever came of an apply before, which was cut after any number of its writes,
+ * any number of times, in whatever order they reached the storage. A host must see to two things, which no call
+ * can tell:
+ *
+ * - no word is ever written in part (true of an aligned store of 8 bytes to memory; of a storage its maker
+ *   must say it);
+ * - the script is as it was, and nothing but this script was written in the pool since it was prepared from
+ *   it: keep the script on storage of its own, with a digest, before the first apply, and forget it only once
+ *   the pool's words are on their storage.
+ *
+ * A pool where an apply was cut is not well-formed, as a rule: until one has ended, apply again and call
+ * nothing else on it. */
+
+#define XAPOOL_PAIR_WORDS 2
+
+/* The script of one command, given as its record as in a batch, for this pool, which is only read. It checks the
+ * pool first. Gives 0 and the words of the script, which are the first of the slice; the rest of it stays as it
+ * was, and with any other answer all of it does. Refused, in this order: 1; 2; 3, the bytes are not exactly
+ * one whole record of a command that changes the pool (a load and a find do not); what the command itself would
+ * be answered: 5, 14 or 6 of a store, 7 of a mark or an unmark, 10 of those and of an erase, 15 of a reserve, 11
+ * of a store or a reserve; 4, the slice is too small. The number is the script's words with 0 and with 4, so with no
+ * slice (NULL, 0) it says what to make room for, and 0 with all others. A command that changes nothing, such as
+ * a mark that is set already, has a script of no words. */
+XAPOOL_MUST_USE
+xapool_result xapool_prepare(const uint64_t *pool, size_t pool_words,
+                             const uint8_t *record, size_t record_bytes,
+                             uint64_t *script, size_t script_words);
+
+/* Writes each value at its place, in order. Gives 0; 1 for a pool of wrong size; 17 for a place outside the
+ * pool or half a pair, both looked at before the first write. The number is 0. Whether the words are those of
+ * a pool is not looked at, nor whether places rise: xapool_check says the first, once it has given 0. */
+XAPOOL_MUST_USE
+xapool_result xapool_apply(uint64_t *pool, size_t pool_words, const uint64_t *script, size_t script_words);
 
 /* ---- Regions ----
  *
@@ -752,7 +799,7 @@ static inline const char *xapool_answer_text(uint64_t answer)
                " N words, N from 1 to " XAPOOL_QUOTED(XAPOOL_MAX_NODES);
     case XAPOOL_NOT_WELL_FORMED: return "pool is not well-formed";
     case XAPOOL_BAD_BATCH: return "batch too long, or a record is cut, of unknown tag or wrong length";
-    case XAPOOL_REPLY_SPACE: return "space under 24 bytes a command, or 21 an entry of a list";
+    case XAPOOL_REPLY_SPACE: return "space under 24 bytes a command, 21 an entry of a list, or a script's words";
     case XAPOOL_BAD_ORDER: return "order above 63";
     case XAPOOL_BAD_ENTRY: return "entry is 0 or ends in binary 10";
     case XAPOOL_BAD_MARK: return "mark above 2 or filter above 3";
@@ -764,6 +811,7 @@ static inline const char *xapool_answer_text(uint64_t answer)
     case XAPOOL_PAUSED: return "paused";
     case XAPOOL_NOT_ALIGNED: return "index is not a multiple of 2^order";
     case XAPOOL_COVERED: return "index is covered by an entry or reserved";
+    case XAPOOL_BAD_SCRIPT: return "script has a place outside the pool, or half a pair";
     case XAPOOL_BAD_GATE: return "limit is not a number from 0 to 1, a above b, or no such kind of gate";
     case XAPOOL_NO_TOTAL: return "total 0: there is nothing to pass";
     case XAPOOL_PART_ABOVE_TOTAL: return "part above the total";

@@ -1,8 +1,8 @@
 //! bench: loads through xapool_run beside the engines of engine/, three of them also over a BTreeMap,
-//! the cost by nodes, that of free nodes, lists, digests and comparisons, the check beside an OR, and
-//! look-ups of evidence.
+//! the cost by nodes, that of free nodes, lists, digests and comparisons, the check beside an OR,
+//! look-ups of evidence, and commands by a script.
 //! With `engines` that with the engines alone, with `checks` that of the check, with `evidence` a look-up
-//! in a sheet, with `plain` the library's two engines; with `against` two builds of the library in one run; with `redraw` the pictures of the figures in BENCHMARKS.md.
+//! in a sheet, with `plain` the library's two engines, with `scripts` preparing and applying; with `against` two builds of the library in one run; with `redraw` the pictures of the figures in BENCHMARKS.md.
 
 mod against;
 mod beside_or;
@@ -20,6 +20,7 @@ mod measure;
 mod plain;
 mod plot;
 mod regions;
+mod scripts;
 mod sheets;
 mod stores;
 mod table;
@@ -49,6 +50,7 @@ usage: bench [--indices N] [--repeats N] [--small-repeats N] [--rounds N] [--wri
        bench checks ..    the check of pools of many kinds beside an OR of their words
        bench evidence ..  a look-up in a sheet of 1 MB beside plain reading
        bench plain ..     the plain engine beside the tree, for 40, 400 and 4,096 entries
+       bench scripts ..   preparing a command and applying its script, beside the check and the uncut command
        bench against ..   two builds in one run: scripts/bench-against
        bench redraw DIR   engines.svg and benchmarks.svg anew, from DIR/BENCHMARKS.md; nothing is measured
 Exit status: 0 fine, 1 a call was refused or a file could not be written, 2 bad usage.";
@@ -87,6 +89,7 @@ fn main() -> ExitCode {
         "against" => (against::run(env::args().skip(2)), against::USAGE),
         "checks" => (beside_or::measure(env::args().skip(2)), beside_or::USAGE),
         "evidence" => (sheets::measure(env::args().skip(2)), sheets::USAGE),
+        "scripts" => (scripts::measure(env::args().skip(2)), scripts::USAGE),
         "plain" => (two_engines::measure(env::args().skip(2)), two_engines::USAGE),
         "engines" => (engines::measure(env::args().skip(2)), engines::USAGE),
         "redraw" => (env::args().nth(2).map(|folder| redraw(&folder)), USAGE),
@@ -139,6 +142,7 @@ fn measure_alone(options: &Options) -> Result<String, String> {
     let checks = beside_or::rows(MOST_NODES, options.small_repeats.div_ceil(2))?;
     let checks_text =
         format!("{}\n{}\n", beside_or::table(MOST_NODES, &checks), beside_or::verdict(&checks));
+    let scripts = scripts::rows(options.small_repeats.div_ceil(4))?;
     let texts = [
         table::loads(&rows),
         nodes_text,
@@ -148,6 +152,7 @@ fn measure_alone(options: &Options) -> Result<String, String> {
         table::regions(&regions),
         sheets::table(&sheets::rows(options.small_repeats)?),
         two_engines::table(&two_engines::rows(options.small_repeats.div_ceil(2))?),
+        format!("{}\n{}\n", scripts::table(&scripts), scripts::verdict(&scripts)),
     ];
     Ok(texts.join("\n"))
 }

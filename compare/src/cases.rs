@@ -1,10 +1,11 @@
 //! Cases 13 to 15 (R118 to R120, R231), the empty batch, and batches of 32,768 and 32,769 bytes, with
 //! the rules' own figures; unaligned stores (P4), stores over mark 2 (P5), the listings of
 //! listing_cases.rs, the reservations of reserve_cases.rs, the filled counts of count_cases.rs, the sheets of
-//! sheet_cases.rs, the gates of gate_cases.rs, the plain engine of plain_cases.rs and the largest pool of large_cases.rs; and cases 2 to 13 command by command against reference, all words
+//! sheet_cases.rs, the gates of gate_cases.rs, the plain engine of plain_cases.rs, the scripts of apply_cases.rs and prepare_cases.rs and the largest pool of large_cases.rs; and cases 2 to 13 command by command against reference, all words
 //! and replies (their figures are computed by the proved table and tested in host/). A case that fails
 //! says which commands it ran and the first word or byte that differs.
 
+use crate::apply_cases::apply_cases;
 use crate::batches::{hex, show};
 use crate::count_cases::count_cases;
 use crate::gate_cases::gate_cases;
@@ -13,6 +14,7 @@ use crate::lend::{Call, Given, Lender};
 use crate::list::CallList;
 use crate::listing_cases::listing_cases;
 use crate::plain_cases::plain_cases;
+use crate::prepare_cases::prepare_cases;
 use crate::program::Input;
 use crate::reserve_cases::reserve_cases;
 use crate::sheet_cases::sheet_cases;
@@ -272,6 +274,8 @@ pub fn run_all(with_program: bool) -> (usize, Vec<(&'static str, String)>) {
         sheet_cases(),
         gate_cases(),
         plain_cases(),
+        apply_cases(),
+        prepare_cases(),
     ]
     .concat();
     let all = [starred(), figures, programs(with_program)].concat();

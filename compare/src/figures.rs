@@ -1,11 +1,13 @@
 //! What was compared so far, counted in memory that the child process shares with us.
 
+use crate::applies;
 use crate::gates;
 use crate::lend::{Call, Given};
 use crate::listings::{kinds, KINDS};
 use crate::os::shared_numbers;
 use crate::plain_kinds;
 use crate::plain_slices::Slices;
+use crate::prepare_kinds;
 use crate::reserves;
 use crate::sheets;
 use crate::stretch::{counts, FindCounts};
@@ -13,7 +15,7 @@ use std::sync::atomic::{AtomicU64, Ordering::Relaxed};
 
 #[derive(Clone, Copy)]
 pub struct Figures {
-    numbers: &'static [AtomicU64; 320],
+    numbers: &'static [AtomicU64; 400],
 }
 
 /// Which number is what.
@@ -29,6 +31,12 @@ pub enum Of {
     ProgramBatches = 7,
     ProgramBytes = 8,
     Changes = 9,
+    Applies = 10,
+    AppliedWords = 11,
+    Cuts = 12,
+    PreparedPools = 13,
+    PreparedWords = 14,
+    PreparedCuts = 15,
     FindLists = 48,
     FindWords = 49,
     FindReplyBytes = 50,
@@ -79,6 +87,14 @@ const GATE_KINDS: usize = 192;
 const PLAIN_CALL_ANSWERS: usize = 224;
 const PLAIN_REPLY_ANSWERS: usize = 232;
 const PLAIN_KINDS: usize = 256;
+/// The first number of the kinds of applying.
+const APPLY_KINDS: usize = 304;
+/// The first number of preparing's answers, of the heights of its pools, and of its kinds.
+const PREPARE_ANSWERS: usize = 320;
+const PREPARE_HEIGHTS: usize = 336;
+const PREPARE_KINDS: usize = 352;
+/// In so many calls each answer comes.
+const ENOUGH_PREPARED: u64 = 20_000;
 
 impl Figures {
     pub fn new() -> Figures {
@@ -313,6 +329,69 @@ impl Figures {
         println!("  answers of calls      {}", self.answers(PLAIN_CALL_ANSWERS, 0..5));
         println!("  answers in replies    {}", self.answers(PLAIN_REPLY_ANSWERS, 0..16));
         self.print_kinds(PLAIN_KINDS, &plain_kinds::KINDS.map(|(_, name)| name));
+    }
+
+    /// Counts an applying by its kinds.
+    pub fn count_applying(self, kinds: &[applies::Kind]) {
+        for kind in kinds {
+            self.numbers[APPLY_KINDS + *kind as usize].fetch_add(1, Relaxed);
+        }
+    }
+
+    pub fn print_applies(self) {
+        println!(
+            "apply: {} calls, {} words compared, {} of them after a cut, some of the writes or garbage",
+            self.get(Of::Applies),
+            self.get(Of::AppliedWords),
+            self.get(Of::Cuts)
+        );
+        self.print_kinds(APPLY_KINDS, &applies::KINDS.map(|(_, name)| name));
+    }
+
+    pub fn count_prepare_answer(self, answer: u64) {
+        self.numbers[PREPARE_ANSWERS + answer as usize].fetch_add(1, Relaxed);
+    }
+
+    /// Counts a preparing by its kinds.
+    pub fn count_preparing(self, kinds: &[prepare_kinds::Kind]) {
+        for kind in kinds {
+            self.numbers[PREPARE_KINDS + *kind as usize].fetch_add(1, Relaxed);
+        }
+    }
+
+    /// Counts a pool of preparings by the height of its tree.
+    pub fn count_height(self, height: usize) {
+        self.numbers[PREPARE_HEIGHTS + height].fetch_add(1, Relaxed);
+    }
+
+    /// The calls of preparing.
+    fn prepared(self) -> u64 {
+        (0..16).map(|answer| self.numbers[PREPARE_ANSWERS + answer].load(Relaxed)).sum()
+    }
+
+    pub fn print_prepares(self) {
+        println!(
+            "prepare: {} calls on {} pools, {} words of pools and slices compared; {} applied, most of them after a cut",
+            self.prepared(),
+            self.get(Of::PreparedPools),
+            self.get(Of::PreparedWords),
+            self.get(Of::PreparedCuts)
+        );
+        println!("  answers               {}", self.answers(PREPARE_ANSWERS, 0..16));
+        println!("  heights of the trees  {}", self.answers(PREPARE_HEIGHTS, 0..12));
+        self.print_kinds(PREPARE_KINDS, &prepare_kinds::KINDS.map(|(_, name)| name));
+    }
+
+    /// Whether each answer of preparing was met, if there were calls enough for it.
+    pub fn every_prepare_answer(self) -> bool {
+        let met = |answer: &usize| self.numbers[PREPARE_ANSWERS + answer].load(Relaxed) > 0;
+        let all = [0, 1, 2, 3, 4, 5, 6, 7, 10, 11, 14, 15];
+        let never: Vec<usize> = all.into_iter().filter(|answer| !met(answer)).collect();
+        let fine = never.is_empty() || self.prepared() < ENOUGH_PREPARED;
+        if !fine {
+            println!("DIFFERENCE in prepare: answers that never came: {never:?}");
+        }
+        fine
     }
 
     pub fn print_engine(self) {

@@ -1,9 +1,10 @@
-//! The largest pool (P8): 16,384 nodes, all but one of them in use, against reference. One case, since
+//! The largest pool (P8): 16,384 nodes, all but one of them in use, against reference. Few cases, since
 //! each call takes reference a second or so.
 
 use crate::cases::{records, store, Case};
 use crate::lend::Call;
 use crate::list::CallList;
+use crate::prepares::Preparing;
 use reference::model::Entry;
 use reference::pool::{node_word, State, MOST_NODES};
 use xapool_host::layout::{count_place, slot_place};
@@ -19,7 +20,14 @@ pub fn large_cases() -> Vec<Case> {
     let mut no_such_node = words.clone();
     no_such_node[slot_place(0, 0)] = node_word(MOST_NODES);
     let check = |words| CallList { words, calls: vec![Call::Check] }.difference(None);
+    let prepare = |words: &[u64], command| {
+        let (words, record) = (words.to_vec(), records(&[command]));
+        Preparing { words, record, seed: 1 }.difference(None)
+    };
+    let (last, gone) = (store(64 * LEAVES, 3), Command::Erase { index: 64 * 5000 });
     vec![
+        ("16,384 nodes, the last one prepared", prepare(&words, last)),
+        ("16,384 nodes, one of them freed by a script", prepare(&words, gone)),
         ("16,384 nodes against reference", last_node(words)),
         ("16,384 nodes, a wrong count", check(wrong_count)),
         ("16,384 nodes, the word of node 16,384", check(no_such_node)),

@@ -4,6 +4,8 @@
 //! The library is the one that XAPOOL_LIB named when this was built; the programs are named by
 //! TAMBURISH_BIN and REFERENCE_BIN. TAMBURISH_BIN=none leaves the program out.
 
+mod applies;
+mod apply_cases;
 mod batches;
 mod cases;
 mod count_cases;
@@ -27,6 +29,10 @@ mod plain_slices;
 #[cfg(test)]
 mod plain_tests;
 mod pools;
+mod prepare_cases;
+mod prepare_kinds;
+mod prepare_pools;
+mod prepares;
 mod program;
 mod reserve_cases;
 mod reserves;
@@ -37,6 +43,8 @@ mod stretch;
 #[cfg(test)]
 mod tests;
 mod trial;
+#[cfg(test)]
+mod wrong_prepares;
 
 use figures::{Figures, Of};
 use gates::LEAST_ROWS;
@@ -54,12 +62,16 @@ usage: compare [SECONDS [SEED]]     all of it, in about so many seconds (100 if 
        compare evidence SECONDS [SEED]   look-ups in sheets alone
        compare gates SECONDS [SEED]   gates alone, 12 million at least
        compare plain SECONDS [SEED]   the plain engine alone, and beside the tree
+       compare apply SECONDS [SEED]   scripts applied, alone
+       compare prepare SECONDS [SEED]   scripts prepared and then applied, alone
        compare again calls SEED     one list of calls, by the seed that was printed
        compare again finds SEED     one list of calls made for finds
        compare again engine SEED    one list of calls by the engines
        compare again evidence SEED  one look-up in sheets
        compare again gates SEED     one row of gates
        compare again plain SEED     one list of calls by the plain engine
+       compare again apply SEED     one script, with its cuts
+       compare again prepare SEED   one record prepared, into slices of several sizes
        compare again program SEED   one input of the program
 The long run: compare 3600
 Exit status: 0 no difference, 1 a difference, 2 bad usage or no program.";
@@ -88,6 +100,14 @@ fn main() -> ExitCode {
         ["plain", seconds] => number(seconds).map(|s| compare_plain(s, clock())),
         ["plain", seconds, seed] => {
             number(seconds).and_then(|s| Ok(compare_plain(s, number(seed)?)))
+        }
+        ["apply", seconds] => number(seconds).map(|s| compare_apply(s, clock())),
+        ["apply", seconds, seed] => {
+            number(seconds).and_then(|s| Ok(compare_apply(s, number(seed)?)))
+        }
+        ["prepare", seconds] => number(seconds).map(|s| compare_prepare(s, clock())),
+        ["prepare", seconds, seed] => {
+            number(seconds).and_then(|s| Ok(compare_prepare(s, number(seed)?)))
         }
         ["again", kind, seed] => again(kind, seed),
         [seconds] => number(seconds).and_then(|seconds| compare(seconds, clock())),
@@ -142,8 +162,8 @@ fn compare(seconds: u64, seed: u64) -> Result<bool, String> {
     let left = all.saturating_sub(started.elapsed()).max(all / 2);
     let programs = if program { left / 4 } else { Duration::ZERO };
     let (finds, engines, evidence, gates) = (left / 4, left / 8, left / 16, left / 64);
-    let plain = left / 16;
-    let calls = left - programs - finds - engines - evidence - gates - plain;
+    let (plain, apply, prepare) = (left / 16, left / 32, left / 32);
+    let calls = left - programs - finds - engines - evidence - gates - plain - apply - prepare;
     same &= random_trials(Kind::Calls, seed, calls, figures);
     figures.print_calls();
     same &= random_trials(Kind::Finds, seed, finds, figures);
@@ -158,6 +178,11 @@ fn compare(seconds: u64, seed: u64) -> Result<bool, String> {
     figures.print_gates();
     same &= random_trials(Kind::Plain, seed, plain, figures);
     figures.print_plain();
+    same &= random_trials(Kind::Apply, seed, apply, figures);
+    figures.print_applies();
+    same &= random_trials(Kind::Prepare, seed, prepare, figures);
+    figures.print_prepares();
+    same &= figures.every_prepare_answer();
     if program {
         same &= random_trials(Kind::Program, seed, programs, figures);
         figures.print_program();
@@ -199,6 +224,22 @@ fn compare_plain(seconds: u64, seed: u64) -> bool {
     let same = random_trials(Kind::Plain, seed, Duration::from_secs(seconds), figures);
     figures.print_plain();
     same
+}
+
+fn compare_apply(seconds: u64, seed: u64) -> bool {
+    println!("compare apply: {seconds} seconds, seed {seed}");
+    let figures = Figures::new();
+    let same = random_trials(Kind::Apply, seed, Duration::from_secs(seconds), figures);
+    figures.print_applies();
+    same
+}
+
+fn compare_prepare(seconds: u64, seed: u64) -> bool {
+    println!("compare prepare: {seconds} seconds, seed {seed}");
+    let figures = Figures::new();
+    let same = random_trials(Kind::Prepare, seed, Duration::from_secs(seconds), figures);
+    figures.print_prepares();
+    same & figures.every_prepare_answer()
 }
 
 /// In a child process, as all that calls the library is.
@@ -275,6 +316,8 @@ fn again(kind: &str, seed: &str) -> Result<bool, String> {
         "evidence" => Kind::Evidence,
         "gates" => Kind::Gates,
         "plain" => Kind::Plain,
+        "apply" => Kind::Apply,
+        "prepare" => Kind::Prepare,
         "program" => Kind::Program,
         _ => return Err(USAGE.into()),
     };

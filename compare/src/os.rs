@@ -91,9 +91,9 @@ pub fn guards_hold() -> bool {
 }
 
 /// Numbers that a child process shares with its parent, all 0 at first.
-pub fn shared_numbers() -> &'static [AtomicU64; 320] {
+pub fn shared_numbers() -> &'static [AtomicU64; 400] {
     let at = map(PAGE, MAP_SHARED);
-    // SAFETY: a page of zeros that is never unmapped; it holds 320 such numbers.
+    // SAFETY: a page of zeros that is never unmapped; it has room for 512 such numbers.
     unsafe { &*at.cast() }
 }
 

@@ -42,7 +42,7 @@ pub fn random_words(random: &mut Random, source: &mut Source) -> Vec<u64> {
 }
 
 /// A length that no pool has, or (at times) has.
-fn odd_length(random: &mut Random, nodes: usize) -> usize {
+pub fn odd_length(random: &mut Random, nodes: usize) -> usize {
     match random.below(6) {
         0 => 0,
         1 => 4,
@@ -65,7 +65,7 @@ pub fn well_formed(random: &mut Random, source: &mut Source, nodes: usize) -> Ve
 }
 
 /// What random commands seldom leave: an entry or a reservation as head, or entries of order 63.
-fn corner(random: &mut Random, nodes: usize) -> Vec<u64> {
+pub fn corner(random: &mut Random, nodes: usize) -> Vec<u64> {
     let which = random.below(10);
     let mut entry = |base, order| {
         let (word, marks) = (2 * random.below(100) + 1, random.below(8) as u8);

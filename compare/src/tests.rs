@@ -1,5 +1,6 @@
 //! The random lists reach what they are to reach: this is a test of the test, by reference alone.
 
+use crate::applies;
 use crate::engines;
 use crate::finds::random_list;
 use crate::gates;
@@ -7,12 +8,15 @@ use crate::lend::{by_reference, Call};
 use crate::list::CallList;
 use crate::listings::{kinds, Kind, KINDS};
 use crate::pools::recount;
+use crate::prepare_kinds;
+use crate::prepares::Preparing;
 use crate::program::Input;
 use crate::reserves;
 use crate::sheets;
 use crate::stretch::{counts, FindCounts};
+use crate::wrong_prepares;
 use reference::batch::{read, Command, MOST_BATCH_BYTES};
-use reference::calls::{self, check, init, run};
+use reference::calls::{self, check, init, run, Outcome};
 use reference::command::{execute, needed, needed_to_reserve, Done};
 use reference::evidence::{records, Record};
 use reference::model::{
@@ -20,13 +24,14 @@ use reference::model::{
 };
 use reference::pool::{node_count, State, MOST_NODES};
 use reference::recover::recover;
+use reference::scripts::prepare;
 use reference::tree::Node;
 use std::collections::BTreeMap;
 use std::sync::OnceLock;
 use xapool_host::layout::{
     count_place, ANCHOR_WORDS, COUNT_FIELD, MARK_FIELD, NODE_WORDS, SLOT_FIELD,
 };
-use xapool_host::raw::RawPart;
+use xapool_host::raw::{self, RawPart};
 use xapool_host::PROGRAM_BATCH_BYTES;
 
 type Counts<T> = BTreeMap<T, usize>;
@@ -596,5 +601,119 @@ fn planted_faults_of_gates_show() {
         let differs = |ask: &&gates::Ask| ask.by_reference() != wrong_gate(fault, **ask);
         let seen = asks.iter().filter(differs).count();
         assert!(if fault.is_empty() { seen == 0 } else { seen >= 20 }, "{fault}: {seen}");
+    }
+}
+
+/// Of 2,000 scripts every kind is met ten times.
+#[test]
+fn every_kind_of_applying_is_met() {
+    let mut met: Counts<applies::Kind> = Counts::new();
+    for seed in 0..2000 {
+        let kinds = applies::kinds(&applies::Applying::random(seed));
+        kinds.into_iter().for_each(|kind| *met.entry(kind).or_default() += 1);
+    }
+    for (kind, name) in applies::KINDS {
+        assert!(met.get(&kind).is_some_and(|count| *count >= 10), "{name}: {met:?}");
+    }
+}
+
+/// What a wrong program does.
+fn wrong_apply(fault: &str, pool: &mut [u64], script: &[u64]) -> Outcome {
+    let refused = |answer| Outcome { answer, number: 0 };
+    let (pairs, half) = script.as_chunks::<2>();
+    if fault != "any size" && node_count(pool.len()).is_none() {
+        return refused(1);
+    }
+    if fault != "half a pair" && fault != "17 at the end" && !half.is_empty() {
+        return refused(17);
+    }
+    let most = pool.len() as u64 + u64::from(fault == "one beyond");
+    if fault != "17 when met" && pairs.iter().any(|[place, _]| *place >= most) {
+        return refused(17);
+    }
+    if fault == "checks the pool" && raw::check(pool).answer != 0 {
+        return refused(2);
+    }
+    for (number, [place, value]) in pairs.iter().enumerate() {
+        match pool.get_mut(*place as usize) {
+            Some(word) if fault == "stops at an equal word" && *word == *value => break,
+            Some(_) if fault == "the last left out" && number + 1 == pairs.len() => {}
+            Some(word) => *word = *value,
+            None if fault == "one beyond" => {}
+            None => return refused(17),
+        }
+    }
+    let late = fault == "17 at the end" && !half.is_empty();
+    Outcome {
+        answer: if late { 17 } else { 0 },
+        number: u64::from(fault == "counts pairs") * pairs.len() as u64,
+    }
+}
+
+/// Each of these faults shows in one script of a hundred or more often; without one there is no difference.
+#[test]
+fn planted_faults_of_applying_show() {
+    let faults = [
+        "",
+        "any size",
+        "half a pair",
+        "one beyond",
+        "17 when met",
+        "17 at the end",
+        "checks the pool",
+        "stops at an equal word",
+        "the last left out",
+        "counts pairs",
+    ];
+    for fault in faults {
+        let other = |pool: &mut [u64], script: &[u64]| wrong_apply(fault, pool, script);
+        let differs =
+            |seed: &u64| applies::Applying::random(*seed).difference_by(&other, None).is_some();
+        let seen = (0..500).filter(differs).count();
+        assert!(if fault.is_empty() { seen == 0 } else { seen >= 5 }, "{fault}: {seen}");
+    }
+}
+
+/// Of 4,000 preparings every answer comes a hundred times, and every height and every kind ten times.
+#[test]
+fn every_kind_of_preparing_is_met() {
+    let mut kinds: Counts<prepare_kinds::Kind> = Counts::new();
+    let mut answers: Counts<u64> = Counts::new();
+    let mut heights: Counts<usize> = Counts::new();
+    for seed in 0..4000 {
+        let preparing = Preparing::random(seed);
+        let heights = &mut heights;
+        recover(&preparing.words)
+            .iter()
+            .for_each(|state| *heights.entry(prepare_kinds::height(state)).or_default() += 1);
+        let (outcome, script) = preparing.by_reference();
+        let mut met = prepare_kinds::kinds(&preparing, outcome);
+        for room in preparing.rooms(script.len()) {
+            let given = prepare(&preparing.words, &preparing.record, &mut vec![0; room]);
+            *answers.entry(given.answer).or_default() += 1;
+            assert!(given == outcome || given.answer == 4 && room < script.len());
+            met.extend(prepare_kinds::room_kinds(room, given));
+        }
+        met.into_iter().for_each(|kind| *kinds.entry(kind).or_default() += 1);
+    }
+    for answer in [0, 1, 2, 3, 4, 5, 6, 7, 10, 11, 14, 15] {
+        assert!(answers.get(&answer).is_some_and(|count| *count >= 100), "{answer}: {answers:?}");
+    }
+    assert!((0..12).all(|height| heights.get(&height) >= Some(&10)), "{heights:?}");
+    for (kind, name) in prepare_kinds::KINDS {
+        assert!(kinds.get(&kind).is_some_and(|count| *count >= 10), "{name}: {kinds:?}");
+    }
+}
+
+/// Each of these faults shows in one preparing of three hundred or more often; without one there is no difference.
+#[test]
+fn planted_faults_of_preparing_show() {
+    for fault in [""].into_iter().chain(wrong_prepares::FAULTS) {
+        let other = |pool: &[u64], record: &[u8], slice: &mut [u64]| {
+            wrong_prepares::prepare(fault, pool, record, slice)
+        };
+        let differs = |seed: &u64| Preparing::random(*seed).difference_by(&other, None).is_some();
+        let seen = (0..600).filter(differs).count();
+        assert!(if fault.is_empty() { seen == 0 } else { seen >= 2 }, "{fault}: {seen}");
     }
 }

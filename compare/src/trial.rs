@@ -1,5 +1,6 @@
 //! Something compared, of any kind; and the search for a smaller one that still differs.
 
+use crate::applies::Applying;
 use crate::engines;
 use crate::figures::Figures;
 use crate::finds;
@@ -7,6 +8,7 @@ use crate::gates::Asks;
 use crate::list::CallList;
 use crate::os::{end_after, in_child, End};
 use crate::plain::PlainList;
+use crate::prepares::Preparing;
 use crate::program::Input;
 use crate::sheets::LookUp;
 use std::time::{Duration, Instant};
@@ -19,6 +21,8 @@ pub enum Kind {
     Evidence,
     Gates,
     Plain,
+    Apply,
+    Prepare,
     Program,
 }
 
@@ -31,6 +35,8 @@ impl Kind {
             Kind::Evidence => "evidence",
             Kind::Gates => "gates",
             Kind::Plain => "plain",
+            Kind::Apply => "apply",
+            Kind::Prepare => "prepare",
             Kind::Program => "program",
         }
     }
@@ -46,6 +52,8 @@ pub enum Trial {
     Gates(Asks),
     /// The plain engine, and the tree beside it.
     Plain(PlainList),
+    Apply(Applying),
+    Prepare(Preparing),
     Program(Input),
 }
 
@@ -62,6 +70,8 @@ impl Trial {
             Kind::Evidence => Trial::Evidence(LookUp::random(seed)),
             Kind::Gates => Trial::Gates(Asks::random(seed)),
             Kind::Plain => Trial::Plain(PlainList::random(seed)),
+            Kind::Apply => Trial::Apply(Applying::random(seed)),
+            Kind::Prepare => Trial::Prepare(Preparing::random(seed)),
             Kind::Program => Trial::Program(Input::random(seed)),
         }
     }
@@ -74,6 +84,8 @@ impl Trial {
             Trial::Evidence(look_up) => look_up.difference(figures),
             Trial::Gates(asks) => asks.difference(figures),
             Trial::Plain(list) => list.difference(figures),
+            Trial::Apply(applying) => applying.difference(figures),
+            Trial::Prepare(preparing) => preparing.difference(figures),
             Trial::Program(input) => input.difference(figures),
         }
     }
@@ -86,6 +98,8 @@ impl Trial {
             Trial::Evidence(look_up) => Box::new(look_up.smaller().map(Trial::Evidence)),
             Trial::Gates(asks) => Box::new(asks.smaller().map(Trial::Gates)),
             Trial::Plain(list) => Box::new(list.smaller().map(Trial::Plain)),
+            Trial::Apply(applying) => Box::new(applying.smaller().map(Trial::Apply)),
+            Trial::Prepare(preparing) => Box::new(preparing.smaller().map(Trial::Prepare)),
             Trial::Program(input) => Box::new(input.smaller().map(Trial::Program)),
         }
     }
@@ -96,6 +110,8 @@ impl Trial {
             Trial::Evidence(look_up) => look_up.show(),
             Trial::Gates(asks) => asks.show(),
             Trial::Plain(list) => list.show(),
+            Trial::Apply(applying) => applying.show(),
+            Trial::Prepare(preparing) => preparing.show(),
             Trial::Program(input) => input.show(),
         }
     }

@@ -252,6 +252,81 @@ static void a_list_is_whole_or_not_at_all(void)
     lists(pool, 65, 64, 0, XAPOOL_NOT_WELL_FORMED, 0, NULL);
 }
 
+/* A script of the one command in a batch, into so many words; 'written' of them change, all others stay. */
+static void prepares(const uint64_t *pool, const xapool_batch *b, size_t words, uint64_t answer, uint64_t number,
+                     const uint64_t *written)
+{
+    uint64_t script[8];
+    memset(script, 0xee, sizeof script);
+    xapool_result r = xapool_prepare(pool, XAPOOL_WORDS(3), b->bytes, b->used, script, words);
+    CHECK(r.answer == answer && r.number == number);
+    size_t used = answer == XAPOOL_DONE ? r.number : 0;
+    CHECK(used == 0 || memcmp(script, written, used * sizeof *script) == 0);
+    for (size_t i = used; i < 8; i++)
+        CHECK(script[i] == UINT64_C(0xeeeeeeeeeeeeeeee));
+}
+
+/* Node 0 has 8 to 15; node 1 grew over it, and has node 2, with 64, in slot 1. So mark 1 of 64 is in slot 0 of node 2, in
+ * slot 1 of node 1, and in the anchor. The pool has no node left. */
+static void a_script_is_whole_or_not_at_all(void)
+{
+    static const uint64_t marked[] = { 2, 2, XAPOOL_WORDS(1) + XAPOOL_MARK_FIELD + 1, 2, XAPOOL_WORDS(2) + XAPOOL_MARK_FIELD + 1, 1 };
+    static uint64_t pool[XAPOOL_WORDS(3)], before[XAPOOL_WORDS(3)];
+    uint8_t bytes[100], replies[XAPOOL_REPLIES(2)] = { 0 };
+    xapool_batch b = xapool_batch_over(bytes, sizeof bytes);
+    CHECK(xapool_put_store(&b, 8, 3, XAPOOL_VALUE(1)) && xapool_put_store(&b, 64, 0, XAPOOL_VALUE(2)));
+    CHECK(xapool_init(pool, XAPOOL_WORDS(3)).answer == XAPOOL_DONE);
+    CHECK(xapool_run(pool, XAPOOL_WORDS(3), bytes, b.used, replies, sizeof replies).number == 2);
+    memcpy(before, pool, sizeof pool);
+    prepares(pool, &b, 8, XAPOOL_BAD_BATCH, 0, NULL); /* two commands */
+    static const struct {
+        unsigned kind; /* a tag */
+        uint64_t index, more, word, answer, number;
+    } cases[] = {
+        { XAPOOL_MARK, 64, 1, 0, XAPOOL_DONE, 6 },
+        { XAPOOL_UNMARK, 64, 1, 0, XAPOOL_DONE, 0 },
+        { XAPOOL_LOAD, 64, 0, 0, XAPOOL_BAD_BATCH, 0 },
+        { XAPOOL_STORE, 1, 64, 2, XAPOOL_BAD_ORDER, 0 },
+        { XAPOOL_STORE, 1, 1, 2, XAPOOL_NOT_ALIGNED, 0 },
+        { XAPOOL_STORE, 2, 1, 2, XAPOOL_BAD_ENTRY, 0 },
+        { XAPOOL_MARK, 7, 3, 0, XAPOOL_BAD_MARK, 0 },
+        { XAPOOL_MARK, 7, 2, 0, XAPOOL_ABSENT, 0 },
+        { XAPOOL_ERASE, 7, 0, 0, XAPOOL_ABSENT, 0 },
+        { XAPOOL_STORE, 4096, 0, 3, XAPOOL_TOO_FEW_NODES, 0 },
+        { XAPOOL_RESERVE, 4096, 0, 0, XAPOOL_TOO_FEW_NODES, 0 },
+        { XAPOOL_RESERVE, 9, 0, 0, XAPOOL_COVERED, 0 },
+    };
+    for (unsigned i = 0; i < sizeof cases / sizeof *cases; i++) {
+        b = xapool_batch_over(bytes, sizeof bytes);
+        int put = cases[i].kind == XAPOOL_STORE   ? xapool_put_store(&b, cases[i].index, cases[i].more, cases[i].word)
+                  : cases[i].kind == XAPOOL_MARK   ? xapool_put_mark(&b, cases[i].index, cases[i].more)
+                  : cases[i].kind == XAPOOL_UNMARK ? xapool_put_unmark(&b, cases[i].index, cases[i].more)
+                  : cases[i].kind == XAPOOL_ERASE  ? xapool_put_erase(&b, cases[i].index)
+                  : cases[i].kind == XAPOOL_LOAD   ? xapool_put_load(&b, cases[i].index)
+                                                   : xapool_put_reserve(&b, cases[i].index);
+        CHECK(put);
+        prepares(pool, &b, 8, cases[i].answer, cases[i].number, marked);
+        if (cases[i].answer != XAPOOL_DONE)
+            prepares(pool, &b, 0, cases[i].answer, 0, NULL); /* before it is 4 */
+        b.used--;
+        prepares(pool, &b, 8, XAPOOL_BAD_BATCH, 0, NULL);
+    }
+    b = xapool_batch_over(bytes, sizeof bytes);
+    CHECK(xapool_put_mark(&b, 64, 1));
+    prepares(pool, &b, 6, XAPOOL_DONE, 6, marked);
+    for (size_t words = 0; words < 6; words++)
+        prepares(pool, &b, words, XAPOOL_REPLY_SPACE, 6, NULL);
+    CHECK(xapool_prepare(pool, XAPOOL_WORDS(3), bytes, b.used, NULL, 0).number == 6);
+    CHECK(xapool_prepare(pool, XAPOOL_WORDS(3) - 1, NULL, 0, NULL, 0).answer == XAPOOL_POOL_LENGTH);
+    CHECK(memcmp(pool, before, sizeof pool) == 0);
+    CHECK(xapool_apply(pool, XAPOOL_WORDS(3), marked, 6).answer == XAPOOL_DONE);
+    CHECK(xapool_run(before, XAPOOL_WORDS(3), bytes, b.used, replies, sizeof replies).number == 1);
+    CHECK(memcmp(pool, before, sizeof pool) == 0);
+    b.used--;
+    pool[3] = 1;
+    prepares(pool, &b, 0, XAPOOL_NOT_WELL_FORMED, 0, NULL);
+}
+
 /* What the commands of a batch are answered with. */
 static void answers(uint64_t *pool, xapool_batch *b, const uint8_t *wanted)
 {
@@ -410,7 +485,7 @@ static void answers_have_texts(void)
 {
     for (unsigned a = XAPOOL_DONE; a <= XAPOOL_COVERED; a++)
         CHECK(strcmp(xapool_answer_text(a), xapool_answer_text(16)) != 0);
-    for (unsigned a = XAPOOL_BAD_GATE; a <= XAPOOL_PART_ABOVE_TOTAL; a++)
+    for (unsigned a = XAPOOL_BAD_SCRIPT; a <= XAPOOL_PART_ABOVE_TOTAL; a++)
         CHECK(strcmp(xapool_answer_text(a), xapool_answer_text(16)) != 0);
     CHECK(strcmp(xapool_answer_text(XAPOOL_TOO_FEW_NODES), "too few free nodes") == 0);
     CHECK(strcmp(xapool_answer_text(XAPOOL_POOL_LENGTH), "pool length is not 4 + 70 N words, N from 1 to 16384") == 0);
@@ -482,6 +557,8 @@ static void null_with_length_0_is_fine(void)
     CHECK(xapool_init(NULL, 0).answer == XAPOOL_POOL_LENGTH);
     CHECK(xapool_check(NULL, 0).answer == XAPOOL_POOL_LENGTH);
     CHECK(xapool_run(NULL, 0, NULL, 0, NULL, 0).answer == XAPOOL_POOL_LENGTH);
+    CHECK(xapool_prepare(NULL, 0, NULL, 0, NULL, 0).answer == XAPOOL_POOL_LENGTH);
+    CHECK(xapool_apply(NULL, 0, NULL, 0).answer == XAPOOL_POOL_LENGTH);
     CHECK(xapool_count(NULL, 0).answer == XAPOOL_DONE);
     CHECK(xapool_crc32c(7, NULL, 0) == 7);
     CHECK(xapool_compare(NULL, 0, NULL, 0).verdict == XAPOOL_NOTHING_TO_COMPARE);
@@ -491,6 +568,8 @@ static void null_with_length_0_is_fine(void)
     CHECK(xaplain_run(NULL, 0, NULL, 0, NULL, 0, NULL, 0, NULL, 0, NULL, 0).answer == XAPOOL_DONE);
     CHECK(xapool_init(pool, XAPOOL_WORDS(1)).answer == XAPOOL_DONE);
     CHECK(xapool_run(pool, XAPOOL_WORDS(1), NULL, 0, NULL, 0).answer == XAPOOL_DONE);
+    CHECK(xapool_prepare(pool, XAPOOL_WORDS(1), NULL, 0, NULL, 0).answer == XAPOOL_BAD_BATCH);
+    CHECK(xapool_apply(pool, XAPOOL_WORDS(1), NULL, 0).answer == XAPOOL_DONE);
 }
 
 /* Batch, reply and list at every alignment; nothing past replies and list is written. */
@@ -558,6 +637,7 @@ int main(void)
     values_are_not_cut();
     fields_are_not_cut();
     a_list_is_whole_or_not_at_all();
+    a_script_is_whole_or_not_at_all();
     a_reserved_index_is_held_and_absent();
     finds_go_on_after_the_run();
     nodes_count_their_slots();

@@ -80,6 +80,8 @@ static int nothing_looked_at(void)
     xapool_crc32c(0, bytes, 64); /* dropped */
     xapool_evidence(bytes, 64, replies, 64, 7); /* dropped */
     xapool_gate(XAPOOL_MATCHED_AT_LEAST, 1, 1, 64, 64); /* dropped */
+    xapool_prepare(pool, XAPOOL_WORDS(NODES), bytes, 11, pool, 0); /* dropped */
+    xapool_apply(pool, XAPOOL_WORDS(1), NULL, 0); /* dropped */
     xapool_floats_are_ieee(); /* dropped */
     xapool_list(pool, XAPOOL_WORDS(NODES), 0, UINT64_MAX, bytes, sizeof bytes); /* dropped */
     xaplain_init(pool, 9, pool + 9, 9, pool + 18, 9, pool + 27, 9); /* dropped */

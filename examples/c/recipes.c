@@ -107,6 +107,34 @@ static int says_the_same(uint64_t *rows, size_t room, const xapool_batch *batch,
     return 1;
 }
 
+/* How to be safe from power cuts */
+
+/* The script of one command, before anything is written in the pool: the caller frees it. NULL if there is none: with answer
+ * 0 the command changes nothing, with 4 there is no memory, and any other says why it would not be done. */
+static uint64_t *prepare_one(const uint64_t *pool, size_t pool_words, const xapool_batch *one, xapool_result *r)
+{
+    uint64_t *script = NULL;
+    *r = xapool_prepare(pool, pool_words, one->bytes, one->used, NULL, 0);
+    if (r->answer == XAPOOL_REPLY_SPACE)
+        script = calloc(r->number, sizeof *script); /* the number says how many words */
+    if (script)
+        *r = xapool_prepare(pool, pool_words, one->bytes, one->used, script, r->number);
+    return script; /* to its own storage, with its length and this digest: */
+}
+
+static uint32_t digest_of_script(const uint64_t *script, size_t script_words)
+{
+    return xapool_crc32c(0, (const uint8_t *)script, sizeof *script * script_words);
+}
+
+/* At each start, while a script is kept: ends what was begun, wherever it was cut. 1: the pool has the words after
+ * it, and once they are on their storage the script may go. */
+static int go_on(uint64_t *pool, size_t pool_words, const uint64_t *script, size_t script_words)
+{
+    return xapool_apply(pool, pool_words, script, script_words).answer == XAPOOL_DONE &&
+           xapool_check(pool, pool_words).answer == XAPOOL_DONE;
+}
+
 /* Before you sign */
 
 typedef struct run {
@@ -303,6 +331,40 @@ static void gates(void)
     CHECK(!job_passes(2, 0, 1, 0, 1) && !job_passes(1, 0, 1, 2, 1));
 }
 
+/* Cut after every write, and cut again, it ends where a run that is not cut does. */
+static void scripts(void)
+{
+    static uint8_t record[32];
+    xapool_batch one = xapool_batch_over(record, sizeof record);
+    fill(pool, 70);
+    memcpy(copy, pool, sizeof copy);
+    CHECK(xapool_put_store(&one, 1 << 20, 0, XAPOOL_VALUE(7)));
+    xapool_result r;
+    uint64_t *script = prepare_one(pool, WORDS, &one, &r);
+    CHECK(script && r.answer == XAPOOL_DONE && memcmp(pool, copy, sizeof copy) == 0);
+    CHECK(xapool_run(copy, WORDS, one.bytes, one.used, replies, sizeof replies).number == 1);
+    size_t used = r.number, cut_pools = 0;
+    uint32_t digest = digest_of_script(script, used);
+    CHECK(used > 20 && digest != digest_of_script(script, used - 1));
+    for (size_t cut = 0; cut < used; cut += 2) {
+        fill(pool, 70);
+        CHECK(xapool_apply(pool, WORDS, script, cut).answer == XAPOOL_DONE);
+        cut_pools += xapool_check(pool, WORDS).answer == XAPOOL_NOT_WELL_FORMED;
+        CHECK(xapool_apply(pool, WORDS, script, used - cut).answer == XAPOOL_DONE);
+        CHECK(go_on(pool, WORDS, script, used) && memcmp(pool, copy, sizeof copy) == 0);
+    }
+    CHECK(cut_pools > 0 && xapool_apply(pool, WORDS, NULL, 0).answer == XAPOOL_DONE);
+    script[used - 2] = WORDS;
+    CHECK(digest != digest_of_script(script, used));
+    CHECK(xapool_apply(pool, WORDS, script, used).answer == XAPOOL_BAD_SCRIPT && memcmp(pool, copy, sizeof copy) == 0);
+    CHECK(xapool_apply(pool, WORDS, script, 1).answer == XAPOOL_BAD_SCRIPT);
+    CHECK(xapool_apply(pool, WORDS - 1, script, 2).answer == XAPOOL_POOL_LENGTH);
+    free(script);
+    CHECK(!prepare_one(pool, WORDS, &one, &r) && r.answer == XAPOOL_DONE && r.number == 0); /* it is stored already */
+    one = xapool_batch_over(record, sizeof record);
+    CHECK(xapool_put_erase(&one, 1 << 21) && !prepare_one(pool, WORDS, &one, &r) && r.answer == XAPOOL_ABSENT);
+}
+
 static void evidence(void)
 {
     size_t size = 0, matched = 0;
@@ -495,6 +557,7 @@ int main(void)
         return 1;
     evidence();
     gates();
+    scripts();
     room();
     comparison();
     written();

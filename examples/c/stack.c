@@ -1,5 +1,6 @@
 /* How much stack the calls need: they run on a stack filled with one byte, and what is changed was
- * used. The header says less than 8 KiB, and less than 16 KiB for digests, which keep tables there. */
+ * used. The header says less than 8 KiB, less than 16 KiB for digests, which keep tables there, and less than 24 KiB for
+ * preparing. */
 #define _POSIX_C_SOURCE 200809L
 #include "xapool.h"
 #include <pthread.h>
@@ -10,11 +11,13 @@
 #define STACK (512 * 1024)
 #define SAID (8 * 1024)
 #define SAID_OF_DIGESTS (16 * 1024)
+#define SAID_OF_PREPARING (24 * 1024)
 
 static uint64_t pool[XAPOOL_WORDS(XAPOOL_MAX_NODES)];
 static uint8_t bytes[XAPOOL_BATCH_BYTES], replies[XAPOOL_REPLIES(XAPOOL_MAX_COMMANDS)];
 static uint64_t rows[4][XAPLAIN_ENTRIES_MAX]; /* the plain engine's slices */
 static uint8_t list[XAPOOL_LISTING(64 * XAPOOL_MAX_NODES)]; /* more entries than any pool has */
+static uint64_t script[XAPOOL_PAIR_WORDS * XAPOOL_WORDS(XAPOOL_MAX_NODES)]; /* every word of the pool */
 
 /* A call that must be done; gives its number. */
 static uint64_t must(xapool_result r)
@@ -79,6 +82,7 @@ static uint64_t fill_plain(void)
 
 static void *calls(void *argument)
 {
+    static const uint64_t pair[XAPOOL_PAIR_WORDS] = { 3, 0 }; /* what stands there */
     size_t *ran = argument;
     must(xapool_init(pool, XAPOOL_WORDS(XAPOOL_MAX_NODES)));
     list_the_last_index();
@@ -93,9 +97,31 @@ static void *calls(void *argument)
         *ran += run_plain(&b);
         must(xapool_count(b.bytes, b.used));
         *ran += xapool_evidence(b.bytes, b.used, NULL, 0, round).answer == XAPOOL_DONE; /* a batch is no sheet */
+        must(xapool_apply(pool, XAPOOL_WORDS(XAPOOL_MAX_NODES), pair, 2));
         must(xapool_gate(XAPOOL_MATCHED_BETWEEN, 0, 1, round, 40));
         must(xapool_list(pool, XAPOOL_WORDS(XAPOOL_MAX_NODES), 0, UINT64_MAX, list, sizeof list));
     }
+    return NULL;
+}
+
+/* Commands of all kinds, each prepared, and applied where that was done, on a pool of its own: trees of every height grow
+ * and are freed again. A store of everything at the end frees them all. */
+static void *preparing(void *argument)
+{
+    const size_t words = XAPOOL_WORDS(400);
+    size_t *ran = argument;
+    must(xapool_init(pool, words));
+    for (unsigned i = 0; i < 4000; i++) {
+        xapool_batch b = xapool_batch_over(bytes, sizeof bytes);
+        if (!(i == 3999 ? xapool_put_store(&b, 0, 63, XAPOOL_VALUE(i)) : put_one(&b, i)))
+            exit(1);
+        xapool_result r = xapool_prepare(pool, words, b.bytes, b.used, script, sizeof script / sizeof *script);
+        if (r.answer != XAPOOL_DONE)
+            continue;
+        must(xapool_apply(pool, words, script, r.number));
+        *ran += 1;
+    }
+    must(xapool_check(pool, words));
     return NULL;
 }
 
@@ -131,8 +157,11 @@ static size_t used(void *(*function)(void *), size_t *ran)
 
 int main(void)
 {
-    size_t ran = 0, compared = 0, before = used(nothing, &ran), after = used(calls, &ran), most = used(digests, &compared);
+    size_t ran = 0, compared = 0, prepared = 0, before = used(nothing, &ran);
+    size_t after = used(calls, &ran), most = used(digests, &compared), to_prepare = used(preparing, &prepared);
     printf("%zu commands used at most %zu bytes of stack\n", ran, after - before);
     printf("%zu digests used at most %zu bytes of stack\n", compared, most - before);
-    return ran < 30000 || compared != 2 || after - before >= SAID || most - before >= SAID_OF_DIGESTS;
+    printf("%zu commands prepared used at most %zu bytes of stack\n", prepared, to_prepare - before);
+    return ran < 30000 || compared != 2 || prepared < 1500 || after - before >= SAID || most - before >= SAID_OF_DIGESTS ||
+           to_prepare - before >= SAID_OF_PREPARING;
 }

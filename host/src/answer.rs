@@ -7,7 +7,8 @@ use crate::raw::RawResult;
 use crate::reply::Replies;
 use std::fmt;
 
-/// The answer of a call (0 to 4; of a list also 8) or in a reply (0 and 5 to 15). As an error it is what a command was
+/// The answer of a call (0 to 4; of a list also 8, of preparing the command's own) or in a reply (0 and 5 to 15). 17 is
+/// [`Refusal::BadScript`], and 18 to 20 are a [`GateRefusal`](crate::GateRefusal). As an error it is what a command was
 /// answered in place of `Done`: see [`Reply::done`](crate::Reply::done).
 #[derive(Clone, Copy, Debug, PartialEq, Eq, Hash, PartialOrd, Ord)]
 #[repr(u8)]
@@ -20,9 +21,10 @@ pub enum Answer {
     PoolLength = 1,
     /// Call: the words are not those of a pool. Of the plain engine: the slices do not hold a list and then zeros.
     NotWellFormed = 2,
-    /// Call: the batch is too long, or has a record that is cut off, or whose tag or length is none.
+    /// Call: the batch is too long, or has a record that is cut off, or whose tag or length is none. Preparing: the bytes
+    /// are not one record of a command that changes the pool.
     BadBatch = 3,
-    /// Call: under 24 bytes of reply space a command, or 21 bytes an entry of a list.
+    /// Call: under 24 bytes of reply space a command, 21 bytes an entry of a list, or the words of a script.
     ReplySpace = 4,
     /// Store: the order is above 63.
     BadOrder = 5,
@@ -90,7 +92,9 @@ impl Answer {
             Answer::BadBatch => {
                 "batch too long, or a record is cut, of unknown tag or wrong length"
             }
-            Answer::ReplySpace => "space under 24 bytes a command, or 21 an entry of a list",
+            Answer::ReplySpace => {
+                "space under 24 bytes a command, 21 an entry of a list, or a script's words"
+            }
             Answer::BadOrder => "order above 63",
             Answer::BadEntry => "entry is 0 or ends in binary 10",
             Answer::BadMark => "mark above 2 or filter above 3",
@@ -150,6 +154,16 @@ pub enum Refusal {
         /// The entries that meet the range.
         entries: u64,
     },
+    /// Preparing, answer 3: what it was given is not exactly one record of a command that changes the pool: store, erase,
+    /// mark, unmark or reserve.
+    NotAChange,
+    /// Preparing: the script has so many words.
+    ScriptSpace {
+        /// Two for each word of the pool that changes.
+        words: u64,
+    },
+    /// A script, answer 17: a place is outside the pool, or its last pair is half.
+    BadScript,
     /// The library gave what it never gives. Is it the right library?
     Unexpected {
         /// What it gave as answer.
@@ -193,14 +207,27 @@ impl Refusal {
         }
     }
 
-    /// The answer by name, where it is one.
+    /// The same for applying a script, which looks at the pool's length alone and gives no number.
+    pub(crate) fn unless_applied(result: RawResult) -> Result<(), Refusal> {
+        match result {
+            RawResult { answer: 0, number: 0 } => Ok(()),
+            RawResult { answer: 1, number: 0 } => Err(Refusal::PoolLength),
+            RawResult { answer: 17, number: 0 } => Err(Refusal::BadScript),
+            RawResult { answer, number } => Err(Refusal::Unexpected { answer, number }),
+        }
+    }
+
+    /// The answer by name, where it is one of [`Answer`]; 17 is not.
     pub fn answer(self) -> Option<Answer> {
         match self {
             Refusal::PoolLength | Refusal::SliceLength => Some(Answer::PoolLength),
             Refusal::NotWellFormed | Refusal::NotAList => Some(Answer::NotWellFormed),
-            Refusal::BadBatch { .. } => Some(Answer::BadBatch),
-            Refusal::ReplySpace { .. } | Refusal::ListSpace { .. } => Some(Answer::ReplySpace),
+            Refusal::BadBatch { .. } | Refusal::NotAChange => Some(Answer::BadBatch),
+            Refusal::ReplySpace { .. }
+            | Refusal::ListSpace { .. }
+            | Refusal::ScriptSpace { .. } => Some(Answer::ReplySpace),
             Refusal::FirstAboveLast => Some(Answer::FirstAboveLast),
+            Refusal::BadScript => None,
             Refusal::Unexpected { answer, .. } => Answer::from_number(answer),
         }
     }
@@ -222,6 +249,13 @@ impl fmt::Display for Refusal {
             Refusal::FirstAboveLast => Answer::FirstAboveLast.fmt(f),
             Refusal::ListSpace { entries } => {
                 write!(f, "{} ({entries} entries)", Answer::ReplySpace)
+            }
+            Refusal::NotAChange => f.write_str("not one record of a command that changes the pool"),
+            Refusal::ScriptSpace { words } => {
+                write!(f, "{} ({words} words)", Answer::ReplySpace)
+            }
+            Refusal::BadScript => {
+                f.write_str("script has a place outside the pool, or half a pair")
             }
             Refusal::Unexpected { answer, number } => {
                 write!(f, "unexpected answer {answer}, number {number}")

@@ -22,7 +22,8 @@
 //! a range, [`Walk`] the same with a pool that may change in between; [`Pool::list`] gives a range's entries in one call, as bytes to keep. Each command has one
 //! [`Reply`], whose [`Answer`] says whether it was done: [`Replies::all_done`] looks at all of them. A
 //! call that the library refuses is a [`Refusal`]: nothing ran. [`Pool::save`] and [`Pool::load`] keep a
-//! pool in a file with a digest. [`compare`] says whether two regions match, and [`Crc32c`] is their
+//! pool in a file with a digest. [`Pool::prepare`] makes a [`Script`] of one command, to be kept, and [`Pool::apply_script`]
+//! does what the command does, also after a power cut. [`compare`] says whether two regions match, and [`Crc32c`] is their
 //! digest. [`evidence`] is the text that a base sheet or its supplement has of a region. A [`Gate`] says
 //! whether a share of the job is within its limits. A [`Plain`] runs the same commands as a pool on a sorted run of entries that
 //! can be read at a glance; [`Engine`] is either. A record that is not there is never a match: see 'Before you sign' in docs/HOST.md and
@@ -46,6 +47,7 @@ mod pool;
 pub mod raw;
 mod region;
 mod reply;
+mod script;
 #[cfg(test)]
 mod tests;
 mod walk;
@@ -74,6 +76,7 @@ pub use reply::{
     BadRecord, Entry, Marks, NotDone, Place, ProgramError, Record, Records, Replies, Reply,
     REPLY_BYTES,
 };
+pub use script::{ApplyError, BadScriptBytes, Change, OtherPool, Script, SCRIPT_FILE};
 pub use walk::Walk;
 pub use word::{Kind, NotAHandle, TooLarge, Word};
 

@@ -224,6 +224,26 @@ impl<'a> Pool<'a> {
         ran(Refusal::unless_done(raw::run(self.words_mut(), batch, reply))?, reply)
     }
 
+    /// Writes each word of a script: pairs of a place among the pool's words and a value; [`Pool::apply_script`] also sees
+    /// to it that it is the script of this pool. The pool need not be
+    /// well-formed: after a power cut in the middle of it the same script is applied again, and the words are
+    /// those of the uncut call. That no word is ever written in part, and that nothing but this script was written
+    /// in the pool that it was made for, is for the host to see to.
+    ///
+    /// ```
+    /// # use xapool_host::{Pool, Refusal};
+    /// let mut pool = Pool::new(40)?;
+    /// pool.apply(&[1, 3])?; // word 1, the head, becomes entry 3 at index 0
+    /// assert_eq!(pool.list(..)?.len(), 1);
+    /// let beyond = pool.words().len() as u64;
+    /// assert_eq!(pool.apply(&[1, 0, beyond, 0]), Err(Refusal::BadScript)); // nothing was written
+    /// assert_eq!(pool.list(..)?.len(), 1);
+    /// # Ok::<(), Box<dyn std::error::Error>>(())
+    /// ```
+    pub fn apply(&mut self, script: &[u64]) -> Result<(), Refusal> {
+        Refusal::unless_applied(raw::apply(self.words_mut(), script))
+    }
+
     /// How many nodes it has; none if no pool has so many words.
     #[must_use]
     pub fn nodes(&self) -> Option<usize> {

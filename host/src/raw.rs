@@ -5,9 +5,10 @@
 #[derive(Clone, Copy, Debug, PartialEq, Eq)]
 #[must_use]
 pub struct RawResult {
-    /// 0 done, 1 to 4 refused; of a list also 8, of a gate 18 to 20.
+    /// 0 done, 1 to 4 refused; of a list also 8, of preparing a script the command's own, of applying one 17, of a
+    /// gate 18 to 20.
     pub answer: u64,
-    /// Commands, entries, or the place of a bad record; see [`Refusal`](crate::Refusal). Of a gate 1 is a pass.
+    /// Commands, entries, words of a script, or the place of a bad record; see [`Refusal`](crate::Refusal). Of a gate 1 is a pass.
     pub number: u64,
 }
 
@@ -73,6 +74,20 @@ extern "C" {
         supplement_bytes: usize,
         index: u64,
     ) -> RawPart;
+    fn xapool_prepare(
+        pool: *const u64,
+        pool_words: usize,
+        record: *const u8,
+        record_bytes: usize,
+        script: *mut u64,
+        script_words: usize,
+    ) -> RawResult;
+    fn xapool_apply(
+        pool: *mut u64,
+        pool_words: usize,
+        script: *const u64,
+        script_words: usize,
+    ) -> RawResult;
     fn xapool_gate(kind: u64, a: f64, b: f64, part: u32, total: u32) -> RawResult;
     fn xaplain_init(
         index: *mut u64,
@@ -169,6 +184,27 @@ pub fn evidence(base: &[u8], supplement: &[u8], index: u64) -> RawPart {
     let (base_bytes, bytes) = (base.len(), supplement.len());
     // SAFETY: two slices borrowed for the call, which only reads.
     unsafe { xapool_evidence(base.as_ptr(), base_bytes, supplement.as_ptr(), bytes, index) }
+}
+
+/// Makes the script of one changing command, given as its record, for this pool; it goes into `script`.
+pub fn prepare(pool: &[u64], record: &[u8], script: &mut [u64]) -> RawResult {
+    // SAFETY: three slices borrowed for the call; the one that is written is borrowed alone.
+    unsafe {
+        xapool_prepare(
+            pool.as_ptr(),
+            pool.len(),
+            record.as_ptr(),
+            record.len(),
+            script.as_mut_ptr(),
+            script.len(),
+        )
+    }
+}
+
+/// Writes each word of a script, pairs of a place and a value, in the pool.
+pub fn apply(pool: &mut [u64], script: &[u64]) -> RawResult {
+    // SAFETY: two slices borrowed for the call; the one that is written is borrowed alone.
+    unsafe { xapool_apply(pool.as_mut_ptr(), pool.len(), script.as_ptr(), script.len()) }
 }
 
 /// Whether a gate of this kind passes. Its answer is worth nothing unless [`floats_are_ieee`](crate::floats_are_ieee).

@@ -2,10 +2,12 @@
 
 use crate::*;
 
+mod apply;
 mod done;
 mod file;
 mod list;
 mod nodes;
+mod prepare;
 mod region;
 mod reserve;
 

@@ -19,4 +19,5 @@ pub mod plain;
 pub mod pool;
 pub mod random;
 pub mod recover;
+pub mod scripts;
 pub mod tree;

@@ -1,4 +1,4 @@
-//! The program: one batch from standard input on a fresh pool of 40 nodes; also `lists`, `evidence` and `gates`.
+//! The program: one batch from standard input on a fresh pool of 40 nodes; also `lists`, `evidence`, `gates`, `apply` and `prepare`.
 
 use reference::answers::{BAD_BATCH, DONE};
 use reference::batch::REPLY_BYTES;
@@ -7,6 +7,7 @@ use reference::evidence::{look_up, Sheet};
 use reference::gates::verdict;
 use reference::lists;
 use reference::pool::pool_length;
+use reference::scripts::{apply, prepare};
 use std::io::{self, BufWriter, Read, Write};
 use std::process::ExitCode;
 
@@ -25,7 +26,11 @@ fn main() -> ExitCode {
         [name, seed, count, most] if name == "lists" => print_lists([seed, count, most]),
         [name] if name == "evidence" => look_ups(),
         [name] if name == "gates" => gates(),
-        _ => Err(io::Error::other("usage: reference [lists SEED COUNT MAXLEN | evidence | gates]")),
+        [name] if name == "apply" => scripts(),
+        [name] if name == "prepare" => preparings(),
+        _ => Err(io::Error::other(
+            "usage: reference [lists SEED COUNT MAXLEN | evidence | gates | apply | prepare]",
+        )),
     };
     match written {
         Ok(()) => ExitCode::SUCCESS,
@@ -100,6 +105,50 @@ fn gates() -> io::Result<()> {
         let [part, total] = [&ask[17..21], &ask[21..25]].map(|count| number(count) as u32);
         let given = verdict(ask[0].into(), a, b, part, total);
         out.extend([given.answer, given.pass.into()]);
+    }
+    io::stdout().write_all(&out)
+}
+
+/// For scripts/planted-faults, scripts in a row: a byte each of how many words the pool and the script have, and one
+/// for each word of the script. The words of the pool are their places. Of each is written: answer, number, the words.
+fn scripts() -> io::Result<()> {
+    let (mut all, mut out) = (Vec::new(), Vec::new());
+    io::stdin().read_to_end(&mut all)?;
+    let mut rest = &all[..];
+    while let [words, size, after @ ..] = rest {
+        let cut = || io::Error::other("a script is cut");
+        let (script, after) = after.split_at_checked((*size).into()).ok_or_else(cut)?;
+        let script: Vec<u64> = script.iter().map(|word| u64::from(*word)).collect();
+        let mut pool: Vec<u64> = (0..u64::from(*words)).collect();
+        let Outcome { answer, number } = apply(&mut pool, &script);
+        out.extend([answer as u8, number as u8]);
+        out.extend(pool.iter().map(|word| *word as u8));
+        rest = after;
+    }
+    io::stdout().write_all(&out)
+}
+
+/// For scripts/planted-faults, records to prepare in a row, on one pool of 12 nodes: a byte each of how many words the slice
+/// and bytes the record have, and the record. The words of the slice are their places. What is done is applied. Of each is
+/// written: answer, two bytes of the number, and of each word of the slice the two lowest.
+fn preparings() -> io::Result<()> {
+    let (mut all, mut out) = (Vec::new(), Vec::new());
+    io::stdin().read_to_end(&mut all)?;
+    let mut pool = vec![0; pool_length(12)];
+    init(&mut pool);
+    let mut rest = &all[..];
+    while let [room, size, after @ ..] = rest {
+        let cut = || io::Error::other("a record is cut");
+        let (record, after) = after.split_at_checked((*size).into()).ok_or_else(cut)?;
+        let mut slice: Vec<u64> = (0..u64::from(*room)).collect();
+        let Outcome { answer, number } = prepare(&pool, record, &mut slice);
+        out.push(answer as u8);
+        out.extend((number as u16).to_be_bytes());
+        out.extend(slice.iter().flat_map(|word| (*word as u16).to_be_bytes()));
+        if answer == u64::from(DONE) {
+            apply(&mut pool, &slice[..number as usize]);
+        }
+        rest = after;
     }
     io::stdout().write_all(&out)
 }

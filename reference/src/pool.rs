@@ -23,7 +23,7 @@ pub fn node_count(length: usize) -> Option<usize> {
     ((1..=MOST_NODES).contains(&count) && pool_length(count) == length).then_some(count)
 }
 
-pub fn pool_length(count: usize) -> usize {
+pub const fn pool_length(count: usize) -> usize {
     ANCHOR_WORDS + NODE_WORDS * count
 }
 

@@ -3,6 +3,7 @@
 pub mod decode;
 mod encode;
 mod pools;
+mod scripts;
 
 use crate::args::Arguments;
 use crate::failure::{usage, Failure};
@@ -36,6 +37,8 @@ pub fn act(name: &str, words: &[OsString]) -> Result<(), Failure> {
         )?),
         "new" => pool_file::create(Arguments::of(words, &[("--plain", false)])?),
         "run" => pool_file::run(Arguments::of(words, &pool_file::RUN_OPTIONS)?),
+        "prepare" => scripts::prepare(Arguments::of(words, &scripts::PREPARE_OPTIONS)?),
+        "apply" => scripts::apply(Arguments::of(words, &scripts::APPLY_OPTIONS)?),
         "crc" => regions::crc(Arguments::of(words, &[])?),
         "compare" => {
             regions::compare(Arguments::of(words, &[("--bytes", false), ("--json", false)])?)

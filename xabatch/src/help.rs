@@ -8,7 +8,7 @@ pub const VERSION: &str = concat!("xabatch ", env!("CARGO_PKG_VERSION"), "\n");
 
 const HELP: &str = "\
 usage: xabatch encode [--long | --split PREFIX] [FILE]     text to a batch
-       xabatch decode [OPTIONS] [FILE]                     replies, a refused call, a batch or a list to text
+       xabatch decode [OPTIONS] [FILE]                     replies, a refused call, a batch, a list or a script to text
        xabatch show [OPTIONS] POOLFILE                     a pool as a tree, and what is wrong with it
        xabatch list [OPTIONS] POOLFILE [FIRST..LAST]       the entries of a pool, as evidence
        xabatch find [OPTIONS] POOLFILE [FIRST..LAST]       the entries of a pool with a mark, the first or all
@@ -16,6 +16,8 @@ usage: xabatch encode [--long | --split PREFIX] [FILE]     text to a batch
        xabatch new --plain ENTRIES [FILE]                  an empty plain list with room for 0 to 4,096 entries
        xabatch run [OPTIONS] POOLFILE [FILE]               a batch on a pool file; replies to standard output
        xabatch run --plain [OPTIONS] PLAINFILE [FILE]      the same on a plain list, by the plain engine
+       xabatch prepare -o SCRIPTFILE POOLFILE [FILE]       one command as a script, safe from power cuts
+       xabatch apply [--no-wait] POOLFILE SCRIPTFILE       the script on the pool that it was prepared from
        xabatch crc [FILE..]                                the digest CRC-32C of each file
        xabatch compare [OPTIONS] OLD NEW                   whether two files match: before you erase one
        xabatch evidence BASE SUPPLEMENT INDEX              the text that was written about an index
@@ -28,9 +30,10 @@ are one JSON value; numbers of 64 bits are numbers there, also above 2^53, which
 
 Exit status: 0 fine; 1 the input is malformed, the pool is not well-formed, the call was refused,
 or a file or the output cannot be read or written; 2 bad usage or a syntax error in the text, which
-is named by FILE:LINE:COLUMN; 3 of run and new: a flush to disk failed; 4 of run --strict: not every
-command was done, and nothing is kept; of evidence: neither sheet names the index. Of compare: 0 matched;
-1 different; 2 nothing to compare, or a fault. Of gate: 0 pass; 1 fail; 2 refused, or a fault.
+is named by FILE:LINE:COLUMN; 3 of run, new, prepare and apply: a flush to disk failed; 4 of run --strict
+and prepare: not every command was done, and nothing is kept; of evidence: neither sheet names the index.
+Of compare: 0 matched; 1 different; 2 nothing to compare, or a fault. Of gate: 0 pass; 1 fail; 2 refused,
+or a fault.
 ";
 
 const ENCODE: &str = "\
@@ -63,7 +66,9 @@ const DECODE: &str = "\
 usage: xabatch decode [--batch BATCHFILE] [--strict] [--json] [FILE]
 
 Writes a line for each record: replies, the record of a refused call, the commands of a batch, or
-the entries of a list that was kept as bytes. A file of any length takes a fixed amount of memory.
+the entries of a list that was kept as bytes. A file of any length takes a fixed amount of memory. Of a
+script, as 'xabatch prepare' writes one, it writes a line for each word that changes: its place, what it
+is there, what it was and what it becomes.
 
   --batch BATCHFILE   the replies are those to this batch: the exit status is 1 unless there is one
                       for each command, of its kind. The program tamburish always exits with 0;
@@ -199,6 +204,46 @@ replies cannot be written, the exit status is 1 and the pool is changed: 'xabatc
 holds.
 ";
 
+const PREPARE: &str = "\
+usage: xabatch prepare -o SCRIPTFILE [--command TEXT] POOLFILE [FILE]
+
+Makes the script of one command that changes a pool (store, erase, mark, unmark or reserve): the words that
+it changes, each with its place, what it was and what it becomes. The pool file is only read. 'xabatch apply'
+does what the command does; a program that keeps a pool on raw storage may apply the same script word by
+word. The command is the one record of FILE, a batch as 'xabatch encode' writes it, or a text:
+
+  xabatch prepare -o s.script --command 'mark 64 mark 2' p.pool
+
+  -o SCRIPTFILE    the script goes to this file, which has its name only when it is whole and flushed to disk;
+                   then the folder is flushed. A file that is there already is not touched
+  --command TEXT   the command as text, in place of FILE
+
+The script has a digest of itself, and knows the pool that it was prepared from: its length, a digest of the
+words that it does not write, and what stood where it writes. 'xabatch decode' writes its lines.
+
+Exit status: 0 the script is on disk; 4 the command itself would not be done (as a mark where there is no entry);
+1 the pool is not well-formed, FILE is not one record of such a command, or a file cannot be read or written;
+3 a flush failed, and what stands is said; 2 bad usage. Unless it is 0 or 3 there is no script.
+";
+
+const APPLY: &str = "\
+usage: xabatch apply [--no-wait] POOLFILE SCRIPTFILE
+
+Writes the words of a script in the pool file that it was prepared from, and says how many were still to be
+written. Where an apply on that pool was cut, by whoever, it is ended: the pool is then that of the uncut
+command. As 'xabatch run' does, it locks the pool file, writes the new pool beside the old one, flushes it,
+renames it and flushes the folder; so one that fails or is killed leaves the file as it was, or the new one.
+
+  --no-wait   where another run has the lock, fail in place of waiting
+
+A script of another pool is refused, also of this one once another command has changed it, and so is one that
+is cut or damaged; the pool is then as it was. Applying a script twice is applying it once. It may go when the
+exit status is 0: xabatch apply p.pool s.script && rm s.script
+
+Exit status: 0 the pool is on disk; 1 refused, or a file or the output cannot be read or written; 3 a flush
+failed, and what stands is said: apply it again when that is mended; 2 bad usage.
+";
+
 const CRC: &str = "\
 usage: xabatch crc [FILE..]
 
@@ -289,6 +334,8 @@ fn text_of(command: &str) -> Option<&'static str> {
         "find" => FIND,
         "new" => NEW,
         "run" => RUN,
+        "prepare" => PREPARE,
+        "apply" => APPLY,
         "crc" => CRC,
         "compare" => COMPARE,
         "evidence" => EVIDENCE,

@@ -3,7 +3,7 @@
 use std::fmt;
 use xapool_host::{
     pool_words, Command, Entry, Plain, Pool, Records, LISTED_BYTES, MOST_ENTRIES, MOST_NODES,
-    PLAIN_FILE,
+    PLAIN_FILE, SCRIPT_FILE,
 };
 
 /// What is told apart from data.
@@ -11,6 +11,7 @@ use xapool_host::{
 pub enum FileKind {
     Pool,
     Plain,
+    Script,
     List,
     Batch,
     Replies,
@@ -22,6 +23,7 @@ impl fmt::Display for FileKind {
         f.write_str(match self {
             FileKind::Pool => "a pool file ('xabatch show' and 'xabatch list' read it)",
             FileKind::Plain => "a plain list ('xabatch list' and 'xabatch run --plain' read it)",
+            FileKind::Script => "a script ('xabatch apply' and 'xabatch decode' read it)",
             FileKind::List => "a list as bytes ('xabatch decode' reads it)",
             FileKind::Batch => "a batch ('xabatch decode' and 'xabatch run' read it)",
             FileKind::Replies => "replies ('xabatch decode' reads them)",
@@ -39,6 +41,9 @@ impl FileKind {
     pub fn guess(start: &[u8]) -> Option<FileKind> {
         if start.starts_with(&PLAIN_FILE) {
             return Some(FileKind::Plain);
+        }
+        if start.starts_with(&SCRIPT_FILE) {
+            return Some(FileKind::Script);
         }
         if begins_a_pool(start) {
             return Some(FileKind::Pool);

@@ -10,6 +10,7 @@ pub mod json;
 pub mod kind;
 pub mod locked;
 pub mod progress;
+pub mod script;
 pub mod system;
 pub mod tally;
 pub mod text;

@@ -1,5 +1,5 @@
-//! xabatch: batches and replies as text, pool files, digests and comparisons of files, texts of evidence,
-//! and gates.
+//! xabatch: batches and replies as text, pool files, scripts, digests and comparisons of files, texts of
+//! evidence, and gates.
 
 mod args;
 mod commands;

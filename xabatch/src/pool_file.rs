@@ -36,7 +36,7 @@ pub fn create(arguments: Arguments) -> Result<(), Failure> {
 }
 
 /// A flush that failed has a status of its own.
-fn not_kept(file: &OsStr, error: &KeepError) -> Failure {
+pub fn not_kept(file: &OsStr, error: &KeepError) -> Failure {
     let failure = of_file(file, error);
     if error.is_of_flush() {
         return Failure { status: NOT_FLUSHED, ..failure };

@@ -33,6 +33,14 @@ impl<R: Read> Window<R> {
         self.start = self.bytes.len().min(self.start + count);
     }
 
+    /// All that is left.
+    pub fn read_all(&mut self) -> io::Result<Vec<u8>> {
+        let mut all = self.bytes.split_off(self.start);
+        self.input.read_to_end(&mut all)?;
+        (self.bytes, self.start, self.ended) = (Vec::new(), 0, true);
+        Ok(all)
+    }
+
     pub fn input(&self) -> &R {
         &self.input
     }

@@ -59,8 +59,8 @@ fn what_is_offered_is_known() {
     let folder = Folder::new();
     let all = offered(&folder, &[""]);
     let commands = [
-        "encode", "decode", "show", "list", "find", "new", "run", "crc", "compare", "evidence",
-        "gate", "help",
+        "encode", "decode", "show", "list", "find", "new", "run", "prepare", "apply", "crc",
+        "compare", "evidence", "gate", "help",
     ];
     for command in commands {
         assert!(all.iter().any(|name| name == command), "{command}: {all:?}");

@@ -1,5 +1,5 @@
-//! `xabatch run` and `xabatch new` with a fault at each of their system calls: what stands at the path
-//! is the old pool or the new one, whole, and what was acknowledged is on disk.
+//! `xabatch run`, `new`, `prepare` and `apply` with a fault at each of their system calls: what stands at
+//! the path is the old pool or the new one, whole, and what was acknowledged is on disk.
 
 mod tool;
 mod trace;
@@ -346,6 +346,100 @@ fn a_fault_at_each_system_call_of_new() {
     // A file system that cannot rename so takes a second name in its place.
     let rename = position(&trace, RENAMEAT2, 0);
     assert_eq!(new_holds(&empty, Fault::Fail(rename, EINVAL)).status, Some(0));
+}
+
+const MARK: [&str; 2] = ["--command", "mark 7 mark 2"];
+
+/// A folder with a pool of one entry, its bytes before and after a mark, and the script of that.
+fn with_script() -> (Folder, Vec<u8>, Vec<u8>, Vec<u8>) {
+    let folder = Folder::new();
+    let pool = folder.pool(3);
+    tool::run(&pool, "store 7 order 0 value 1\nstore 64 order 0 value 2\n");
+    let (pool, script) = (folder.name("p.pool"), folder.name("s.script"));
+    let old = fs::read(&pool).expect("a pool");
+    assert_eq!(tool(&[&["prepare", "-o", &script], &MARK[..], &[&pool]].concat(), &[]).0, 0);
+    assert_eq!(tool(&["apply", &pool, &script], &[]).0, 0);
+    let new = fs::read(&pool).expect("a pool");
+    assert!(old != new);
+    let script = fs::read(&script).expect("a script");
+    (folder, old, new, script)
+}
+
+/// The tool in the folder, with a fault; what it acknowledged with status 0 is on disk.
+fn traced(folder: &Folder, words: &[&str], kept: &str, fault: Fault) -> Trace {
+    let mut command = Command::new(TOOL);
+    command.env_clear().current_dir(&folder.0).args(words);
+    command.stdin(Stdio::null()).stdout(Stdio::null()).stderr(Stdio::null());
+    let trace = trace(&mut command, fault);
+    if trace.status == Some(0) {
+        let flushed = flushed_before(&trace.calls, trace.calls.len());
+        assert!(flushed.contains(&key(&folder.path(kept))), "{fault:?}: the file is not flushed");
+        assert!(flushed.contains(&key(&folder.0)), "{fault:?}: the folder is not flushed");
+    }
+    trace
+}
+
+/// Each fault at each call that there is without one; gives that trace.
+fn at_each_call(holds: impl Fn(Fault) -> Trace) -> Trace {
+    let trace = holds(Fault::Never);
+    assert_eq!(trace.status, Some(0));
+    for at in 0..trace.calls.len() {
+        holds(Fault::KillBefore(at));
+        holds(Fault::KillAfter(at));
+        holds(Fault::Fail(at, EIO));
+    }
+    trace
+}
+
+/// The whole script or none, and the pool as it was; then it can be prepared, and nothing is left beside it.
+#[test]
+fn a_fault_at_each_system_call_of_prepare() {
+    let (folder, old, _, script) = with_script();
+    fs::write(folder.path("p.pool"), &old).expect("written");
+    let words = [&["prepare", "-o", "s.script"], &MARK[..], &["p.pool"]].concat();
+    let holds = |fault| {
+        let _ = fs::remove_file(folder.path("s.script"));
+        let trace = traced(&folder, &words, "s.script", fault);
+        let left = fs::read(folder.path("s.script")).ok();
+        assert!(left.is_none() || left.as_ref() == Some(&script), "{fault:?}: a stump");
+        assert_eq!(fs::read(folder.path("p.pool")).expect("a pool"), old, "{fault:?}");
+        if left.is_none() {
+            assert_eq!(traced(&folder, &words, "s.script", Fault::Never).status, Some(0));
+        }
+        // What ended after its rename left nothing else; what did before was cleared by the next.
+        assert_eq!(folder.names(), ["p.pool", "s.script"], "{fault:?}");
+        trace
+    };
+    let trace = at_each_call(holds);
+    for flush in places(&trace, FSYNC) {
+        assert_eq!(holds(Fault::Fail(flush, EIO)).status, NOT_FLUSHED);
+    }
+}
+
+/// The old pool or the new one, whole; and the same script ends it.
+#[test]
+fn a_fault_at_each_system_call_of_apply() {
+    let (folder, old, new, script) = with_script();
+    let words = ["apply", "p.pool", "s.script"];
+    let holds = |fault| {
+        fs::write(folder.path("p.pool"), &old).expect("written");
+        let trace = traced(&folder, &words, "p.pool", fault);
+        let left = fs::read(folder.path("p.pool")).expect("a pool");
+        assert!(left == old || left == new, "{fault:?}: {} bytes", left.len());
+        assert!(trace.status != Some(0) || left == new, "{fault:?}: status 0");
+        assert_eq!(traced(&folder, &words, "p.pool", Fault::Never).status, Some(0), "{fault:?}");
+        assert_eq!(fs::read(folder.path("p.pool")).expect("a pool"), new, "{fault:?}");
+        assert_eq!(fs::read(folder.path("s.script")).expect("a script"), script, "{fault:?}");
+        trace
+    };
+    let trace = at_each_call(holds);
+    for flush in places(&trace, FSYNC) {
+        assert_eq!(holds(Fault::Fail(flush, EIO)).status, NOT_FLUSHED);
+    }
+    let mut at = position(&trace, FLOCK, 0);
+    for call in [READ, WRITE, FSYNC, RENAME, FSYNC] {
+        at = position(&trace, call, at + 1);
+    }
 }
 
 /// Attributes that cannot be kept leave the old pool.

@@ -1,5 +1,5 @@
--- The answers of calls and replies (R68 to R80, R181, R205, R272 to R274), under the names of include/xapool.h, and the result that a
--- call gives. 16 and 17 come with the requests that use them: P10, P11.
+-- The answers of calls and replies (R68 to R80, R181, R205, R272 to R274, R325), under the names of include/xapool.h, and the result
+-- that a call gives. 16 comes with the request that uses it: P10.
 use Prim.Native.Nat.{ℕ}
 pub use Rattle.answers.specs.declared.Result.{Result}
 
@@ -53,6 +53,10 @@ notAligned = 14
 -- (`covered` is the model's)
 abbrev pub isCovered : ℕ
 isCovered = 15
+
+-- OF APPLYING
+abbrev pub badScript : ℕ
+badScript = 17
 
 -- OF A GATE
 abbrev pub badGate : ℕ

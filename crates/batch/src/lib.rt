@@ -157,6 +157,40 @@ fn command_at(s: &[u8], tag: u64, at: usize) -> Command
     }
 }
 
+// The command of a tag other than a store's and a find's. With `step_at` it is left to the tree's loop, where both are inlined: a
+// second caller of either would cost each command of the tree some 5 ns.
+fn rest_at(s: &[u8], tag: u64, at: usize) -> Command
+    requires { ⌜ (fieldBytes tag ≢ 0) × (at + fieldBytes tag ≤ length (now s)) ⌝ }
+    requires { ⌜ (tag ≢ 1) × (tag ≢ 6) ⌝ }
+    ensures { λ r. ⌜ r ≡ commandAt (now (s .entry)) tag at ⌝ }
+{
+    if tag == 2 {
+        return Command::Load {
+            index: number8(s, at),
+        };
+    }
+    if tag == 3 {
+        return Command::Erase {
+            index: number8(s, at),
+        };
+    }
+    if tag == 4 {
+        return Command::Mark {
+            index: number8(s, at),
+            mark: number1(s, at + 8),
+        };
+    }
+    if tag == 5 {
+        return Command::Unmark {
+            index: number8(s, at),
+            mark: number1(s, at + 8),
+        };
+    }
+    Command::Reserve {
+        index: number8(s, at),
+    }
+}
+
 // The place after the record at a place, whose tag has fields of a length wanted and whose length is given; 0 where the
 // record is bad.
 fn skip_of(batch: &[u8], at: usize, size: u64, want: usize) -> usize
@@ -224,8 +258,8 @@ pub fn read_at(batch: &[u8], at: usize) -> Read
     Read::Next(command_at(batch, tag, at + HEAD_BYTES), Cursor { at: next })
 }
 
-// The command at a place where a good record stands: what `count` has looked at is not tested again. Stores and finds are
-// read here and not by command_at, whose other caller keeps it from being inlined.
+// The command at a place where a good record stands: what `count` has looked at is not tested again. It is the tree's alone; others have
+// `record_at`.
 pub fn step_at(batch: &[u8], at: usize) -> Step
     requires { ⌜ isRecord (now batch) at ≡ true ⌝ }
     ensures { λ r. ⌜ Next (r .command) (record { at = r .at }) ≡ readAt (now (batch .entry)) at ⌝ }
@@ -254,9 +288,21 @@ pub fn step_at(batch: &[u8], at: usize) -> Step
         };
     }
     Step {
-        command: command_at(batch, tag, start),
+        command: rest_at(batch, tag, start),
         at: start + number2(batch, at + 1) as usize,
     }
+}
+
+// The same for any other loop.
+pub fn record_at(batch: &[u8], at: usize) -> Step
+    requires { ⌜ isRecord (now batch) at ≡ true ⌝ }
+    ensures { λ r. ⌜ Next (r .command) (record { at = r .at }) ≡ readAt (now (batch .entry)) at ⌝ }
+{
+    let tag = number1(batch, at);
+    let start = at + HEAD_BYTES;
+    let command = command_at(batch, tag, start);
+    let next = start + number2(batch, at + 1) as usize;
+    Step { command, at: next }
 }
 
 // The whole batch from its beginning, where it is not too long; no field is decoded.

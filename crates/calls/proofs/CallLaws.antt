@@ -90,3 +90,7 @@ with-lent x d = (x .0, (x .1 .0, (x .1 .1, d)))
 pub comes-as : {ws bs rs ws′ rs′ : List ℕ} {a b n : ℕ} → a ≡ b → Comes ws bs rs b n ws′ rs′ →
     Comes ws bs rs a n ws′ rs′
 comes-as {ws} {bs} {rs} {ws′} {rs′} {n = n} e x = subst (λ (y : ℕ). Comes ws bs rs y n ws′ rs′) (sym e) x
+
+-- two equations, and two of what was lent shared
+pub both-lent : {A B C D : Type 0} → A × B → C → D → A × (B × (C × D))
+both-lent x c d = (x .0, (x .1, (c, d)))

@@ -19,7 +19,7 @@ use Rattle.model.specs.Model.{storable, maxOrder, aligned, covering, store, res
 use Rattle.tree.specs.Tree.{nodes, needed}
 use Rattle.layout.specs.Words.{maxNodes, poolWords}
 use Rattle.layout.specs.Places.{Places, wordAt}
-use Rattle.layout.specs.WellFormed.{Prescribed}
+use Rattle.layout.specs.WellFormed.{WellFormed, Prescribed}
 use Rattle.decode.proofs.DecodeLaws.{decode-list}
 use Rattle.decode.proofs.DecideLaws.{sized-is}
 use Rattle.verify.proofs.AnswerLaws.{prescribed-0}
@@ -40,6 +40,9 @@ use Rattle.execute.proofs.ExecuteLaws.{next-kept, states-kept, short-11, reserv
 use Rattle.execute.proofs.Footprint.{footprint, refused-words}
 use Rattle.execute.proofs.ReplyFits.{reply-fits}
 use Rattle.execute.proofs.TableLaws.{rows, row-sole}
+use Rattle.preparing.specs.Prepare.{theOne}
+use Rattle.preparing.proofs.OneLaws.{the-one}
+use Rattle.preparing.proofs.PrepareLaws.{prepare-none, prepare-own, prepare-yields}
 use Rattle.calls.specs.Calls.{Called, run, runParsed, replies, listOver}
 use Rattle.answers.specs.Answers.{result, done}
 use Rattle.calls.specs.Running.{wordsOf}
@@ -49,12 +52,14 @@ use Rattle.calls.specs.Demand.{
   Call.check,
   Call.batch,
   Call.list,
+  Call.prepare,
   Bytewise,
   ShortExact,
   ReserveShort,
   Commanded,
   AtCommand,
   AtBatch,
+  AtPrepare,
   AtCall,
   Demand3,
   Starts,
@@ -217,6 +222,31 @@ module _ {n : ℕ} {l : List Entry} {os : Places} {ws : List ℕ} (lo : 1 ≤ n)
       },
     )
 
+    abbrev formed : WellFormed ws
+    formed = record {
+      n = n;
+      list = l;
+      places = os;
+      least = lo;
+      most = hi;
+      valid = p .valid;
+      placed = p .placed;
+      words-are = p .words-are;
+    }
+
+    at-prepare : (bs out : List ℕ) → Bytes bs → (o : Option Command) → theOne bs ≡ o → AtPrepare n l ws bs out o
+    at-prepare bs out b none e = prepare-none ws bs out formed e
+    at-prepare bs out b (some c) e =
+        let (fs, f) = all-split {P = Fits} [] c [] (subst AllFit (the-one bs e .alone) (parse-fits b)) in
+        record {
+          words = wordsOf n (next n s₀ c);
+          does =
+              subst (λ (z : List ℕ). Commanded n l c z (wordsOf n (next n s₀ c))) (sym (p .words-are))
+              (commanded n s₀ (record { valid = p .valid; placed = p .placed }) c f);
+          own = λ h. prepare-own formed out c bs e h;
+          yields = λ h. prepare-yields formed out c bs e h;
+        }
+
     at-call : (c : Call) → Bytewise c → AtCall n l ws c
     at-call Call.init b = rw (sized-is (sized lo hi p)) refl
     at-call Call.check b = ap (λ (a : ℕ). result a 0) (prescribed-0 (sized lo hi p) p)
@@ -225,6 +255,7 @@ module _ {n : ℕ} {l : List Entry} {os : Places} {ws : List ℕ} (lo : 1 ≤ n)
       list-checked ws a z bs (prescribed-0 (sized lo hi p) p) ∙ ap (λ (x : List Entry). listOver x a z bs) (decode-list p),
       listed-fits a z (p .valid),
     )
+    at-call (Call.prepare bs out) b = at-prepare bs out b (theOne bs) refl
 
 -- R102
 pub demand-3-whole : {n : ℕ} {l : List Entry} {ws : List ℕ} → Starts n l ws → {cs : List Call} → All Bytewise cs →

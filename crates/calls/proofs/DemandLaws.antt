@@ -42,6 +42,7 @@ use Rattle.calls.specs.Demand.{
   Call.check,
   Call.batch,
   Call.list,
+  Call.prepare,
   wordsAfter,
   wordsAfterAll,
   executeAll,
@@ -125,6 +126,7 @@ module _ {n : ℕ} {l : List Entry} {os : Places} {ws : List ℕ} (lo : 1 ≤ n)
     call-stands Call.check b = stay
     call-stands (Call.batch bs rs) b = batch-stands bs rs b
     call-stands (Call.list a z bs) b = stay
+    call-stands (Call.prepare bs out) b = stay
 
 -- R104: the words after each command of a batch that runs
 bytes-take : {bs : List ℕ} (p : ℕ) → Bytes bs → Bytes (take p bs)

@@ -4,4 +4,5 @@ pub mod DemandLaws
 pub mod CallLaws
 pub mod RefusalLaws
 pub mod ClaimLaws
+pub mod PreparedLaws
 pub mod ListCallLaws

@@ -1,4 +1,4 @@
--- Demand 3: the pool after a list of calls, and the model fed the same calls (R88 to R105).
+-- Demand 3: the pool after a list of calls, and the model fed the same calls (R88 to R105, R149, R335).
 --
 -- the pool    Call; wordsAfter, wordsAfterAll: the words that calls leave
 -- the model   listAfter, listAfterAll: the plain list that calls leave
@@ -7,7 +7,7 @@ use Prim.Native.Nat.{ℕ, _*_, _-_, _≤_, _<_}
 use mathlib.Core.Path.{_≡_}
 use mathlib.Core.Bool.{true, false}
 use mathlib.Core.List.{List, [], _∷_, _++_}
-use mathlib.Core.Option.{none}
+use mathlib.Core.Option.{Option, none, some}
 use lib.ListN.{length, getD, take, drop}
 use Rattle.blocks.specs.Lists.{All}
 use Rattle.model.specs.declared.Entry.{Entry}
@@ -33,6 +33,9 @@ use Rattle.execute.specs.Part.{mayWrite}
 use Rattle.execute.specs.Table.{CommandRow}
 use Rattle.execute.specs.Widths.{FitsReply}
 use Rattle.verify.specs.Answers.{checkAnswer, initAnswer, initWords}
+use Rattle.script.specs.Script.{script}
+use Rattle.preparing.specs.Prepare.{yielding, theOne}
+use Rattle.preparing.specs.Prepare as Y
 use Rattle.calls.specs.Calls.{run, replies, refuseCall, initResult, checkResult, listOver}
 use Rattle.calls.specs.Calls as C
 
@@ -43,6 +46,8 @@ pub data Call : Type 0 where
   batch : (bytes reply : List ℕ) → Call
   -- R149
   list : (first last : ℕ) (buffer : List ℕ) → Call
+  -- R335
+  prepare : (bytes slice : List ℕ) → Call
 
 -- THE POOL
 abbrev pub wordsAfter : List ℕ → Call → List ℕ
@@ -50,6 +55,7 @@ wordsAfter ws init = initWords ws
 wordsAfter ws check = ws
 wordsAfter ws (batch bs rs) = run ws bs rs .words
 wordsAfter ws (list a z bs) = ws
+wordsAfter ws (prepare bs out) = ws
 
 abbrev pub wordsAfterAll : List ℕ → List Call → List ℕ
 wordsAfterAll ws [] = ws
@@ -65,24 +71,26 @@ module _ (n : ℕ) where
   abbrev pub feed : List Entry → (replyLength : ℕ) → Parsed → List Entry
   feed = feedBy (execute n)
 
-  -- R93, R94, R149
+  -- R93, R94, R149, R335
   abbrev pub listAfter : List Entry → Call → List Entry
   listAfter l init = []
   listAfter l check = l
   listAfter l (batch bs rs) = feed l (length rs) (parse bs)
   listAfter l (list a z bs) = l
+  listAfter l (prepare bs out) = l
 
   abbrev pub listAfterAll : List Entry → List Call → List Entry
   listAfterAll l [] = l
   listAfterAll l (c ∷ cs) = listAfterAll (listAfter l c) cs
 
 -- THE CLAIM
--- a batch is a list of bytes
+-- a batch is a list of bytes, and so is a record that is prepared
 abbrev pub Bytewise : Call → Type 0
 Bytewise init = Unit
 Bytewise check = Unit
 Bytewise (batch bs rs) = Bytes bs
 Bytewise (list a z bs) = Unit
+Bytewise (prepare bs out) = Bytes bs
 
 -- R103: the words are those that the list prescribes at some numbering, and every node without a place is free (R30)
 pub record Stands (n : ℕ) (l : List Entry) (ws : List ℕ) : Type 0 where
@@ -147,12 +155,26 @@ module _ (n : ℕ) (l : List Entry) (ws : List ℕ) where
       (length rs < replyBytes * length cs → run ws bs rs ≡ refuseCall ws rs replySpace (length cs))
       × (replyBytes * length cs ≤ length rs → Ran bs rs cs)
 
+  -- R335: a changing command that is prepared: its own answer on the list that stands here, or the script of the words that it leaves
+  -- by that list and the numbering of its nodes
+  pub record Prepares (bs out : List ℕ) (c : Command) : Type 0 where
+    pub words : List ℕ
+    pub does : Commanded n l c ws words
+    pub own : (execute n l c .reply .answer ≡ 0 → ⊥) → Y.prepare ws bs out ≡ Y.refused (execute n l c .reply .answer) out
+    pub yields : execute n l c .reply .answer ≡ 0 → Y.prepare ws bs out ≡ yielding (script ws words) out
+
+  -- R330: bytes that are no such record
+  abbrev pub AtPrepare : (bs out : List ℕ) → Option Command → Type 0
+  AtPrepare bs out none = Y.prepare ws bs out ≡ Y.refused badBatch out
+  AtPrepare bs out (some c) = Prepares bs out c
+
   -- of a listing its result and bytes, and that no field of an entry in it is cut (R144)
   abbrev pub AtCall : Call → Type 0
   AtCall init = initResult ws ≡ result done 0
   AtCall check = checkResult ws ≡ result done 0
   AtCall (batch bs rs) = AtBatch bs rs (parse bs)
   AtCall (list a z bs) = (C.list ws a z bs ≡ listOver l a z bs) × All FitsListed (listed l a z)
+  AtCall (prepare bs out) = AtPrepare bs out (theOne bs)
 
 -- ALL CALLS (R102): the words after the list, and every call of it at its moment
 pub record Demand3 (n : ℕ) (l : List Entry) (ws : List ℕ) (cs : List Call) : Type 0 where

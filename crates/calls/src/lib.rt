@@ -1,8 +1,9 @@
-// The calls on a pool: init, check, run and list, and the count of a batch by itself. None has a `requires`: each refuses what
+// The calls on a pool: init, check, run, list and prepare, and the count of a batch by itself. None has a `requires`: each refuses what
 // it cannot use, and says what its result is and what is in all that it was lent (R138). Crate xapool exports them.
 //
 // pool: the borrowed words; batch: the borrowed bytes of the commands; reply: the borrowed bytes for their replies;
-// at: a place in the batch; out: a place in the reply; map: the map of the pool's free nodes.
+// at: a place in the batch; out: a place in the reply; map: the map of the pool's free nodes; bytes: those of one command's record;
+// script: the borrowed words for the script.
 use answers::BAD_BATCH;
 use answers::DONE;
 use answers::FIRST_ABOVE_LAST;
@@ -11,20 +12,25 @@ use answers::Result;
 use batch::Command;
 use batch::Counted;
 use batch::REPLY_BYTES;
+use batch::Read;
 use freemap::MAP_WORDS;
 use listing::Listed;
 ghost use mathlib.Core.Path.{_≡_};
+ghost use mathlib.Core.Bool.{true};
 ghost use mathlib.Core.List.{List};
 ghost use Prim.Native.Nat.{_+_, _≤_};
 ghost use lib.ListN.{length};
 ghost use Rattle.layout.specs.WellFormed.{WellFormed};
 ghost use Rattle.freenodes.specs.FreeNodes.{FreeMap};
-ghost use Rattle.batch.specs.Batch.{restAt, counted, parse};
+ghost use Rattle.batch.specs.Batch.{restAt, counted, parse, readAt};
 ghost use Rattle.batch.specs.Batch;
 ghost use Rattle.batch.specs.Reply.{replyBytes};
 ghost use Rattle.batch.specs.declared.Counted.the-variants.{Commands};
+ghost use Rattle.batch.specs.declared.Read.the-variants.{Next};
 ghost use Rattle.commands.specs.Batches.{Ahead};
 ghost use Rattle.verify.specs.Answers.{checkAnswer, initWords};
+ghost use Rattle.execute.specs.Part.{changing};
+ghost use Rattle.preparing.specs.Prepare;
 ghost use Rattle.calls.specs.Calls;
 ghost use Rattle.calls.specs.Calls.{initResult, checkResult, countResult};
 ghost use Rattle.calls.specs.Running.{Turned, Ends};
@@ -185,5 +191,89 @@ pub fn list(pool: &[u64], first: u64, last: u64, buffer: &mut [u8]) -> Result
             answer: DONE,
             number: k,
         },
+    }
+}
+
+// Whether a command can change a pool.
+fn changes(c: Command) -> bool
+    ensures { λ r. ⌜ r ≡ changing c ⌝ }
+{
+    match c {
+        Command::Store {
+            index: _,
+            order: _,
+            word: _,
+        } => true,
+        Command::Load { index: _ } => false,
+        Command::Erase { index: _ } => true,
+        Command::Mark { index: _, mark: _ } => true,
+        Command::Unmark { index: _, mark: _ } => true,
+        Command::Find {
+            first: _,
+            last: _,
+            filter: _,
+            budget: _,
+        } => false,
+        Command::Reserve { index: _ } => true,
+    }
+}
+
+// The command that was read at the start of the bytes and ends at a place, on a pool that the check passed.
+fn prepare_read(
+    pool: &[u64],
+    map: &mut [u64],
+    bytes: &[u8],
+    c: Command,
+    at: usize,
+    script: &mut [u64],
+) -> Result
+    requires { ⌜ checkAnswer (now pool) ≡ 0 ⌝ }
+    requires { ⌜ FreeMap (now pool) (now map) ⌝ }
+    requires { ⌜ Next c (record { at = at }) ≡ readAt (now bytes) 0 ⌝ }
+    ensures { λ r. ⌜ r ≡ Prepare.prepare (now (pool .entry)) (now (bytes .entry)) (now (script .entry)) .result ⌝ }
+    ensures { λ _. ⌜ now (script .exit) ≡ Prepare.prepare (now (pool .entry)) (now (bytes .entry)) (now (script .entry)) .slice ⌝ }
+{
+    if at != bytes.len() {
+        return Result {
+            answer: BAD_BATCH,
+            number: 0,
+        };
+    }
+    if !changes(c) {
+        return Result {
+            answer: BAD_BATCH,
+            number: 0,
+        };
+    }
+    prepare::prepare_command(pool, map, c, script)
+}
+
+// Prepares a command that can change a pool, given by its record alone: writes the script of the words that running it would change.
+// Answers 0 to 7, 10, 11, 14 or 15; writes nothing in the pool, and in the slice only with 0.
+pub fn prepare(pool: &[u64], bytes: &[u8], script: &mut [u64]) -> Result
+    ensures { λ r. ⌜ r ≡ Prepare.prepare (now (pool .entry)) (now (bytes .entry)) (now (script .entry)) .result ⌝ }
+    ensures { λ _. ⌜ now (script .exit) ≡ Prepare.prepare (now (pool .entry)) (now (bytes .entry)) (now (script .entry)) .slice ⌝ }
+    ensures { λ _. ⌜ now (pool .exit) ≡ now (pool .entry) ⌝ }
+    ensures { λ _. ⌜ now (bytes .exit) ≡ now (bytes .entry) ⌝ }
+{
+    let mut map = [0u64; MAP_WORDS];
+    let verdict = verify::check_map(pool, &mut map);
+    if verdict != DONE {
+        return Result {
+            answer: verdict,
+            number: 0,
+        };
+    }
+    let read = batch::read_at(bytes, 0);
+    match read {
+        Read::End => Result {
+            answer: BAD_BATCH,
+            number: 0,
+        },
+        Read::Bad => Result {
+            answer: BAD_BATCH,
+            number: 0,
+        },
+        Read::Next(c, k) => prepare_read(pool, &mut map, bytes, c, k.at, script),
     }
 }

@@ -17,7 +17,7 @@ use Rattle.batch.specs.Batch.{Parsed, Parsed.commands, Parsed.refused, parse}
 use Rattle.batch.specs.Reply.{replyBytes}
 use Rattle.execute.specs.Execute.{execute}
 use Rattle.calls.specs.Calls.{Called, run, runParsed}
-use Rattle.calls.specs.Demand.{Call, Call.init, Call.check, Call.batch, Call.list, Bytewise, Stands, Starts, Starts.fresh}
+use Rattle.calls.specs.Demand.{Call, Call.init, Call.check, Call.batch, Call.list, Call.prepare, Bytewise, Stands, Starts, Starts.fresh}
 use Rattle.calls.proofs.DemandLaws.{sized, run-as, call-stands, Started, started}
 use Rattle.xaplain.specs.Slices.{Slices, Prescribes, maxRoom, initSlices}
 use Rattle.xaplain.specs.Slices as S
@@ -53,6 +53,7 @@ module _ {n : ℕ} (lo : 1 ≤ n) (hi : n ≤ maxNodes) where
       ∙ ap (λ (x : List Seen). seenRun (execute n) l rs (parse bs) ∷ x)
       (tree-shows cs (call-stands lo hi (s .prescribed) (Call.batch bs rs) b) c)
   tree-shows (Call.list a z bs ∷ cs) s (also b c) = tree-shows cs s c
+  tree-shows (Call.prepare bs out ∷ cs) s (also b c) = tree-shows cs s c
 
 -- THE PLAIN ENGINE's calls do so, too
 module _ {room : ℕ} (hi : room ≤ maxRoom) where
@@ -84,6 +85,7 @@ shared-bytes (Call.init ∷ cs) (also b bs) = also {x = D.Call.init} b (shared-b
 shared-bytes (Call.check ∷ cs) (also b bs) = also {x = D.Call.check} b (shared-bytes cs bs)
 shared-bytes (Call.batch bs rs ∷ cs) (also b c) = also {x = D.Call.batch bs rs} b (shared-bytes cs c)
 shared-bytes (Call.list a z bs ∷ cs) (also b c) = shared-bytes cs c
+shared-bytes (Call.prepare bs out ∷ cs) (also b c) = shared-bytes cs c
 
 -- P12: a pool and slices that start with the same list show a host the same, byte for byte, but for the counts of loads and finds,
 -- for every list of calls in which no reply of either says 11 and none of the tree's 13

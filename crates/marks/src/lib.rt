@@ -36,7 +36,7 @@ fn nonzero(w: u64) -> bool
 }
 
 // w with bit j set or cleared.
-fn with_bit(w: u64, j: u64, on: bool) -> u64
+pub fn with_bit(w: u64, j: u64, on: bool) -> u64
     requires { ⌜ j < slots ⌝ }
     ensures { λ r. ⌜ r ≡ setBit j on w ⌝ }
 {

@@ -23,6 +23,7 @@ use Rattle.calls.specs.Demand.{
   Call.check,
   Call.batch,
   Call.list,
+  Call.prepare,
   wordsAfterAll,
   Bytewise,
   Stands,
@@ -110,6 +111,7 @@ of-call : (c : Call) (xs : List Step) (d : Command) (ys : List Step) → stepsOf
 of-call Call.init xs d ys q = absurd (no-init d xs ys q)
 of-call Call.check xs d ys q = absurd (no-step (ran d) xs ys q)
 of-call (Call.list a z bs) xs d ys q = absurd (no-step (ran d) xs ys q)
+of-call (Call.prepare bs out) xs d ys q = absurd (no-step (ran d) xs ys q)
 of-call (Call.batch bs rs) xs d ys q = go (parse bs) refl q
   where
     go : (p : Parsed) → parse bs ≡ p → fed (length rs) p ≡ xs ++ (ran d ∷ ys) → OfCall (Call.batch bs rs) xs d
@@ -229,6 +231,7 @@ call-moment Call.init ds b (x ∷ xs) ys q =
     }
 call-moment Call.check ds b xs ys q = none-yet (nothing-left xs ys q)
 call-moment (Call.list a z bs) ds b xs ys q = none-yet (nothing-left xs ys q)
+call-moment (Call.prepare bs out) ds b xs ys q = none-yet (nothing-left xs ys q)
 call-moment (Call.batch bs rs) ds b xs ys q = go (parse bs) refl q
   where
     go : (p : Parsed) → parse bs ≡ p → fed (length rs) p ≡ xs ++ ys → Ending (Call.batch bs rs ∷ ds) xs

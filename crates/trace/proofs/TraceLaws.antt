@@ -23,6 +23,7 @@ use Rattle.calls.specs.Demand.{
   Call.check,
   Call.batch,
   Call.list,
+  Call.prepare,
   wordsAfterAll,
   executeAll,
   feed,
@@ -52,6 +53,7 @@ after-call n l Call.init = refl
 after-call n l Call.check = refl
 after-call n l (Call.batch bs rs) = after-fed n l (length rs) (parse bs)
 after-call n l (Call.list a z bs) = refl
+after-call n l (Call.prepare bs out) = refl
 
 pub after-calls : (n : ℕ) (l : List Entry) (cs : List Call) → after n l (steps cs) ≡ listAfterAll n l cs
 after-calls n l [] = refl
@@ -60,12 +62,15 @@ after-calls n l (c ∷ cs) =
     ∙ ap (λ (x : List Entry). after n x (steps cs)) (after-call n l c)
     ∙ after-calls n (listAfter n l c) cs
 
--- R240: a check and a listing come to no step
+-- R240, R335: a check, a listing and a preparing come to no step
 pub check-nothing : stepsOf Call.check ≡ []
 check-nothing = refl
 
 pub listing-nothing : (first last : ℕ) (buffer : List ℕ) → stepsOf (Call.list first last buffer) ≡ []
 listing-nothing a z bs = refl
+
+pub preparing-nothing : (bytes slice : List ℕ) → stepsOf (Call.prepare bytes slice) ≡ []
+preparing-nothing bs out = refl
 
 -- THE LISTS ARE VALID at every moment
 ran-fits : {cs : List Command} → All Fits cs → All Fitting (map ran cs)
@@ -85,6 +90,7 @@ call-fits Call.init b = also tt end
 call-fits Call.check b = end
 call-fits (Call.batch bs rs) b = fed-fits (length rs) (parse bs) (parse-fits b)
 call-fits (Call.list a z bs) b = end
+call-fits (Call.prepare bs out) b = end
 
 pub calls-fit : {cs : List Call} → All Bytewise cs → All Fitting (steps cs)
 calls-fit end = end

@@ -19,7 +19,7 @@ use Rattle.batch.specs.Reply.{replyBytes}
 use Rattle.listing.specs.Listing.{entryBytes, listing}
 use Rattle.execute.specs.Execute.{execute}
 use Rattle.calls.specs.Calls.{Listing}
-use Rattle.calls.specs.Demand.{Call, Call.init, Call.check, Call.batch, Call.list, wordsAfterAll, Stands}
+use Rattle.calls.specs.Demand.{Call, Call.init, Call.check, Call.batch, Call.list, Call.prepare, wordsAfterAll, Stands}
 
 -- STEPS (R240)
 pub data Step : Type 0 where
@@ -33,12 +33,13 @@ abbrev pub fed : (replyLength : ℕ) → Parsed → List Step
 fed k (refused at) = []
 fed k (commands cs) = pick (ltb k (replyBytes * length cs)) [] (map ran cs)
 
--- R240: none of a check or a listing
+-- R240, R335: none of a check, a listing or a preparing
 abbrev pub stepsOf : Call → List Step
 stepsOf init = cleared ∷ []
 stepsOf check = []
 stepsOf (batch bs rs) = fed (length rs) (parse bs)
 stepsOf (list a z bs) = []
+stepsOf (prepare bs out) = []
 
 abbrev pub steps : List Call → List Step
 steps [] = []

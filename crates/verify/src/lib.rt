@@ -19,7 +19,7 @@ ghost use Rattle.freenodes.specs.FreeNodes.{FreeMap};
 ghost use Rattle.verify.specs.Answers.{Counts, checkAnswer, initAnswer, initWords};
 
 // The number of nodes, or 0 if the length is not that of a pool.
-fn nodes_in(pool: &[u64]) -> u64
+pub fn nodes_in(pool: &[u64]) -> u64
     ensures { λ r. ⌜ Counts (now (pool .entry)) r ⌝ }
 {
     let len = pool.len() as u64;

@@ -70,7 +70,7 @@ fn run_all(
     let mut out: usize = 0;
     let mut entries = n;
     while at < batch.len() {
-        let s = batch::step_at(batch, at);
+        let s = batch::record_at(batch, at);
         let c = s.command;
         entries = run_one(index, order, word, marks, entries, c, reply, out);
         at = s.at;
@@ -164,7 +164,7 @@ pub fn run(
             number: 0,
         };
     }
-    let counted = batch::count(batch);
+    let counted = reader::count_through(batch);
     match counted {
         Counted::Refused(place) => Result {
             answer: BAD_BATCH,

@@ -3,4 +3,5 @@ mod gates;
 mod plain;
 mod pool;
 mod regions;
+mod scripts;
 mod sheets;

@@ -124,7 +124,8 @@ fn refusals_of_a_list_in_their_order() {
     assert_eq!(raw(65, 64), raw::RawResult { answer: 8, number: 0 });
     assert_eq!(raw(0, LAST), raw::RawResult { answer: 4, number: 3 });
     let texts = [Refusal::FirstAboveLast, Refusal::ListSpace { entries: 3 }].map(|r| r.to_string());
-    let space = "space under 24 bytes a command, or 21 an entry of a list (3 entries)";
+    let space =
+        "space under 24 bytes a command, 21 an entry of a list, or a script's words (3 entries)";
     assert_eq!(texts, ["first above last", space]);
 }
 

@@ -6,7 +6,12 @@ use std::io::Write;
 use std::process::{Command as Process, Stdio};
 
 fn program(batch: &[u8]) -> Vec<u8> {
+    program_with(&[], batch)
+}
+
+fn program_with(words: &[&str], batch: &[u8]) -> Vec<u8> {
     let mut process = Process::new(env!("CARGO_BIN_EXE_reference"))
+        .args(words)
         .stdin(Stdio::piped())
         .stdout(Stdio::piped())
         .spawn()
@@ -75,4 +80,22 @@ fn a_batch_of_8192_bytes() {
     assert_eq!(batch.len(), 8192);
     let expected = [only(10).bytes(2).repeat(736), only(10).bytes(4).repeat(8)].concat();
     assert_eq!(program(&batch), expected);
+}
+
+/// Too small, then done, applied and changed again: case 2, an erase of it, and a record cut.
+#[test]
+fn preparings_in_a_row() {
+    let store = bytes_of(Command::Store { index: 0, order: 0, word: 3 });
+    let erase = bytes_of(Command::Erase { index: 0 });
+    let asked = |room: u8, record: &[u8]| [&[room, record.len() as u8], record].concat();
+    let all =
+        [asked(1, &store), asked(3, &store), asked(2, &erase), asked(2, &erase), asked(1, &[3])];
+    let wanted: [&[u8]; 5] = [
+        &[4, 0, 2, 0, 0],
+        &[0, 0, 2, 0, 1, 0, 3, 0, 2],
+        &[0, 0, 2, 0, 1, 0, 0],
+        &[10, 0, 0, 0, 0, 0, 1],
+        &[3, 0, 0, 0, 0],
+    ];
+    assert_eq!(program_with(&["prepare"], &all.concat()), wanted.concat());
 }

@@ -1,6 +1,6 @@
 //! `decode`: records to text or JSON, in memory of a fixed size.
 
-use super::only_file;
+use super::{only_file, scripts};
 use crate::args::Arguments;
 use crate::failure::{malformed, usage, Failure};
 use crate::files::{self, of_file};
@@ -11,7 +11,7 @@ use xabatch::json::{self, Object};
 use xabatch::kind::FileKind;
 use xabatch::progress::Progress;
 use xabatch::window::Window;
-use xapool_host::{Answer, Tag, MOST_BATCH_BYTES, PROGRAM_BATCH_BYTES};
+use xapool_host::{Answer, Tag, MOST_BATCH_BYTES, PROGRAM_BATCH_BYTES, SCRIPT_FILE};
 
 pub fn decode(arguments: Arguments) -> Result<(), Failure> {
     let file = only_file(&arguments)?;
@@ -22,6 +22,9 @@ pub fn decode(arguments: Arguments) -> Result<(), Failure> {
     files::output_is_open()?;
     let batch = batch.map(Batch::open).transpose()?;
     let mut decoding = Decoding::open(file, batch)?;
+    if decoding.is_script()? {
+        return decoding.write_script(&arguments);
+    }
     let mut output = Output::of(arguments.has("--json"));
     output.begin();
     let whole = decoding.read_all(&mut output)?.and_then(|()| decoding.is_whole());
@@ -50,6 +53,22 @@ impl Decoding {
         let progress = Progress::as_text(source.length());
         let (window, decoder) = (Window::of(source), Decoder::default());
         Ok(Decoding { file, window, progress, decoder, batch })
+    }
+
+    fn is_script(&mut self) -> Result<bool, Failure> {
+        let rest = self.window.rest().map_err(|error| of_file(&self.file, error))?;
+        Ok(rest.starts_with(&SCRIPT_FILE))
+    }
+
+    /// A script is read whole: its digest is of all of it.
+    fn write_script(&mut self, arguments: &Arguments) -> Result<(), Failure> {
+        if self.batch.is_some() || arguments.has("--strict") {
+            return Err(of_file(&self.file, "a script is no replies"));
+        }
+        let bytes = self.window.read_all().map_err(|error| of_file(&self.file, error))?;
+        self.window.input().is_unchanged().map_err(|error| of_file(&self.file, error))?;
+        self.progress = Progress::of(None);
+        scripts::write_script(&self.file, &bytes, arguments.has("--json"))
     }
 
     /// Writes each record as it comes. The outer failure is of the output: nothing more is written then.

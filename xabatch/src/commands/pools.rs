@@ -128,7 +128,7 @@ fn read_words(file: &OsStr) -> Result<Vec<u64>, Failure> {
     words_of(file, &files::read_pool(file)?)
 }
 
-fn words_of(file: &OsStr, bytes: &[u8]) -> Result<Vec<u64>, Failure> {
+pub(super) fn words_of(file: &OsStr, bytes: &[u8]) -> Result<Vec<u64>, Failure> {
     let kind = FileKind::guess(bytes).filter(|kind| *kind != FileKind::Pool);
     if let Some(kind) = kind.filter(|_| !has_its_nodes(bytes)) {
         return Err(of_file(file, format!("no pool file: it looks like {kind}")));

@@ -109,11 +109,11 @@ returns-2 c =
     ∙ ap (λ (x : ℕ). commandAt s x (at + headBytes)) tag)
     (ap (λ (x : ℕ). at + headBytes + fieldBytes x) tag)
 
-command-at-requires : tie.Need-command-at-requires
-command-at-requires c κs =
+rest-at-requires : tie.Need-rest-at-requires
+rest-at-requires c κs =
     let n = tagged c in let z = start n in let w = whole-of n in
     let e : fieldBytes (n .number1 .result) ≡ fieldBytes (getD (z .args .batch .now) (z .args .at) 0) = ap fieldBytes (tag-is n) in
-    (λ y. w .some-fields (sym e ∙ y), omega (arith, w .ends))
+    ((λ y. w .some-fields (sym e ∙ y), omega (arith, w .ends)), (c .before .if1 .left, c .if2 .left))
 
 add-number2-2 : tie.Need-add-number2-2
 add-number2-2 c = record { fits = omega (arith, whole-of (tagged (c .before)) .ends, start (tagged (c .before)) .good) }
@@ -129,7 +129,7 @@ returns-3 : tie.Need-returns-3
 returns-3 c =
     let d = c .before in let n = tagged (d .before) in let z = start n in
     let s = z .args .batch .now in let at = z .args .at in
-    read-good s at (z .pre) (d .command-at .ensures ∙ ap (λ (x : ℕ). commandAt s x (at + headBytes)) (tag-is n))
+    read-good s at (z .pre) (d .rest-at .ensures ∙ ap (λ (x : ℕ). commandAt s x (at + headBytes)) (tag-is n))
     (ap (λ (x : ℕ). at + headBytes + x) (c .number22 .ensures .0 ∙ whole-of n .length-is))
 
 pub step-at-spec : {M : Type 1} → statement M
@@ -154,7 +154,7 @@ step-at-spec =
     number2-requires
     add-t21
     returns-2
-    command-at-requires
+    rest-at-requires
     add-number2-2
     number2-requires-2
     add-t26

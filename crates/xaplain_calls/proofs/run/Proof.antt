@@ -15,8 +15,8 @@ else1-from-run-counted-arg5 c = c .before .before .before .before .before .befor
 abbrev counted2-from-run-counted-arg5 : tie.After-run-counted-arg5 → tie.After-counted2
 counted2-from-run-counted-arg5 c = c .before .before .before .before .before .before
 
-abbrev count-from-run-counted-arg5 : tie.After-run-counted-arg5 → tie.After-count
-count-from-run-counted-arg5 c = c .before .before .before .before .before .before .before .before
+abbrev count-through-from-run-counted-arg5 : tie.After-run-counted-arg5 → tie.After-count-through
+count-through-from-run-counted-arg5 c = c .before .before .before .before .before .before .before .before
 
 abbrev check-from-known-told : tie.After-known-told → tie.After-check
 check-from-known-told c = c .before .before .before .before .before
@@ -34,12 +34,12 @@ run-counted-requires : tie.Need-run-counted-requires
 run-counted-requires c κs = (
   sym (check-from-run-counted-arg5 c .check .ensures) ∙ else1-from-run-counted-arg5 c .if1 .left,
   sym
-      (counted2-from-run-counted-arg5 c .counted2 .given .1) ∙ count-from-run-counted-arg5 c .count .ensures,
+      (counted2-from-run-counted-arg5 c .counted2 .given .1) ∙ count-through-from-run-counted-arg5 c .count-through .ensures,
 )
 
 returns-2 : tie.Need-returns-2
 returns-2 c = with-lent (as-ensures (comes-refused (run-bad _ _ _ (sym (check-from-known-told c .check .ensures) ∙ else1-from-known-told c .if1 .left) (sym
-    (c .before .counted .given .1) ∙ c .before .before .before .count .ensures)))) refl
+    (c .before .counted .given .1) ∙ c .before .before .before .count-through .ensures)))) refl
 
 returns-3 : tie.Need-returns-3
 returns-3 c = with-lent (run-counted-from-slice-known10 c .run-counted .ensures) refl

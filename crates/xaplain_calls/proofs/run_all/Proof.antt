@@ -26,15 +26,15 @@ start-from-slice-known5 c = c .before .before .before .before .before .before
 abbrev loop-from-run-one-arg5 : tie.After-run-one-arg5 Inv-loop μ-loop → tie.At-loop Inv-loop μ-loop
 loop-from-run-one-arg5 c = c .before .before .before .before .before .before .before
 
-abbrev step-at-from-run-one-arg5 : tie.After-run-one-arg5 Inv-loop μ-loop → tie.After-step-at Inv-loop μ-loop
-step-at-from-run-one-arg5 c = c .before .before .before .before .before
+abbrev record-at-from-run-one-arg5 : tie.After-run-one-arg5 Inv-loop μ-loop → tie.After-record-at Inv-loop μ-loop
+record-at-from-run-one-arg5 c = c .before .before .before .before .before
 
 abbrev loop-from-slice-known10 : tie.After-slice-known10 Inv-loop μ-loop → tie.At-loop Inv-loop μ-loop
 loop-from-slice-known10 c = c .before .before .before .before .before .before .before .before .before .before .before .before .before .before .before .before
     .before .before
 
-abbrev step-at-from-slice-known10 : tie.After-slice-known10 Inv-loop μ-loop → tie.After-step-at Inv-loop μ-loop
-step-at-from-slice-known10 c = c .before .before .before .before .before .before .before .before .before .before .before .before .before .before .before .before
+abbrev record-at-from-slice-known10 : tie.After-slice-known10 Inv-loop μ-loop → tie.After-record-at Inv-loop μ-loop
+record-at-from-slice-known10 c = c .before .before .before .before .before .before .before .before .before .before .before .before .before .before .before .before
 
 abbrev shared-slice-known-from-slice-known10 : tie.After-slice-known10 Inv-loop μ-loop → tie.After-shared-slice-known Inv-loop μ-loop
 shared-slice-known-from-slice-known10 c = c .before .before .before .before .before .before .before .before .before .before .before .before .before .before
@@ -49,20 +49,20 @@ start-from-loop c = c .before .before .before .before .before .before .before .b
 loop-holds : tie.Need-loop-holds Inv-loop μ-loop
 loop-holds c = running-start (start-from-slice-known5 c .pre .0) (start-from-slice-known5 c .pre .1)
 
-step-at-requires : tie.Need-step-at-requires Inv-loop μ-loop
-step-at-requires c κs = stands (c .before .loop .inv .ahead) (omega arith)
+record-at-requires : tie.Need-record-at-requires Inv-loop μ-loop
+record-at-requires c κs = stands (c .before .loop .inv .ahead) (omega arith)
 
 run-one-requires : tie.Need-run-one-requires Inv-loop μ-loop
-run-one-requires c κs = let r = loop-from-run-one-arg5 c .loop .inv in (r .held, room-for (r .ahead) (step-at-from-run-one-arg5 c .step-at .ensures))
+run-one-requires c κs = let r = loop-from-run-one-arg5 c .loop .inv in (r .held, room-for (r .ahead) (record-at-from-run-one-arg5 c .record-at .ensures))
 
 add-out : tie.Need-add-out Inv-loop μ-loop
-add-out c = omega (arith, room-for (loop-from-slice-known10 c .loop .inv .ahead) (step-at-from-slice-known10 c .step-at .ensures))
+add-out c = omega (arith, room-for (loop-from-slice-known10 c .loop .inv .ahead) (record-at-from-slice-known10 c .record-at .ensures))
 
 loop-less : tie.Need-loop-less Inv-loop μ-loop
-loop-less c = omega (arith, next-after _ _ (sym (step-at-from-slice-known10 c .step-at .ensures)))
+loop-less c = omega (arith, next-after _ _ (sym (record-at-from-slice-known10 c .record-at .ensures)))
 
 loop-again : tie.Need-loop-again Inv-loop μ-loop
-loop-again c = let v = loop-from-slice-known10 c .loop .inv in let q = step-at-from-slice-known10 c .step-at .ensures in
+loop-again c = let v = loop-from-slice-known10 c .loop .inv in let q = record-at-from-slice-known10 c .record-at .ensures in
     running-on v q (read-fits (record { small = λ i. omega (arith, shared-slice-known-from-slice-known10 c .shared-slice-known .given i) }) _ (sym q))
     (run-one-from-slice-known10 c .run-one .ensures (v .held)) (c .before .reply .given)
 
@@ -94,7 +94,7 @@ run-all-spec =
     Inv-loop
     μ-loop
     loop-holds
-    step-at-requires
+    record-at-requires
     run-one-requires
     add-out
     loop-less

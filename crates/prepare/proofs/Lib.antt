@@ -1,0 +1,9 @@
+pub mod EntryLaws
+pub mod PrepareLaws
+pub mod StaysLaws
+pub mod StoreLaws
+pub mod NewListLaws
+pub mod KeptLaws
+pub mod PutLaws
+pub mod EraseLaws
+pub mod AfterLaws

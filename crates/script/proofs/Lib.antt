@@ -1,0 +1,5 @@
+pub mod FormLaws
+pub mod ScriptLaws
+pub mod ApplyLaws
+pub mod AgainLaws
+pub mod Literals

@@ -1,0 +1,9 @@
+pub mod CommandLaws
+pub mod BecomesLaws
+pub mod RowLaws
+pub mod HeadLaws
+pub mod GrowthLaws
+pub mod RowWriteLaws
+pub mod PathLaws
+pub mod EditsLaws
+pub mod AnchorLaws

@@ -1,0 +1,269 @@
+// The script of a pool after a store that may free nodes: rows for the nodes that change, zeros for those inside the range.
+//
+// pool: the borrowed words, n nodes; rows, nums: the rows and their numbers (crate script_table); base, order: the range; m: the number
+// of a node; k: words of the script so far.
+use layout::ANCHOR_WORDS;
+use layout::NODE_WORDS;
+use layout::SHIFT_DROP;
+use layout::SLOT_BITS;
+use layout::SLOTS;
+use layout::owner_of;
+use layout::shift_of;
+use script_table::ROWS;
+use script_table::next_number;
+use script_table::row_of;
+use script_table::span_length;
+use script_table::span_write;
+use words::pow2;
+ghost use Prim.Native.Nat.{ℕ, _+_, _*_, _-_, _^_, _<_, _≤_};
+ghost use mathlib.Core.Path.{_≡_};
+ghost use mathlib.Core.Bool.{true, false};
+ghost use mathlib.Core.List.{List};
+ghost use lib.ListN.{getD, length};
+ghost use Rattle.model.specs.Model.{maxOrder};
+ghost use Rattle.tree.specs.Tree.{tierOrder};
+ghost use Rattle.layout.specs.Words.{poolWords, countWord};
+ghost use Rattle.layout.specs.WellFormed.{WellFormed};
+ghost use Rattle.script.specs.Script.{scriptFrom, script};
+ghost use Rattle.script_table.specs.Table.{laid, rowCount, Wrote};
+ghost use Rattle.script_wide.specs.Climb.{At, Stands};
+ghost use Rattle.script_wide.specs.Freed.{AllFreed, Counted, FreedFits, NodeFits, WideFits};
+ghost use Rattle.script_wide.specs.Wide.{GoesAt, Wide};
+
+// WHICH NODES GO
+
+// The first index of the block of node m, of tier u.
+fn first_of(pool: &[u64], m: u64, u: u64) -> u64
+    requires { ⌜ WellFormed (now pool) ⌝ }
+    requires { ⌜ ((s : WellFormed (now pool)) → Stands s m u) ⌝ }
+    ensures { λ r. ⌜ ((s : WellFormed (now (pool .entry))) (b : ℕ) → At s m u b → r ≡ b * 2 ^ tierOrder u) ⌝ }
+{
+    let mut n = m;
+    let mut t = u;
+    let mut x = 0;
+    loop {
+        let p = owner_of(pool, n);
+        if p == 0 {
+            return x;
+        }
+        x = x + (p - 1) % SLOTS * pow2(SLOT_BITS * t);
+        n = (p - 1) / SLOTS;
+        t = t + 1;
+    }
+}
+
+// Whether node m is in use and lies inside the range. Most nodes are told by their first word.
+fn goes(pool: &[u64], m: u64, base: u64, order: u64) -> bool
+    requires { ⌜ WellFormed (now pool) ⌝ }
+    requires { ⌜ (m < getD (now pool) countWord 0) × (order ≤ maxOrder) ⌝ }
+    ensures { λ r. ⌜ ((s : WellFormed (now (pool .entry))) →
+        (r ≡ true → GoesAt s base order m) × (r ≡ false → GoesAt s base order m → ⊥)) ⌝ }
+{
+    let w = shift_of(pool, m);
+    if w == 0 {
+        return false;
+    }
+    if w + SHIFT_DROP > order {
+        return false;
+    }
+    let u = (w + SHIFT_DROP) / SLOT_BITS;
+    let x = first_of(pool, m, u);
+    x >> order == base >> order
+}
+
+// HOW MANY WORDS
+
+// Node m, which has no row.
+fn free_length(pool: &[u64], m: u64, base: u64, order: u64, k: u64) -> u64
+    requires { ⌜ WellFormed (now pool) ⌝ }
+    requires { ⌜ (m < getD (now pool) countWord 0) × (order ≤ maxOrder) × (k < 2 ^ 62) ⌝ }
+    ensures { λ r. ⌜ r ≤ k + 140 ⌝ }
+    ensures { λ r. ⌜ ((s : WellFormed (now (pool .entry))) (ws′ : List ℕ) → AllFreed s ws′ base order m (m + 1) →
+        Counted (now (pool .entry)) ws′ (poolWords m) (poolWords (m + 1)) k r) ⌝ }
+{
+    if goes(pool, m, base, order) {
+        let zeros = [0u64; 70];
+        let p = ANCHOR_WORDS + NODE_WORDS * m;
+        return span_length(pool, &zeros, p, 0, NODE_WORDS, k);
+    }
+    k
+}
+
+// The nodes from m on, below end, which have no row.
+fn frees_length(pool: &[u64], m: u64, end: u64, base: u64, order: u64, k: u64) -> u64
+    requires { ⌜ WellFormed (now pool) ⌝ }
+    requires { ⌜ (m ≤ end) × (end ≤ getD (now pool) countWord 0) × (order ≤ maxOrder) × (k ≤ 8 + 140 * m) ⌝ }
+    ensures { λ r. ⌜ r ≤ 8 + 140 * end ⌝ }
+    ensures { λ r. ⌜ ((s : WellFormed (now (pool .entry))) (ws′ : List ℕ) → AllFreed s ws′ base order m end →
+        Counted (now (pool .entry)) ws′ (poolWords m) (poolWords end) k r) ⌝ }
+{
+    let mut x = m;
+    let mut y = k;
+    while x < end {
+        y = free_length(pool, x, base, order, y);
+        x = x + 1;
+    }
+    y
+}
+
+// Node m, by its row if it has one.
+fn node_length(
+    pool: &[u64],
+    rows: &[u64],
+    nums: &[u64],
+    m: u64,
+    base: u64,
+    order: u64,
+    k: u64,
+) -> u64
+    requires { ⌜ WellFormed (now pool) ⌝ }
+    requires { ⌜ (poolWords rowCount ≤ length (now rows)) × (rowCount ≤ length (now nums)) ⌝ }
+    requires { ⌜ (m < getD (now pool) countWord 0) × (order ≤ maxOrder) × (k < 2 ^ 62) ⌝ }
+    ensures { λ r. ⌜ r ≤ k + 140 ⌝ }
+    ensures { λ r. ⌜ ((s : WellFormed (now (pool .entry))) (ws′ : List ℕ) →
+        Wide s (now (rows .entry)) (now (nums .entry)) ws′ base order →
+        Counted (now (pool .entry)) ws′ (poolWords m) (poolWords (m + 1)) k r) ⌝ }
+{
+    let r = row_of(nums, m);
+    if r == ROWS {
+        return free_length(pool, m, base, order, k);
+    }
+    span_length(
+        pool,
+        rows,
+        ANCHOR_WORDS + NODE_WORDS * m,
+        ANCHOR_WORDS + NODE_WORDS * r,
+        NODE_WORDS,
+        k,
+    )
+}
+
+// How many words the script has.
+pub fn wide_length(pool: &[u64], rows: &[u64], nums: &[u64], n: u64, base: u64, order: u64) -> u64
+    requires { ⌜ WellFormed (now pool) ⌝ }
+    requires { ⌜ (poolWords rowCount ≤ length (now rows)) × (rowCount ≤ length (now nums)) ⌝ }
+    requires { ⌜ (n ≡ getD (now pool) countWord 0) × (order ≤ maxOrder) ⌝ }
+    ensures { λ r. ⌜ ((s : WellFormed (now (pool .entry))) (ws′ : List ℕ) →
+        Wide s (now (rows .entry)) (now (nums .entry)) ws′ base order →
+        r ≡ length (script (now (pool .entry)) ws′)) ⌝ }
+{
+    let mut k = span_length(pool, rows, 0, 0, ANCHOR_WORDS, 0);
+    let mut m = 0;
+    loop {
+        let q = next_number(nums, m, n);
+        k = frees_length(pool, m, q, base, order, k);
+        if q == n {
+            return k;
+        }
+        k = node_length(pool, rows, nums, q, base, order, k);
+        m = q + 1;
+    }
+}
+
+// WRITING IT
+
+// Node m's part, at t, where it has no row.
+fn free_write(pool: &[u64], m: u64, base: u64, order: u64, out: &mut [u64], t: usize) -> usize
+    requires { ⌜ WellFormed (now pool) ⌝ }
+    requires { ⌜ (m < getD (now pool) countWord 0) × (order ≤ maxOrder) ⌝ }
+    requires { ⌜ FreedFits (now pool) base order m (m + 1) t (now out) ⌝ }
+    ensures { λ r. ⌜ ((s : WellFormed (now (pool .entry))) (ws′ : List ℕ) → AllFreed s ws′ base order m (m + 1) →
+        Wrote (now (pool .entry)) ws′ (poolWords m) (poolWords (m + 1)) t r (now (out .entry)) (now (out .exit))) ⌝ }
+{
+    if goes(pool, m, base, order) {
+        let zeros = [0u64; 70];
+        let p = ANCHOR_WORDS + NODE_WORDS * m;
+        return span_write(pool, &zeros, p, 0, NODE_WORDS, out, t);
+    }
+    t
+}
+
+// That of the nodes from m on, below end, which have no row.
+fn frees_write(
+    pool: &[u64],
+    m: u64,
+    end: u64,
+    base: u64,
+    order: u64,
+    out: &mut [u64],
+    t: usize,
+) -> usize
+    requires { ⌜ WellFormed (now pool) ⌝ }
+    requires { ⌜ (m ≤ end) × (end ≤ getD (now pool) countWord 0) × (order ≤ maxOrder) ⌝ }
+    requires { ⌜ FreedFits (now pool) base order m end t (now out) ⌝ }
+    ensures { λ r. ⌜ ((s : WellFormed (now (pool .entry))) (ws′ : List ℕ) → AllFreed s ws′ base order m end →
+        Wrote (now (pool .entry)) ws′ (poolWords m) (poolWords end) t r (now (out .entry)) (now (out .exit))) ⌝ }
+{
+    let mut x = m;
+    let mut y = t;
+    while x < end {
+        y = free_write(pool, x, base, order, out, y);
+        x = x + 1;
+    }
+    y
+}
+
+// That of node m, by its row if it has one.
+fn node_write(
+    pool: &[u64],
+    rows: &[u64],
+    nums: &[u64],
+    m: u64,
+    base: u64,
+    order: u64,
+    out: &mut [u64],
+    t: usize,
+) -> usize
+    requires { ⌜ WellFormed (now pool) ⌝ }
+    requires { ⌜ (poolWords rowCount ≤ length (now rows)) × (rowCount ≤ length (now nums)) ⌝ }
+    requires { ⌜ (m < getD (now pool) countWord 0) × (order ≤ maxOrder) ⌝ }
+    requires { ⌜ NodeFits (now pool) (now rows) (now nums) base order m t (now out) ⌝ }
+    ensures { λ r. ⌜ ((s : WellFormed (now (pool .entry))) (ws′ : List ℕ) →
+        Wide s (now (rows .entry)) (now (nums .entry)) ws′ base order →
+        Wrote (now (pool .entry)) ws′ (poolWords m) (poolWords (m + 1)) t r (now (out .entry)) (now (out .exit))) ⌝ }
+{
+    let r = row_of(nums, m);
+    if r == ROWS {
+        return free_write(pool, m, base, order, out, t);
+    }
+    span_write(
+        pool,
+        rows,
+        ANCHOR_WORDS + NODE_WORDS * m,
+        ANCHOR_WORDS + NODE_WORDS * r,
+        NODE_WORDS,
+        out,
+        t,
+    )
+}
+
+// Writes the script, for which there is room.
+pub fn wide_write(
+    pool: &[u64],
+    rows: &[u64],
+    nums: &[u64],
+    n: u64,
+    base: u64,
+    order: u64,
+    out: &mut [u64],
+)
+    requires { ⌜ WellFormed (now pool) ⌝ }
+    requires { ⌜ (poolWords rowCount ≤ length (now rows)) × (rowCount ≤ length (now nums)) ⌝ }
+    requires { ⌜ (n ≡ getD (now pool) countWord 0) × (order ≤ maxOrder) ⌝ }
+    requires { ⌜ WideFits (now pool) (now rows) (now nums) base order (now out) ⌝ }
+    ensures { λ _. ⌜ ((s : WellFormed (now (pool .entry))) (ws′ : List ℕ) →
+        Wide s (now (rows .entry)) (now (nums .entry)) ws′ base order →
+        now (out .exit) ≡ laid (now (out .entry)) 0 (script (now (pool .entry)) ws′)) ⌝ }
+{
+    let mut t = span_write(pool, rows, 0, 0, ANCHOR_WORDS, out, 0);
+    let mut m = 0;
+    loop {
+        let q = next_number(nums, m, n);
+        t = frees_write(pool, m, q, base, order, out, t);
+        if q == n {
+            return;
+        }
+        t = node_write(pool, rows, nums, q, base, order, out, t);
+        m = q + 1;
+    }
+}
