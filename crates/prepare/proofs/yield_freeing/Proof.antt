@@ -29,26 +29,29 @@ returns c = let z = c .before .before .before .before .before .before .before .b
 )
 
 wide-write-requires : tie.Need-wide-write-requires
-wide-write-requires c κs = let z = c .before .before .before .before .before .before .before .before .before .before .before .before .before in let y = z .pre .1 .1 in let G = c .before .before .before .before .before .before .mark-going .ensures (y .formed) in (
-  z .pre .0,
-  (
-    (z .pre .1 .0 .0, z .pre .1 .0 .1, omega (arith, G .long)),
-    (
-      refl,
-      record {
-        words = y .words;
-        wide = wide-by G refl (y .wide);
-        room = omega (arith, c .before .before .before .wide-length .ensures (y .words) (wide-by G refl (y .wide)));
-      },
-    ),
-  ),
-)
+wide-write-requires c κs = let z = c .before .before .before .before .before .before .before .before .before .before .before .before .before in
+    let y = z .pre .1 .1 in let G = c .before .before .before .before .before .before .mark-going .ensures (y .formed) in (
+      z .pre .0,
+      (
+        (z .pre .1 .0 .0, z .pre .1 .0 .1, omega (arith, G .long)),
+        (
+          refl,
+          record {
+            words = y .words;
+            wide = wide-by G refl (y .wide);
+            room = omega (arith, c .before .before .before .wide-length .ensures (y .words) (wide-by G refl (y .wide)));
+          },
+        ),
+      ),
+    )
 
 returns-2 : tie.Need-returns-2
 returns-2 c = let z = c .before .before .before .before .before .before .before .before .before .before .before .before .before .before .before .before in (
-  λ s ws′ w. let W = wide-by (c .before .before .before .before .before .before .before .before .before .mark-going .ensures s) refl w in gives-done (script (z .args .pool .now) ws′) (z .args .out .now)
+  λ s ws′ w. let W = wide-by (c .before .before .before .before .before .before .before .before .before .mark-going .ensures s) refl w in gives-done
+      (script (z .args .pool .now) ws′) (z .args .out .now)
       (c .before .before .before .before .before .before .wide-length .ensures ws′ W) (omega arith) (c .before .before .wide-write .ensures ws′ W) .result-is,
-  λ s ws′ w. let W = wide-by (c .before .before .before .before .before .before .before .before .before .mark-going .ensures s) refl w in gives-done (script (z .args .pool .now) ws′) (z .args .out .now)
+  λ s ws′ w. let W = wide-by (c .before .before .before .before .before .before .before .before .before .mark-going .ensures s) refl w in gives-done
+      (script (z .args .pool .now) ws′) (z .args .out .now)
       (c .before .before .before .before .before .before .wide-length .ensures ws′ W) (omega arith) (c .before .before .wide-write .ensures ws′ W) .slice-is,
 )
 

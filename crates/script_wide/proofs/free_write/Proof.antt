@@ -25,7 +25,8 @@ span-write-requires c κs = let z = c .before .before .before .before in let W =
 }
 
 returns : tie.Need-returns
-returns c = λ ws′ g. node-wrote (c .before .before .before .before .before .before .before .args .m) (c .before .before .span-write .ensures ws′ (zeros-agree g))
+returns c = λ ws′ g. node-wrote (c .before .before .before .before .before .before .before .args .m) (c .before .before .span-write .ensures ws′
+    (zeros-agree g))
 
 pub free-write-spec : {M : Type 1} → statement M
 free-write-spec = tie.close (tie.spec mul-p add-p (λ c. search needs) span-write-requires (λ c. search needs) returns)

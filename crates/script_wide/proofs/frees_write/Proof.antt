@@ -35,12 +35,15 @@ same-length : tie.Need-same-length Inv-loop μ-loop
 same-length c = c .before .before .loop .inv .2
 
 returns : tie.Need-returns Inv-loop μ-loop
-returns c = let z = c .before .before .before .before .before .before in let W = z .pre .0 in let y = c .before .before .loop in λ ws′ d. wrote-then (y .inv .3 ws′ d) (wrote-pass _ _ _ _
+returns c = let z = c .before .before .before .before .before .before in let W = z .pre .0 in
+    let y = c .before .before .loop in λ ws′ d. wrote-then (y .inv .3 ws′ d) (wrote-pass _ _ _ _
     (stays-end d (omega (arith, z .pre .1 .0 .1, count-is W, pool-length W)) (y .inv .0) (c .before .next-going .ensures) (omega (arith, c .if1 .taken))))
 
 free-write-requires : tie.Need-free-write-requires Inv-loop μ-loop
-free-write-requires c κs = let z = c .before .before .before .before .before .before .before in let W = z .pre .0 in let f = z .pre .1 .1 in let y = c .before .before .before .loop in let g = c .before .before .next-going .ensures in
-    let w = wrote-then (y .inv .3 (f .words) (f .freed)) (wrote-pass _ _ _ _ (stays-pass (f .freed) (omega (arith, z .pre .1 .0 .1, count-is W, pool-length W))
+free-write-requires c κs = let z = c .before .before .before .before .before .before .before in let W = z .pre .0 in let f = z .pre .1 .1 in
+    let y = c .before .before .before .loop in let g = c .before .before .next-going .ensures in
+    let w = wrote-then (y .inv .3 (f .words) (f .freed)) (wrote-pass _ _ _ _ (stays-pass (f .freed) (omega
+    (arith, z .pre .1 .0 .1, count-is W, pool-length W))
     (y .inv .0) g)) in (
       W,
       (
@@ -54,20 +57,23 @@ free-write-requires c κs = let z = c .before .before .before .before .before .b
     )
 
 add-x : tie.Need-add-x Inv-loop μ-loop
-add-x c = let z = c .before .before .before .before .before .before .before .before .before .before in let W = z .pre .0 in omega (arith, c .before .before .before .before .before .next-going .ensures .most, z .pre .1 .0 .1, count-is W, W .most)
+add-x c = let z = c .before .before .before .before .before .before .before .before .before .before in
+    let W = z .pre .0 in omega (arith, c .before .before .before .before .before .next-going .ensures .most, z .pre .1 .0 .1, count-is W, W .most)
 
 loop-less : tie.Need-loop-less Inv-loop μ-loop
-loop-less c = let g = c .before .before .before .before .before .next-going .ensures in omega (arith, g .past, g .most, c .before .before .before .before .if1 .left)
+loop-less c = let g = c .before .before .before .before .before .next-going .ensures in omega
+    (arith, g .past, g .most, c .before .before .before .before .if1 .left)
 
 loop-again : tie.Need-loop-again Inv-loop μ-loop
-loop-again c = let z = c .before .before .before .before .before .before .before .before .before .before in let W = z .pre .0 in let y = c .before .before .before .before .before .before .loop in let g = c .before .before .before .before .before .next-going .ensures in (
-  omega (arith, y .inv .0, g .past),
-  omega (arith, g .most, c .before .before .before .before .if1 .left),
-  c .before .before .free-write .kept .1 .1 .0 ∙ y .inv .2,
-  λ ws′ d. wrote-then
-      (wrote-then (y .inv .3 ws′ d) (wrote-pass _ _ _ _ (stays-pass d (omega (arith, z .pre .1 .0 .1, count-is W, pool-length W)) (y .inv .0) g)))
-      (c .before .before .free-write .ensures ws′ (next-gone d (y .inv .0) g (omega (arith, g .most, c .before .before .before .before .if1 .left)))),
-)
+loop-again c = let z = c .before .before .before .before .before .before .before .before .before .before in let W = z .pre .0 in
+    let y = c .before .before .before .before .before .before .loop in let g = c .before .before .before .before .before .next-going .ensures in (
+      omega (arith, y .inv .0, g .past),
+      omega (arith, g .most, c .before .before .before .before .if1 .left),
+      c .before .before .free-write .kept .1 .1 .0 ∙ y .inv .2,
+      λ ws′ d. wrote-then
+          (wrote-then (y .inv .3 ws′ d) (wrote-pass _ _ _ _ (stays-pass d (omega (arith, z .pre .1 .0 .1, count-is W, pool-length W)) (y .inv .0) g)))
+          (c .before .before .free-write .ensures ws′ (next-gone d (y .inv .0) g (omega (arith, g .most, c .before .before .before .before .if1 .left)))),
+    )
 
 pub frees-write-spec : {M : Type 1} → statement M
 frees-write-spec =

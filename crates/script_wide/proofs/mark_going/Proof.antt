@@ -18,19 +18,33 @@ abbrev μ-loop : tie.MeasureT-loop
 μ-loop pool n base order map₀ m₀ map m = n - m
 
 loop-holds : tie.Need-loop-holds Inv-loop μ-loop
-loop-holds c = let b = c .before .before .pre .1 .1 in (omega arith, blank-sound b, λ s. blank-going b s (c .before .before .args .base) (c .before .before .args .order))
+loop-holds c = let b = c .before .before .pre .1 .1 in (
+  omega arith,
+  blank-sound b,
+  λ s. blank-going b s (c .before .before .args .base)
+      (c .before .before .args .order),
+)
 
 mark-requires : tie.Need-mark-requires Inv-loop μ-loop
-mark-requires c κs = let z = c .before .before .before .before .before in (z .pre .0, ((omega (arith, z .pre .1 .0 .0), z .pre .1 .0 .1), c .before .before .loop .inv .1))
-
-add-m : tie.Need-add-m Inv-loop μ-loop
-add-m c = omega arith
-
-loop-less : tie.Need-loop-less Inv-loop μ-loop
-loop-less c = omega arith
+mark-requires c κs = let z = c .before .before .before .before .before in (
+  z .pre .0,
+  (
+    (
+      omega
+          (arith, z .pre .1 .0 .0),
+      z .pre .1 .0 .1,
+    ),
+    c .before .before .loop .inv .1,
+  ),
+)
 
 loop-again : tie.Need-loop-again Inv-loop μ-loop
-loop-again c = (omega arith, c .before .before .mark .ensures .0, λ s. c .before .before .mark .ensures .1 s (c .before .before .before .before .before .loop .inv .2 s))
+loop-again c = (
+  omega arith,
+  c .before .before .mark .ensures .0,
+  λ s. c .before .before .mark .ensures .1 s
+      (c .before .before .before .before .before .loop .inv .2 s),
+)
 
 same-length : tie.Need-same-length Inv-loop μ-loop
 same-length c = c .before .loop .inv .1 .is .long ∙ sym (c .before .before .before .before .pre .1 .1 .long)
@@ -47,8 +61,8 @@ mark-going-spec =
     μ-loop
     loop-holds
     mark-requires
-    add-m
-    loop-less
+    (λ c. omega arith)
+    (λ c. omega arith)
     loop-again
     same-length
     returns)

@@ -23,9 +23,6 @@ mul-next-bit c = omega (arith, c .before .loop .inv .1)
 shared-slice-read-next-bit : tie.Need-shared-slice-read-next-bit Inv-loop μ-loop
 shared-slice-read-next-bit c = let z = c .before .before .before .before in omega (arith, z .pre .1, z .pre .2)
 
-next-bit-requires : tie.Need-next-bit-requires Inv-loop μ-loop
-next-bit-requires c κs = omega arith
-
 mul-r : tie.Need-mul-r Inv-loop μ-loop
 mul-r c = omega (arith, c .before .before .before .before .loop .inv .1)
 
@@ -34,14 +31,15 @@ add-r c = omega (arith, c .before .before .before .before .loop .inv .1)
 
 returns : tie.Need-returns Inv-loop μ-loop
 returns c = let y = c .before .before .before .before .before .loop in let b = c .before .before .next-bit .ensures in record {
-      past = omega (arith, y .inv .0, b .past);
-      most = omega arith;
-      on = λ _. word-set (c .before .before .before .before .before .before .before .args .map .now) (y .x) b (c .before .if1 .taken);
-      between = clear-on (y .inv .2) b .each;
-    }
+  past = omega (arith, y .inv .0, b .past);
+  most = omega arith;
+  on = λ _. word-set (c .before .before .before .before .before .before .before .args .map .now) (y .x) b (c .before .if1 .taken);
+  between = clear-on (y .inv .2) b .each;
+}
 
 returns-2 : tie.Need-returns-2 Inv-loop μ-loop
-returns-2 c = clear-end (clear-on (c .before .before .before .before .before .loop .inv .2) (c .before .before .next-bit .ensures)) (c .before .before .before .before .before .before .before .pre .0) (omega (arith, c .if2 .left))
+returns-2 c = clear-end (clear-on (c .before .before .before .before .before .loop .inv .2) (c .before .before .next-bit .ensures))
+    (c .before .before .before .before .before .before .before .pre .0) (omega (arith, c .if2 .left))
 
 add-x : tie.Need-add-x Inv-loop μ-loop
 add-x c = omega (arith, c .before .before .before .before .loop .inv .1)
@@ -54,10 +52,10 @@ loop-less c = omega (arith, c .before .before .before .loop-test .taken, c .befo
 
 loop-again : tie.Need-loop-again Inv-loop μ-loop
 loop-again c = let y = c .before .before .before .before .loop in let b = c .before .next-bit .ensures in (
-      omega (arith, y .inv .0),
-      omega (arith, c .before .before .before .loop-test .taken, c .before .before .before .before .before .before .pre .1),
-      clear-next (y .inv .2) b (omega (arith, c .if1 .left)),
-    )
+  omega (arith, y .inv .0),
+  omega (arith, c .before .before .before .loop-test .taken, c .before .before .before .before .before .before .pre .1),
+  clear-next (y .inv .2) b (omega (arith, c .if1 .left)),
+)
 
 returns-3 : tie.Need-returns-3 Inv-loop μ-loop
 returns-3 c = clear-end (c .before .loop .inv .2) (c .before .before .before .pre .0) (omega (arith, c .loop-test .left))
@@ -71,7 +69,7 @@ next-going-spec =
     loop-holds
     mul-next-bit
     shared-slice-read-next-bit
-    next-bit-requires
+    (λ c κs. omega arith)
     mul-r
     add-r
     returns

@@ -15,12 +15,22 @@ add-frees-length : tie.Need-add-frees-length
 add-frees-length c = let z = c .before .before .before .before .before .before in let W = z .pre .0 in omega (arith, z .pre .1 .1 .0, count-is W, W .most)
 
 frees-length-requires : tie.Need-frees-length-requires
-frees-length-requires c κs = let z = c .before .before .before .before .before .before in (z .pre .0, (omega arith, omega (arith, z .pre .1 .1 .0), z .pre .1 .0 .2, z .pre .1 .1 .1))
+frees-length-requires c κs = let z = c .before .before .before .before .before .before in (
+  z .pre .0,
+  (
+    omega arith,
+    omega
+        (arith, z .pre .1 .1 .0),
+    z .pre .1 .0 .2,
+    z .pre .1 .1 .1,
+  ),
+)
 
 returns : tie.Need-returns
 returns c = (
   c .frees-length .ensures .0,
-  λ ws′ W. c .frees-length .ensures .1 ws′ (wide-one W (c .before .before .before .before .before .before .before .pre .1 .1 .0) (c .before .before .row-of .ensures .none (c .before .if1 .taken))),
+  λ ws′ W. c .frees-length .ensures .1 ws′ (wide-one W (c .before .before .before .before .before .before .before .pre .1 .1 .0)
+      (c .before .before .row-of .ensures .none (c .before .if1 .taken))),
 )
 
 mul-span-length : tie.Need-mul-span-length

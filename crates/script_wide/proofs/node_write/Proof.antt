@@ -12,7 +12,8 @@ use Rattle.script_table.proofs.span_write.Reads as span-write-reads
 use Rattle.script_wide.proofs.frees_write.Reads as frees-write-reads
 
 add-frees-write : tie.Need-add-frees-write
-add-frees-write c = let z = c .before .before .before .before .before .before .before in let W = z .pre .0 in omega (arith, z .pre .1 .1 .0, count-is W, W .most)
+add-frees-write c = let z = c .before .before .before .before .before .before .before in
+    let W = z .pre .0 in omega (arith, z .pre .1 .1 .0, count-is W, W .most)
 
 frees-write-requires : tie.Need-frees-write-requires
 frees-write-requires c κs = let z = c .before .before .before .before .before .before .before .before in let f = z .pre .1 .1 .1 in (
@@ -28,25 +29,30 @@ frees-write-requires c κs = let z = c .before .before .before .before .before .
 )
 
 returns : tie.Need-returns
-returns c = λ ws′ W. c .before .before .frees-write .ensures ws′ (wide-one W (c .before .before .before .before .before .before .before .before .before .before .before .pre .1 .1 .0) (c .before .before .before .before .before .row-of .ensures .none (c .before .before .before .before .if1 .taken)))
+returns c = λ ws′ W. c .before .before .frees-write .ensures ws′ (wide-one W (c .before .before .before .before .before .before .before .before .before
+    .before .before .pre .1 .1 .0) (c .before .before .before .before .before .row-of .ensures .none (c .before .before .before .before .if1 .taken)))
 
 mul-span-write : tie.Need-mul-span-write
-mul-span-write c = let z = c .before .before .before .before .before .before .before in let W = z .pre .0 in omega (arith, z .pre .1 .1 .0, count-is W, W .most)
+mul-span-write c = let z = c .before .before .before .before .before .before .before in
+    let W = z .pre .0 in omega (arith, z .pre .1 .1 .0, count-is W, W .most)
 
 add-span-write : tie.Need-add-span-write
-add-span-write c = let z = c .before .before .before .before .before .before .before in let W = z .pre .0 in omega (arith, z .pre .1 .1 .0, count-is W, W .most)
+add-span-write c = let z = c .before .before .before .before .before .before .before in
+    let W = z .pre .0 in omega (arith, z .pre .1 .1 .0, count-is W, W .most)
 
 span-write-requires : tie.Need-span-write-requires
-span-write-requires c κs = let z = c .before .before .before .before .before .before .before .before in let W = z .pre .0 in let f = z .pre .1 .1 .1 in let e = c .before .before .row-of .ensures in record {
-  in-pool = omega (arith, z .pre .1 .1 .0, count-is W, pool-length W);
-  in-rows = omega (arith, e .most, z .pre .1 .0 .0);
-  words = f .words;
-  agrees = wide-row (f .wide) (z .pre .1 .1 .0) (omega (arith, e .most)) (e .is (omega (arith, e .most)));
-  room = f .room;
-}
+span-write-requires c κs = let z = c .before .before .before .before .before .before .before .before in let W = z .pre .0 in let f = z .pre .1 .1 .1 in
+    let e = c .before .before .row-of .ensures in record {
+      in-pool = omega (arith, z .pre .1 .1 .0, count-is W, pool-length W);
+      in-rows = omega (arith, e .most, z .pre .1 .0 .0);
+      words = f .words;
+      agrees = wide-row (f .wide) (z .pre .1 .1 .0) (omega (arith, e .most)) (e .is (omega (arith, e .most)));
+      room = f .room;
+    }
 
 returns-2 : tie.Need-returns-2
-returns-2 c = let z = c .before .before .before .before .before .before .before .before .before .before .before in let e = c .before .before .before .before .before .row-of .ensures in λ ws′ W. node-wrote (z .args .m) (c .before .before .span-write .ensures ws′
+returns-2 c = let z = c .before .before .before .before .before .before .before .before .before .before .before in
+    let e = c .before .before .before .before .before .row-of .ensures in λ ws′ W. node-wrote (z .args .m) (c .before .before .span-write .ensures ws′
     (wide-row W (z .pre .1 .1 .0) (omega (arith, e .most)) (e .is (omega (arith, e .most)))))
 
 pub node-write-spec : {M : Type 1} → statement M

@@ -47,22 +47,41 @@ returns c = let z = c .before .before .before .before .before .before .before .b
     (wide-next w (z .pre .1 .1) (c .before .before .next-number .ensures)))) (omega (arith, c .if1 .taken, z .pre .1 .1, count-is W, pool-length W))
 
 node-length-requires : tie.Need-node-length-requires Inv-loop μ-loop
-node-length-requires c κs = let z = c .before .before .before .before .before .before .before .before .before in
-    (z .pre .0, (z .pre .1 .0, (omega (arith, c .before .before .next-number .ensures .most, c .if1 .left, z .pre .1 .1), c .before .frees-length .ensures .0)))
+node-length-requires c κs = let z = c .before .before .before .before .before .before .before .before .before in (
+  z .pre .0,
+  (
+    z .pre .1 .0,
+    (
+      omega (arith, c .before .before .next-number .ensures .most, c .if1 .left, z .pre .1 .1),
+      c .before .frees-length .ensures
+          .0,
+    ),
+  ),
+)
 
 add-m : tie.Need-add-m Inv-loop μ-loop
-add-m c = let z = c .before .before .before .before .before .before .before .before .before .before in let W = z .pre .0 in omega (arith, c .before .before .before .next-number .ensures .most, z .pre .1 .1, count-is W, W .most)
+add-m c = let z = c .before .before .before .before .before .before .before .before .before .before in
+    let W = z .pre .0 in omega (arith, c .before .before .before .next-number .ensures .most, z .pre .1 .1, count-is W, W .most)
 
 loop-less : tie.Need-loop-less Inv-loop μ-loop
-loop-less c = let x = c .before .before .before .next-number .ensures in omega (arith, x .most, x .least, c .before .if1 .left, c .before .before .before .before .loop .inv .0)
+loop-less c = let x = c .before .before .before .next-number .ensures in omega (
+  arith,
+  x .most,
+  x .least,
+  c .before .if1 .left,
+  c .before .before .before
+      .before .loop .inv .0,
+)
 
 loop-again : tie.Need-loop-again Inv-loop μ-loop
-loop-again c = let z = c .before .before .before .before .before .before .before .before .before .before in let x = c .before .before .before .next-number .ensures in (
-  omega (arith, x .most, c .before .if1 .left),
-  c .node-length .ensures .0,
-  λ ws′ W. counted-then (counted-then (c .before .before .before .before .loop .inv .2 ws′ W) (c .before .before .frees-length .ensures .1 ws′ (wide-next W (z .pre .1 .1) x)))
-      (c .node-length .ensures .1 ws′ W),
-)
+loop-again c = let z = c .before .before .before .before .before .before .before .before .before .before in
+    let x = c .before .before .before .next-number .ensures in (
+      omega (arith, x .most, c .before .if1 .left),
+      c .node-length .ensures .0,
+      λ ws′ W. counted-then (counted-then (c .before .before .before .before .loop .inv .2 ws′ W) (c .before .before .frees-length .ensures .1 ws′
+          (wide-next W (z .pre .1 .1) x)))
+          (c .node-length .ensures .1 ws′ W),
+    )
 
 pub wide-length-spec : {M : Type 1} → statement M
 wide-length-spec =

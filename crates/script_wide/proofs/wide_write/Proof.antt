@@ -43,8 +43,10 @@ next-number-requires : tie.Need-next-number-requires Inv-loop μ-loop
 next-number-requires c κs = (c .before .before .before .before .before .before .before .before .before .before .pre .1 .0 .1, c .loop .inv .0)
 
 frees-write-requires : tie.Need-frees-write-requires Inv-loop μ-loop
-frees-write-requires c κs = let z = c .before .before .before .before .before .before .before .before .before .before .before .before in let f = z .pre .1 .1 .1 in let x = c .before .next-number .ensures in let y = c .before .before .loop in
-    let w = wrote-then (anchor-wrote (c .before .before .before .before .before .span-write .ensures (f .words) (wide-anchor (f .wide)))) (y .inv .2 (f .words) (f .wide)) in (
+frees-write-requires c κs = let z = c .before .before .before .before .before .before .before .before .before .before .before .before in
+    let f = z .pre .1 .1 .1 in let x = c .before .next-number .ensures in let y = c .before .before .loop in
+    let w = wrote-then (anchor-wrote (c .before .before .before .before .before .span-write .ensures (f .words) (wide-anchor (f .wide)))) (y .inv .2
+    (f .words) (f .wide)) in (
       z .pre .0,
       (
         (x .least, omega (arith, x .most, z .pre .1 .1 .0), z .pre .1 .0 .2),
@@ -64,17 +66,23 @@ frees-write-requires c κs = let z = c .before .before .before .before .before .
     )
 
 same-length : tie.Need-same-length Inv-loop μ-loop
-same-length c = c .before .before .before .frees-write .kept .1 .1 .1 .1 .0 ∙ (c .before .before .before .before .before .before .loop .inv .1 ∙ c .before .before .before .before .before .before .before .before .before .span-write .kept .1 .1 .1 .1 .1 .0)
+same-length c = c .before .before .before .frees-write .kept .1 .1 .1 .1 .0 ∙ (c .before .before .before .before .before .before .loop .inv .1 ∙ c .before
+    .before .before .before .before .before .before .before .before .span-write .kept .1 .1 .1 .1 .1 .0)
 
 returns : tie.Need-returns Inv-loop μ-loop
-returns c = let z = c .before .before .before .before .before .before .before .before .before .before .before .before .before .before .before .before in let W = z .pre .0 in
-    λ ws′ w. wrote-all (wrote-then (wrote-then (anchor-wrote (c .before .before .before .before .before .before .before .before .before .span-write .ensures ws′ (wide-anchor w))) (c .before .before .before .before .before .before .loop .inv .2 ws′ w))
+returns c = let z = c .before .before .before .before .before .before .before .before .before .before .before .before .before .before .before .before in
+    let W = z .pre .0 in
+    λ ws′ w. wrote-all (wrote-then (wrote-then (anchor-wrote (c .before .before .before .before .before .before .before .before .before .span-write
+    .ensures ws′ (wide-anchor w))) (c .before .before .before .before .before .before .loop .inv .2 ws′ w))
     (c .before .before .before .frees-write .ensures ws′ (wide-next w (z .pre .1 .1 .0) (c .before .before .before .before .before .next-number .ensures))))
     (omega (arith, c .if1 .taken, z .pre .1 .1 .0, count-is W, pool-length W))
 
 node-write-requires : tie.Need-node-write-requires Inv-loop μ-loop
-node-write-requires c κs = let z = c .before .before .before .before .before .before .before .before .before .before .before .before .before .before .before .before .before in let f = z .pre .1 .1 .1 in let x = c .before .before .before .before .before .before .next-number .ensures in let y = c .before .before .before .before .before .before .before .loop in
-    let w = wrote-then (wrote-then (anchor-wrote (c .before .before .before .before .before .before .before .before .before .before .span-write .ensures (f .words) (wide-anchor (f .wide)))) (y .inv .2 (f .words) (f .wide)))
+node-write-requires c κs = let z = c .before .before .before .before .before .before .before .before .before .before .before .before .before .before
+    .before .before .before in let f = z .pre .1 .1 .1 in let x = c .before .before .before .before .before .before .next-number .ensures in
+    let y = c .before .before .before .before .before .before .before .loop in
+    let w = wrote-then (wrote-then (anchor-wrote (c .before .before .before .before .before .before .before .before .before .before .span-write .ensures
+    (f .words) (wide-anchor (f .wide)))) (y .inv .2 (f .words) (f .wide)))
     (c .before .before .before .before .frees-write .ensures (f .words) (wide-next (f .wide) (z .pre .1 .1 .0) x)) in (
       z .pre .0,
       (
@@ -99,18 +107,37 @@ node-write-requires c κs = let z = c .before .before .before .before .before .b
     )
 
 add-m : tie.Need-add-m Inv-loop μ-loop
-add-m c = let z = c .before .before .before .before .before .before .before .before .before .before .before .before .before .before .before .before .before .before .before .before in let W = z .pre .0 in omega (arith, c .before .before .before .before .before .before .before .before .before .next-number .ensures .most, z .pre .1 .1 .0, count-is W, W .most)
+add-m c = let z = c .before .before .before .before .before .before .before .before .before .before .before .before .before .before .before .before .before
+    .before .before .before in let W = z .pre .0 in omega (
+      arith,
+      c .before .before .before .before .before .before .before .before .before .next-number
+          .ensures .most,
+      z .pre .1 .1 .0,
+      count-is W,
+      W .most,
+    )
 
 loop-less : tie.Need-loop-less Inv-loop μ-loop
-loop-less c = let x = c .before .before .before .before .before .before .before .before .before .next-number .ensures in omega (arith, x .most, x .least, c .before .before .before .before .if1 .left, c .before .before .before .before .before .before .before .before .before .before .loop .inv .0)
+loop-less c = let x = c .before .before .before .before .before .before .before .before .before .next-number .ensures in omega (
+  arith,
+  x .most,
+  x .least,
+  c .before .before .before .before .if1 .left,
+  c .before .before .before .before .before .before .before .before .before
+      .before .loop .inv .0,
+)
 
 loop-again : tie.Need-loop-again Inv-loop μ-loop
-loop-again c = let z = c .before .before .before .before .before .before .before .before .before .before .before .before .before .before .before .before .before .before .before .before in let x = c .before .before .before .before .before .before .before .before .before .next-number .ensures in let y = c .before .before .before .before .before .before .before .before .before .before .loop in (
-  omega (arith, x .most, c .before .before .before .before .if1 .left),
-  c .before .before .node-write .kept .1 .1 .1 .1 .1 .0 ∙ (c .before .before .before .before .before .before .before .frees-write .kept .1 .1 .1 .1 .0 ∙ y .inv .1),
-  λ ws′ W. wrote-then (wrote-then (y .inv .2 ws′ W) (c .before .before .before .before .before .before .before .frees-write .ensures ws′ (wide-next W (z .pre .1 .1 .0) x)))
-      (c .before .before .node-write .ensures ws′ W),
-)
+loop-again c = let z = c .before .before .before .before .before .before .before .before .before .before .before .before .before .before .before .before
+    .before .before .before .before in let x = c .before .before .before .before .before .before .before .before .before .next-number .ensures in
+    let y = c .before .before .before .before .before .before .before .before .before .before .loop in (
+      omega (arith, x .most, c .before .before .before .before .if1 .left),
+      c .before .before .node-write .kept .1 .1 .1 .1 .1 .0 ∙ (c .before .before .before .before .before .before .before .frees-write .kept .1 .1 .1 .1 .0 ∙ y
+          .inv .1),
+      λ ws′ W. wrote-then (wrote-then (y .inv .2 ws′ W) (c .before .before .before .before .before .before .before .frees-write .ensures ws′ (wide-next W
+          (z .pre .1 .1 .0) x)))
+          (c .before .before .node-write .ensures ws′ W),
+    )
 
 pub wide-write-spec : {M : Type 1} → statement M
 wide-write-spec =
