@@ -15,6 +15,7 @@ use answers::TOO_FEW_NODES;
 use batch::Command;
 use commands::is_aligned;
 use commands::is_storable;
+use freemap::MAP_WORDS;
 use layout::COUNT_WORD;
 use layout::HEAD_WORD;
 use layout::MARKS_WORD;
@@ -42,6 +43,7 @@ use script_same::same_rows;
 use script_table::ROWS;
 use script_table::table_length;
 use script_table::table_write;
+use script_wide::mark_going;
 use script_wide::wide_length;
 use script_wide::wide_write;
 use words::fill;
@@ -128,7 +130,9 @@ fn yield_freeing(
         now (out .exit) ≡ yielding (script (now (pool .entry)) ws′) (now (out .entry)) .slice) ⌝ }
 {
     let n = pool[COUNT_WORD];
-    let number = wide_length(pool, rows, nums, n, base, order);
+    let mut map = [0u64; MAP_WORDS];
+    mark_going(pool, n, base, order, &mut map);
+    let number = wide_length(pool, rows, nums, &map, n);
     let most = out.len() as u64;
     if most < number {
         return Result {
@@ -136,7 +140,7 @@ fn yield_freeing(
             number,
         };
     }
-    wide_write(pool, rows, nums, n, base, order, out);
+    wide_write(pool, rows, nums, &map, n, out);
     Result {
         answer: DONE,
         number,

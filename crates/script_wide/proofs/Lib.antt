@@ -1,3 +1,4 @@
 pub mod ClimbLaws
 pub mod GoesLaws
+pub mod GoingLaws
 pub mod WideLaws

@@ -1,19 +1,20 @@
 -- The script of a store that may free nodes, node by node.
-use Prim.Native.Nat.{ℕ, _+_, _≤_, _<_}
+use Prim.Native.Nat.{ℕ, _+_, _-_, _≤_, _<_}
 use mathlib.Core.Path.{_≡_, refl, sym, ap, subst, _∙_}
 use mathlib.Core.List.{List}
 use native.Mathlib.Omega.{arith}
 use lib.ListN.{length, getD, replicate, getD-replicate}
 use Rattle.tree.specs.Tree.{slotBits}
-use Rattle.layout.specs.Words.{anchorWords, nodeWords, poolWords, place}
+use Rattle.layout.specs.Words.{anchorWords, nodeWords, poolWords, place, nodeOf, fieldIn, countWord}
 use Rattle.layout.specs.WellFormed.{WellFormed}
 use Rattle.layout.proofs.RenderWordLaws.{pool-length}
 use Rattle.script.specs.Script.{script}
 use Rattle.script_table.specs.Table.{rowCount, Tables, Agrees, NextNumber, Wrote}
 use Rattle.script_table.proofs.LaidLaws.{script-start, script-end}
 use Rattle.script_table.proofs.TableLaws.{after, skip}
-use Rattle.script_wide.specs.Freed.{Freed, AllFreed, Counted}
-use Rattle.script_wide.specs.Wide.{GoesAt, NoRow, Wide}
+use Rattle.script_wide.specs.Freed.{Gone, Freed, AllFreed, Counted}
+use Rattle.script_wide.specs.Going.{NextGoing, WideBy}
+use Rattle.script_wide.specs.Wide.{NoRow, Wide}
 use Rattle.script_wide.proofs.ClimbLaws.{at-fits}
 use Rattle.script_wide.proofs.GoesLaws.{goes-node}
 
@@ -56,44 +57,54 @@ pub anchor-wrote : {ws ws′ : List ℕ} {r : ℕ} {out out′ : List ℕ} → W
     Wrote ws ws′ 0 (poolWords 0) 0 r out out′
 anchor-wrote w = w
 
--- A NODE WITHOUT A ROW
-module _ {ws : List ℕ} {s : WellFormed ws} {ws′ : List ℕ} {i k m : ℕ} (d : AllFreed s ws′ i k m (m + 1)) where
-  freed-one : Freed s ws′ i k m
-  freed-one = d .each m (omega arith) (omega arith)
+-- NODES WITHOUT A ROW
+pub zeros-agree : {ws′ : List ℕ} {m : ℕ} → Gone ws′ m → Agrees ws′ (replicate nodeWords 0) (poolWords m) 0 nodeWords
+zeros-agree g = record { words = λ t lt. g .zeros t lt ∙ sym (getD-replicate nodeWords (0 + t) 0 0 (omega arith)) }
 
-  pub stays-pass : m < s .n → (GoesAt s i k m → ⊥) →
-      after ws ws′ (length ws) (poolWords m) ≡ after ws ws′ (length ws) (poolWords (m + 1))
-  stays-pass h g =
-      skip ws ws′ (length ws) nodeWords (poolWords m) (omega (arith, pool-length s)) (λ t lt. freed-one .rest g t lt)
-      ∙ ap (after ws ws′ (length ws)) (node-places m)
+module _ {ws ms ws′ : List ℕ} {m m′ : ℕ} (d : AllFreed ws ms ws′ m m′) where
+  -- those before the next that goes stay
+  pub stays-pass : {x r : ℕ} → poolWords m′ ≤ length ws → m ≤ x → NextGoing ms x m′ r →
+      after ws ws′ (length ws) (poolWords x) ≡ after ws ws′ (length ws) (poolWords r)
+  stays-pass {x} {r} h l g =
+      let z : poolWords x + (poolWords r - poolWords x) ≡ poolWords r = omega (arith, g .past) in
+      skip ws ws′ (length ws) (poolWords r - poolWords x) (poolWords x) (omega (arith, g .past, g .most))
+      (λ t lt.
+      let a : x ≤ nodeOf (poolWords x + t) = omega arith in
+      let b : nodeOf (poolWords x + t) < r = omega arith in
+      let e : place (nodeOf (poolWords x + t)) (fieldIn (poolWords x + t)) ≡ poolWords x + t = omega arith in
+      subst (λ (p : ℕ). getD ws′ p 0 ≡ getD ws p 0) e
+      (d .each (nodeOf (poolWords x + t)) (omega arith) (omega (arith, g .most)) .rest (g .between (nodeOf (poolWords x + t)) a b)
+      (fieldIn (poolWords x + t)) (omega arith)))
+      ∙ ap (after ws ws′ (length ws)) z
 
-  pub zeros-agree : GoesAt s i k m → Agrees ws′ (replicate nodeWords 0) (poolWords m) 0 nodeWords
-  zeros-agree g = record { words = λ t lt. freed-one .gone g t lt ∙ sym (getD-replicate nodeWords (0 + t) 0 0 (omega arith)) }
+  pub stays-end : {x r : ℕ} → poolWords m′ ≤ length ws → m ≤ x → NextGoing ms x m′ r → r ≡ m′ →
+      after ws ws′ (length ws) (poolWords x) ≡ after ws ws′ (length ws) (poolWords m′)
+  stays-end h l g e = stays-pass h l g ∙ ap (λ (y : ℕ). after ws ws′ (length ws) (poolWords y)) e
 
-pub freed-part : {ws : List ℕ} {s : WellFormed ws} {ws′ : List ℕ} {i k m m′ : ℕ} → AllFreed s ws′ i k m m′ → {x x′ : ℕ} → m ≤ x →
-    x′ ≤ m′ → AllFreed s ws′ i k x x′
-freed-part d h g = record { each = λ y a b. d .each y (omega arith) (omega arith) }
+  -- and the next goes
+  pub next-gone : {x r : ℕ} → m ≤ x → NextGoing ms x m′ r → r < m′ → Gone ws′ r
+  next-gone {x} {r} l g h = d .each r (omega (arith, g .past)) h .gone (g .on h)
 
 -- A NODE WITH A ROW, OR NONE
-module _ {ws rs ns ws′ : List ℕ} {s : WellFormed ws} {i k : ℕ} (W : Wide s rs ns ws′ i k) where
-  pub wide-freed : {m : ℕ} → m < s .n → NoRow ns m → Freed s ws′ i k m
-  wide-freed {m} h n = record { gone = W .gone m h n; rest = W .rest m h n }
+module _ {ws rs ns ms ws′ : List ℕ} (W : WideBy ws rs ns ms ws′) where
+  wide-freed : {m : ℕ} → m < getD ws countWord 0 → NoRow ns m → Freed ws ms ws′ m
+  wide-freed {m} h n = record { gone = λ b. record { zeros = W .gone m h n b }; rest = W .rest m h n }
 
-  pub wide-one : {m : ℕ} → m < s .n → NoRow ns m → AllFreed s ws′ i k m (m + 1)
+  pub wide-one : {m : ℕ} → m < getD ws countWord 0 → NoRow ns m → AllFreed ws ms ws′ m (m + 1)
   wide-one {m} h n = record {
-    each = λ x a b. let e : m ≡ x = omega arith in subst (Freed s ws′ i k) e (wide-freed h n);
+    each = λ x a b. let e : m ≡ x = omega arith in subst (Freed ws ms ws′) e (wide-freed h n);
   }
 
   -- the nodes before the next with a row
-  pub wide-next : {n m m′ : ℕ} → n ≡ s .n → NextNumber ns m n m′ rowCount → AllFreed s ws′ i k m m′
+  pub wide-next : {n m m′ : ℕ} → n ≡ getD ws countWord 0 → NextNumber ns m n m′ rowCount → AllFreed ws ms ws′ m m′
   wide-next {n} {m} {m′} e x = record {
     each = λ y a b. wide-freed (omega (arith, x .most)) (λ r lt q. omega (arith, x .between r lt (omega arith)));
   }
 
-  pub wide-row : {m r : ℕ} → m < s .n → r < rowCount → getD ns r 0 ≡ m → Agrees ws′ rs (poolWords m) (poolWords r) nodeWords
+  pub wide-row : {m r : ℕ} → m < getD ws countWord 0 → r < rowCount → getD ns r 0 ≡ m → Agrees ws′ rs (poolWords m) (poolWords r) nodeWords
   wide-row {m} {r} h g e = record {
     words = λ t lt. subst (λ (x : ℕ). getD ws′ (place x t) 0 ≡ getD rs (place r t) 0) e
-        (W .row r g (subst (λ (x : ℕ). x < s .n) (sym e) h) t lt);
+        (W .row r g (subst (λ (x : ℕ). x < getD ws countWord 0) (sym e) h) t lt);
   }
 
   pub wide-anchor : Agrees ws′ rs 0 0 anchorWords
@@ -102,11 +113,11 @@ module _ {ws rs ns ws′ : List ℕ} {s : WellFormed ws} {i k : ℕ} (W : Wide s
         subst (λ (x : ℕ). getD ws′ x 0 ≡ getD rs x 0) (sym a) (W .anchor t lt);
   }
 
-  -- a range within one slot of a lowest node holds no node
-  pub wide-narrow : k < slotBits → Tables ws rs ns ws′ (s .n)
-  wide-narrow h = record {
-    size = pool-length s;
-    anchor = W .anchor;
-    row = W .row;
-    rest = λ m lt n. W .rest m lt n (λ g. omega (arith, g .low, at-fits s (goes-node g) .1));
-  }
+-- a range within one slot of a lowest node holds no node
+pub wide-narrow : {ws rs ns ws′ : List ℕ} {s : WellFormed ws} {i k : ℕ} → Wide s rs ns ws′ i k → k < slotBits → Tables ws rs ns ws′ (s .n)
+wide-narrow {s = s} W h = record {
+  size = pool-length s;
+  anchor = W .anchor;
+  row = W .row;
+  rest = λ m lt n. W .rest m lt n (λ g. omega (arith, g .low, at-fits s (goes-node g) .1));
+}

@@ -1,3 +1,4 @@
 pub mod Climb
 pub mod Freed
+pub mod Going
 pub mod Wide

@@ -4,13 +4,12 @@ use mathlib.Core.List.{List}
 use native.Mathlib.Omega.{arith}
 use lib.ListN.{length}
 use Rattle.layout.specs.Words.{poolWords}
-use Rattle.layout.specs.WellFormed.{WellFormed}
 use Rattle.layout.proofs.RenderWordLaws.{pool-length}
-use Rattle.script_wide.specs.Wide.{Wide}
-use Rattle.script_wide.proofs.GoesLaws.{count-is}
 use Rattle.script_table.specs.Table.{Wrote}
 use Rattle.script_table.proofs.LaidLaws.{script-start}
 use Rattle.script_table.proofs.TableLaws.{wrote-pass, wrote-then, wrote-all}
+use Rattle.script_wide.specs.Going.{WideBy}
+use Rattle.script_wide.proofs.GoesLaws.{count-is}
 use Rattle.script_wide.proofs.WideLaws.{anchor-wrote, wide-anchor, wide-next}
 use Rattle.script_wide.proofs.wide_write.Statement.{statement}
 use Rattle.script_wide.proofs.wide_write.Tie as tie
@@ -22,15 +21,14 @@ use Rattle.script_wide.proofs.frees_write.Reads as frees-write-reads
 use Rattle.script_wide.proofs.node_write.Reads as node-write-reads
 
 abbrev Inv-loop : tie.InvT-loop
-Inv-loop pool rows nums n base order out₀ t₀ m₀ out t m = (m ≤ n) × (length out ≡ length out₀) × ((s : WellFormed pool) (ws′ : List ℕ) → Wide s rows nums
-    ws′ base order →
+Inv-loop pool rows nums map n out₀ t₀ m₀ out t m = (m ≤ n) × (length out ≡ length out₀) × ((ws′ : List ℕ) → WideBy pool rows nums map ws′ →
     Wrote pool ws′ (poolWords m₀) (poolWords m) t₀ t out₀ out)
 
 abbrev μ-loop : tie.MeasureT-loop
-μ-loop pool rows nums n base order out₀ t₀ m₀ out t m = n - m
+μ-loop pool rows nums map n out₀ t₀ m₀ out t m = n - m
 
 span-write-requires : tie.Need-span-write-requires Inv-loop μ-loop
-span-write-requires c κs = let z = c .before .before .before .before .before in let f = z .pre .1 .1 .1 in record {
+span-write-requires c κs = let z = c .before .before .before .before .before .before in let f = z .pre .1 .1 .1 in record {
   in-pool = omega (arith, pool-length (z .pre .0));
   in-rows = omega (arith, z .pre .1 .0 .0);
   words = f .words;
@@ -39,23 +37,22 @@ span-write-requires c κs = let z = c .before .before .before .before .before in
 }
 
 loop-holds : tie.Need-loop-holds Inv-loop μ-loop
-loop-holds c = (omega arith, refl, λ s ws′ W. wrote-pass _ _ _ _ refl)
+loop-holds c = (omega arith, refl, λ ws′ W. wrote-pass _ _ _ _ refl)
 
 next-number-requires : tie.Need-next-number-requires Inv-loop μ-loop
-next-number-requires c κs = let z = c .before .before .before .before .before .before .before .before .before in (z .pre .1 .0 .1, c .loop .inv .0)
+next-number-requires c κs = (c .before .before .before .before .before .before .before .before .before .before .pre .1 .0 .1, c .loop .inv .0)
 
 frees-write-requires : tie.Need-frees-write-requires Inv-loop μ-loop
-frees-write-requires c κs = let z = c .before .before .before .before .before .before .before .before .before .before .before in let f = z .pre .1 .1 .1 in
-    let x = c .before .next-number .ensures in let y = c .before .before .loop in
-    let w = wrote-then (anchor-wrote (c .before .before .before .before .before .span-write .ensures (f .words) (wide-anchor (f .wide)))) (y .inv .2 (f
-    .formed) (f .words) (f .wide)) in (
+frees-write-requires c κs = let z = c .before .before .before .before .before .before .before .before .before .before .before .before in
+    let f = z .pre .1 .1 .1 in let x = c .before .next-number .ensures in let y = c .before .before .loop in
+    let w = wrote-then (anchor-wrote (c .before .before .before .before .before .span-write .ensures (f .words) (wide-anchor (f .wide)))) (y .inv .2
+    (f .words) (f .wide)) in (
       z .pre .0,
       (
-        (x .least, omega (arith, x .most, z .pre .1 .1 .0 .0), z .pre .1 .1 .0 .1),
+        (x .least, omega (arith, x .most, z .pre .1 .1 .0), z .pre .1 .0 .2),
         record {
-          formed = f .formed;
           words = f .words;
-          freed = wide-next (f .wide) (z .pre .1 .1 .0 .0 ∙ count-is (f .formed)) x;
+          freed = wide-next (f .wide) (z .pre .1 .1 .0) x;
           room = omega (
             arith,
             w .count,
@@ -69,31 +66,30 @@ frees-write-requires c κs = let z = c .before .before .before .before .before .
     )
 
 same-length : tie.Need-same-length Inv-loop μ-loop
-same-length c = c .before .before .before .frees-write .kept .1 .1 .1 .1 .1 .0 ∙ (c .before .before .before .before .before .before .loop .inv .1 ∙ c
-    .before .before .before .before .before .before .before .before .before .span-write .kept .1 .1 .1 .1 .1 .0)
+same-length c = c .before .before .before .frees-write .kept .1 .1 .1 .1 .0 ∙ (c .before .before .before .before .before .before .loop .inv .1 ∙ c .before
+    .before .before .before .before .before .before .before .before .span-write .kept .1 .1 .1 .1 .1 .0)
 
 returns : tie.Need-returns Inv-loop μ-loop
-returns c = let z = c .before .before .before .before .before .before .before .before .before .before .before .before .before .before .before in
-    λ s ws′ W. wrote-all (wrote-then (wrote-then (anchor-wrote (c .before .before .before .before .before .before .before .before .before .span-write
-    .ensures ws′ (wide-anchor W)))
-    (c .before .before .before .before .before .before .loop .inv .2 s ws′ W)) (c .before .before .before .frees-write .ensures s ws′ (wide-next W (z .pre
-    .1 .1 .0 .0 ∙ count-is s) (c .before .before .before .before .before .next-number .ensures))))
-    (omega (arith, c .if1 .taken, z .pre .1 .1 .0 .0, count-is s, pool-length s))
+returns c = let z = c .before .before .before .before .before .before .before .before .before .before .before .before .before .before .before .before in
+    let W = z .pre .0 in
+    λ ws′ w. wrote-all (wrote-then (wrote-then (anchor-wrote (c .before .before .before .before .before .before .before .before .before .span-write
+    .ensures ws′ (wide-anchor w))) (c .before .before .before .before .before .before .loop .inv .2 ws′ w))
+    (c .before .before .before .frees-write .ensures ws′ (wide-next w (z .pre .1 .1 .0) (c .before .before .before .before .before .next-number .ensures))))
+    (omega (arith, c .if1 .taken, z .pre .1 .1 .0, count-is W, pool-length W))
 
 node-write-requires : tie.Need-node-write-requires Inv-loop μ-loop
 node-write-requires c κs = let z = c .before .before .before .before .before .before .before .before .before .before .before .before .before .before
-    .before .before in let f = z .pre .1 .1 .1 in let x = c .before .before .before .before .before .before .next-number .ensures in
+    .before .before .before in let f = z .pre .1 .1 .1 in let x = c .before .before .before .before .before .before .next-number .ensures in
     let y = c .before .before .before .before .before .before .before .loop in
-    let w = wrote-then (wrote-then (anchor-wrote (c .before .before .before .before .before .before .before .before .before .before .span-write .ensures (f
-    .words) (wide-anchor (f .wide)))) (y .inv .2 (f .formed) (f .words) (f .wide)))
-    (c .before .before .before .before .frees-write .ensures (f .formed) (f .words) (wide-next (f .wide) (z .pre .1 .1 .0 .0 ∙ count-is (f .formed)) x)) in (
+    let w = wrote-then (wrote-then (anchor-wrote (c .before .before .before .before .before .before .before .before .before .before .span-write .ensures
+    (f .words) (wide-anchor (f .wide)))) (y .inv .2 (f .words) (f .wide)))
+    (c .before .before .before .before .frees-write .ensures (f .words) (wide-next (f .wide) (z .pre .1 .1 .0) x)) in (
       z .pre .0,
       (
         z .pre .1 .0,
         (
-          (omega (arith, x .most, c .before .if1 .left, z .pre .1 .1 .0 .0), z .pre .1 .1 .0 .1),
+          omega (arith, x .most, c .before .if1 .left, z .pre .1 .1 .0),
           record {
-            formed = f .formed;
             words = f .words;
             wide = f .wide;
             room = omega (
@@ -102,7 +98,7 @@ node-write-requires c κs = let z = c .before .before .before .before .before .b
               f .room,
               y .inv .1,
               c .before .before .before .before .before .before .before .before .before .before .span-write .kept .1 .1 .1 .1 .1 .0,
-              c .before .before .before .before .frees-write .kept .1 .1 .1 .1 .1 .0,
+              c .before .before .before .before .frees-write .kept .1 .1 .1 .1 .0,
               ap length (script-start (z .args .pool .now) (f .words) (length (z .args .pool .now)) refl),
             );
           },
@@ -112,36 +108,35 @@ node-write-requires c κs = let z = c .before .before .before .before .before .b
 
 add-m : tie.Need-add-m Inv-loop μ-loop
 add-m c = let z = c .before .before .before .before .before .before .before .before .before .before .before .before .before .before .before .before .before
-    .before .before in let W = z .pre .0 in omega (
+    .before .before .before in let W = z .pre .0 in omega (
       arith,
-      c .before .before .before .before .before .before .before .before .before .next-number .ensures
-          .most,
-      z .pre .1 .1 .0 .0,
+      c .before .before .before .before .before .before .before .before .before .next-number
+          .ensures .most,
+      z .pre .1 .1 .0,
       count-is W,
       W .most,
     )
 
 loop-less : tie.Need-loop-less Inv-loop μ-loop
-loop-less c = let x = c .before .before .before .before .before .before .before .before .before .next-number .ensures in
-    omega (
-      arith,
-      x .most,
-      x .least,
-      c .before .before .before .before .if1 .left,
-      c .before .before .before .before .before .before .before .before
-          .before .before .loop .inv .0,
-    )
+loop-less c = let x = c .before .before .before .before .before .before .before .before .before .next-number .ensures in omega (
+  arith,
+  x .most,
+  x .least,
+  c .before .before .before .before .if1 .left,
+  c .before .before .before .before .before .before .before .before .before
+      .before .loop .inv .0,
+)
 
 loop-again : tie.Need-loop-again Inv-loop μ-loop
 loop-again c = let z = c .before .before .before .before .before .before .before .before .before .before .before .before .before .before .before .before
-    .before .before .before in let x = c .before .before .before .before .before .before .before .before .before .next-number .ensures in
+    .before .before .before .before in let x = c .before .before .before .before .before .before .before .before .before .next-number .ensures in
     let y = c .before .before .before .before .before .before .before .before .before .before .loop in (
       omega (arith, x .most, c .before .before .before .before .if1 .left),
-      c .before .before .node-write .kept .1 .1 .1 .1 .1 .1 .0 ∙ (c .before .before .before .before .before .before .before .frees-write .kept .1 .1 .1 .1 .1
-          .0 ∙ y .inv .1),
-      λ s ws′ W. wrote-then (wrote-then (y .inv .2 s ws′ W) (c .before .before .before .before .before .before .before .frees-write .ensures s ws′ (wide-next W
-          (z .pre .1 .1 .0 .0 ∙ count-is s) x)))
-          (c .before .before .node-write .ensures s ws′ W),
+      c .before .before .node-write .kept .1 .1 .1 .1 .1 .0 ∙ (c .before .before .before .before .before .before .before .frees-write .kept .1 .1 .1 .1 .0 ∙ y
+          .inv .1),
+      λ ws′ W. wrote-then (wrote-then (y .inv .2 ws′ W) (c .before .before .before .before .before .before .before .frees-write .ensures ws′ (wide-next W
+          (z .pre .1 .1 .0) x)))
+          (c .before .before .node-write .ensures ws′ W),
     )
 
 pub wide-write-spec : {M : Type 1} → statement M
