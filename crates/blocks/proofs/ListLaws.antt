@@ -53,7 +53,7 @@ module _ {A : Type 0} where
   All-both end end = end
   All-both (also p a) (also q b) = also (p, q) (All-both a b)
 
-  pub any_yes : (p : A → Bool) {l : List A} {P : A → Type 0} → All P l → any p l ≡ true → (x : A) × (p x ≡ true) × P x
+  pub any_yes : (p : A → Bool) {P : A → Type 0} {l : List A} → All P l → any p l ≡ true → (x : A) × (p x ≡ true) × P x
   any_yes p end t = absurd (clash t refl)
   any_yes p (also {x} {l} h a) t = either_e (p x) (any p l) t (λ s. (x, s, h)) (λ s. any_yes p a s)
 
@@ -81,7 +81,7 @@ module _ {A : Type 0} where
   first_none p end = refl
   first_none p (also {x} h a) = rw (is_false h, first_none p a)
 
-  pub first_yes : (p : A → Bool) {l : List A} {P : A → Type 0} {e : A} → All P l → first p l ≡ some e →
+  pub first_yes : (p : A → Bool) {P : A → Type 0} {e : A} {l : List A} → All P l → first p l ≡ some e →
       (p e ≡ true) × P e
   first_yes p end q = let z : ◌≡◌ {A = ℕ} 0 1 = cc in absurd (omega arith)
   first_yes p {P} {e} (also {x} {l} h a) q =
@@ -120,6 +120,7 @@ module _ {A : Type 0} where
   in_cons (there m) = inr m
 
   pub look : {P : A → Type 0} {l : List A} {x : A} → All P l → In x l → P x
+  look {P = P} end x6 = elim x6 [ ]
   look (also h a) here = h
   look (also h a) (there m) = look a m
 

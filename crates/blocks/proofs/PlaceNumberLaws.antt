@@ -129,6 +129,7 @@ module _ {A : Type 0} (same : A → A → Bool) (same_is : (p q : A) → same p 
           (λ e. rw e (omega (arith, no_longer q t)))
 
       shorter : (p : A) (t : List A) → In p t → suc (length (without (same p) t)) ≤ length t
+      shorter p [] x3 = elim x3 [ ]
       shorter p (x ∷ t) here = rw (same_refl x) (omega (arith, no_longer (same x) t))
       shorter p (x ∷ t) (there m) = by_t (same p x) (λ e. rw e (omega (arith, no_longer (same p) t)))
           (λ e. rw e (omega (arith, shorter p t m)))

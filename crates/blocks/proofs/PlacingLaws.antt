@@ -127,6 +127,7 @@ module _ {A : Type 0} where
         go t (inr k) f = let (a, b) = f k in (a, there b)
 
     pub in_prune : (os : PlacesOf A) (p : A) → has p ≡ true → In p (standing os) → In p (standing (prune has os))
+    in_prune [] p t m = elim m [ ]
     in_prune (none ∷ os) p t m = in_prune os p t m
     in_prune (some q ∷ os) p t here = rw t here
     in_prune (some q ∷ os) p t (there m) = by_t (has q) (λ s. rw s (there (in_prune os p t m)))

@@ -80,6 +80,7 @@ in_at u b (c ∷ s) t =
     (eqb-true _ _ e) here) (λ e. there (in_at u b s e))
 
 pub at_in : (u : ℕ) (s : List ℕ) {p : Node} → In p (at u s) → (p.tier ≡ u) × (mem p.number s ≡ true)
+at_in u [] {p = p} x' = elim x' [ ]
 at_in u (c ∷ s) here = (refl, rw (eq-eqb c c refl))
 at_in u (c ∷ s) (there m) = let (e, t) = at_in u s m in (e, rw (t, either_yes))
 
