@@ -1,5 +1,7 @@
 // The answers of calls and replies, under the names of include/xapool.h (R68 to R80, R181, R205, R272 to R274, R325, R341), and the result
 // that a call gives.
+#![tactic(auto)]
+
 pub const DONE: u64 = 0;
 
 pub const POOL_LENGTH: u64 = 1;

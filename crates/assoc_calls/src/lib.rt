@@ -1,6 +1,8 @@
 // What each call on a pool of names does: the exports of xapool hand over to these.
 //
 // pool: the borrowed words; key: the bytes of a key.
+#![tactic(auto)]
+
 ghost use Rattle.std.specs.Prelude.{◌≡◌};
 ghost use Rattle.answers.specs.Answers.{result_of};
 ghost use Rattle.assoc_check.specs.Answers.{check_answer, clear_answer, clear_words};

@@ -2,6 +2,8 @@
 //
 // pool: the borrowed words; n: how many blocks; m, x: numbers of blocks; v: a tier; j: a slot; r: its word, 0 or 1 + a number.
 // A test's contract is `Decides r A`: true with A, false with the refutation of A.
+#![tactic(auto)]
+
 ghost use Rattle.std.specs.Prelude.{◌≡◌, Bool, true, false, ℕ, suc, ◌+◌, ◌-◌, ◌≤◌, ◌<◌, get_or, length};
 ghost use Rattle.blocks.specs.Choice.{either};
 ghost use Rattle.blocks.specs.Deciding.{Decides};

@@ -1,6 +1,8 @@
 // Keys as numbers of five words, lowest word first: a nibble of one, and whether two lie in one block.
 //
 // w, a, b: borrowed words; at, i, j: where a number begins; v: a tier (16^v numbers).
+#![tactic(auto)]
+
 ghost use Rattle.std.specs.Prelude.{◌≡◌, ◌+◌, ◌*◌, ◌%◌, ◌<◌, ◌≤◌, get_or, length};
 ghost use Rattle.blocks.specs.Blocks.{block};
 ghost use Rattle.blocks.specs.Deciding.{Decides};

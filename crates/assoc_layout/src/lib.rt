@@ -1,6 +1,8 @@
 // The words of a pool of names, by name.
 //
 // pool: the borrowed words; m, x, y: numbers of blocks; f: a field of one; v: a tier (16^v numbers).
+#![tactic(auto)]
+
 ghost use Rattle.std.specs.Prelude.{◌≡◌, ◌%◌, ◌<◌, ◌≤◌, length, get_or};
 ghost use Rattle.blocks.specs.Deciding.{Decides};
 ghost use Rattle.assoc_tree.specs.Parts.{block_of, top_tier};

@@ -2,6 +2,8 @@
 //
 // pool: the borrowed words, well-formed; key: the five words of a key's number, lowest first; m, x: numbers of blocks;
 // v: the tier of a block's upper end; r: a slot's word, 0 or 1 + the number of a block.
+#![tactic(auto)]
+
 ghost use Rattle.std.specs.Prelude.{◌≡◌, ℕ, ◌+◌, ◌-◌, ◌*◌, ◌^◌, ◌<◌, ◌≤◌, get_or, length};
 ghost use Rattle.words.specs.Bytes.{number_at};
 ghost use Rattle.assoc_tree.specs.Keys.{find, max_key, key_number};

@@ -2,6 +2,8 @@
 //
 // batch: the borrowed bytes; at: a place in them; a record is a tag byte, a length of two bytes and that many bytes of
 // fields; reply: the borrowed bytes of the replies.
+#![tactic(auto)]
+
 ghost use Rattle.std.specs.Prelude.{◌≡◌, true, ◌≢◌, ◌+◌, ◌<◌, ◌≤◌, length};
 ghost use Rattle.words.specs.Bytes.{number_at, overwrite};
 ghost use Rattle.batch.specs.Batch.{field_bytes, head_bytes, command_at, is_record, next_at, read_at, rest_at, counted, parse};

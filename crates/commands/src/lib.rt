@@ -1,6 +1,8 @@
 // What every engine's commands share: the tests of fields, and the replies.
 //
 // tag: the reply's.
+#![tactic(auto)]
+
 ghost use Rattle.std.specs.Prelude.{◌≡◌, ◌≤◌};
 ghost use Rattle.blocks.specs.Choice.{either};
 ghost use Rattle.model.specs.Model.{storable, max_order, aligned};

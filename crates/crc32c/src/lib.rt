@@ -1,6 +1,8 @@
 // The digest CRC-32C of borrowed bytes (R160 to R164).
 //
 // t: the table of one byte; f: the seven further tables, one after the other; s: the borrowed bytes; c: the register.
+#![tactic(auto)]
+
 mod tables;
 
 ghost use Rattle.std.specs.Prelude.{◌≡◌, List, ℕ, ◌+◌, ◌%◌, ◌≤◌, ◌<◌, length, take, drop};

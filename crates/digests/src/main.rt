@@ -1,6 +1,8 @@
 // The digests of RFC 3720's published vectors (B.4) and of the digits 1 to 9, a line of hex each; then how many cuts of a region of 64 bytes
 // into two pieces give the digest of the whole. The file stdout has the published digests, and 65.
 // One hex digit, of the low four bits.
+#![tactic(auto)]
+
 fn digit(x: u32) -> u8 {
     let d = (x % 16) as u8;
     if d < 10 { b'0' + d } else { b'a' + (d - 10) }

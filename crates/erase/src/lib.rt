@@ -2,6 +2,8 @@
 //
 // pool: the borrowed words; i: the index; n, m: numbers of nodes; v: the tier of a node's slots; o: the offset of a
 // slot; h: the tier of the head; map: the map of the free nodes.
+#![tactic(auto)]
+
 ghost use Rattle.std.specs.Prelude.{ℕ, ◌+◌, ◌-◌, ◌<◌, ◌≤◌, ◌≡◌, true, false, List, get_or, set};
 ghost use Rattle.blocks.specs.Lists.{any};
 ghost use Rattle.model.specs.Model;

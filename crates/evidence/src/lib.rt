@@ -2,6 +2,8 @@
 // of the one that has it (R127).
 //
 // s, base, supplement: the borrowed bytes of a sheet; at: a place in them; size: the bytes of a record, or of a text.
+#![tactic(auto)]
+
 ghost use Rattle.std.specs.Prelude.{◌≡◌, true, ◌<◌, length};
 ghost use Rattle.evidence.specs.Sheets.{is_record, seek, together, look};
 ghost use Rattle.evidence.specs.Parts.{IsPart};

@@ -1,6 +1,8 @@
 // One command of a batch on a pool: its reply, and the pool's words after it.
 //
 // pool: the borrowed words, well-formed; map: the map of its free nodes; tag: the reply's.
+#![tactic(auto)]
+
 ghost use Rattle.std.specs.Prelude.{◌≡◌, true, false, List, ℕ};
 ghost use Rattle.std.proofs.Math.Option.{some};
 ghost use Rattle.batch.specs.Reply.{store_reply, load_reply, mark_reply, unmark_reply, find_reply};

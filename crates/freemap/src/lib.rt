@@ -1,6 +1,8 @@
 // A map of free numbers: the lowest of them and how many they are in a bounded number of words, however many there are.
 //
 // map: its words, as specs/FreeMap has them; m: the number of a node; x: a bit of the map; k: one of its words.
+#![tactic(auto)]
+
 ghost use Rattle.std.specs.Prelude.{ℕ, ◌+◌, ◌*◌, ◌/◌, ◌≤◌, ◌<◌, ◌≡◌, Bool, true, false, not, eqb, get_or, length};
 ghost use Rattle.blocks.specs.Choice.{either};
 ghost use Rattle.words.specs.Bits.{word_bits};

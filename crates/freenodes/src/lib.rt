@@ -1,4 +1,6 @@
 // The map of a pool's free nodes, which goes from command to command beside the pool.
+#![tactic(auto)]
+
 ghost use Rattle.std.specs.Prelude.{◌<◌, ◌≡◌, length};
 ghost use Rattle.freemap.specs.FreeMap.{map_nodes, Sound};
 ghost use Rattle.layout.specs.Words.{last_place};

@@ -1,6 +1,8 @@
 // Gates (P14): the share that a part has of a total, held to limits from 0 to 1.
 //
 // g: a gate, with the limits a and b; x: a limit or a share; part, total: 32-bit counts, each a float exactly.
+#![tactic(auto)]
+
 ghost use Rattle.std.specs.Prelude.{◌≡◌};
 ghost use Rattle.gate.specs.Gate.{share, bad_limit, bad_limits, holds, judge, reported, gate_result};
 

@@ -2,6 +2,8 @@
 //
 // pool: the borrowed words; n, m: numbers of nodes; f: a field of a node; o: the offset of a slot in its node;
 // tier: the tier of a block (64^tier indices).
+#![tactic(auto)]
+
 ghost use Rattle.std.specs.Prelude.{◌≡◌, ◌+◌, ◌*◌, ◌%◌, ◌<◌, ◌≤◌, ◌^◌, eqb, length, get_or, set};
 ghost use Rattle.blocks.specs.Blocks.{block, bit, NextBit};
 ghost use Rattle.tree.specs.Tree.{slots, tier_order, top_tier};

@@ -3,6 +3,8 @@
 //
 // pool: the borrowed words, well-formed; n, m: numbers of nodes; v: the tier of a node's slots; b: the number of a node's
 // block; c: a slot by the number of its block; buffer: the borrowed bytes; k: the entries listed so far.
+#![tactic(auto)]
+
 ghost use Rattle.std.specs.Prelude.{◌+◌, ◌*◌, ◌/◌, suc, ◌≤◌, ◌<◌, ◌^◌, ◌≡◌, [], ◌∷◌, length};
 ghost use Rattle.blocks.specs.Blocks.{block};
 ghost use Rattle.model.specs.Model.{max_order};

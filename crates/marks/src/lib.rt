@@ -2,6 +2,8 @@
 //
 // pool: the borrowed words, well-formed; n: the number of a node; v: the tier of its slots; o: the offset of a slot;
 // m: a mark, 0 to 2; on: whether it is set or cleared.
+#![tactic(auto)]
+
 ghost use Rattle.std.specs.Prelude.{ℕ, ◌<◌, ◌≡◌, true, false, not, eqb, get_or, set};
 ghost use Rattle.blocks.specs.Blocks.{set_bit};
 ghost use Rattle.model.specs.Model.{reserved, mark_count, covers, covering, present, covered, with_mark, remark};

@@ -1,6 +1,8 @@
 // The model: the plain list of entries that every promise about a pool speaks of.
 //
 // base, order: an entry covers the 2^order indices from base on; word: what was stored; marks: mark m is worth 2^m.
+#![tactic(auto)]
+
 ghost use Rattle.std.specs.Prelude.{◌≡◌};
 ghost use Rattle.model.specs.Model.{reserved, shown};
 

@@ -3,6 +3,8 @@
 //
 // pool: the borrowed words; n: the number of a node; v: its level (its shift / 6); k: how many of its slots are filled, as it says;
 // j, o: offsets of slots; m: marks; a: bytes.
+#![tactic(auto)]
+
 ghost use Rattle.std.specs.Prelude.{◌≡◌, true, ◌<◌, ◌≤◌, length};
 ghost use Rattle.blocks.specs.Choice.{pick};
 ghost use Rattle.tree.specs.Tree.{slots};

@@ -2,6 +2,8 @@
 //
 // pool: the borrowed words; rows, nums: the rows of the touched nodes and their numbers (crates script_rows, script_table); out: the
 // borrowed words for the script; top: the tier of the head.
+#![tactic(auto)]
+
 ghost use Rattle.std.specs.Prelude.{ℕ, ◌+◌, ◌≤◌, ◌<◌, ◌≡◌, List, length, get_or, set, true, false};
 ghost use Rattle.std.proofs.Math.Option.{Option, none, some};
 ghost use Rattle.answers.specs.Answers.{result_of};

@@ -2,6 +2,8 @@
 //
 // A struct that holds a reference is taken apart in few, thin functions, each proved by a walk of its own; reading is
 // left to `batch::read_at`. Whoever calls `read_through` or `count_through` passes a plain slice, and needs no walk.
+#![tactic(auto)]
+
 ghost use Rattle.std.specs.Prelude.{◌≡◌};
 ghost use Rattle.batch.specs.Batch.{read_at, counted, parse};
 

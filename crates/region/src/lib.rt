@@ -1,4 +1,6 @@
 // Whether a new region holds what the old one held (R165 to R169).
+#![tactic(auto)]
+
 ghost use Rattle.std.specs.Prelude.{◌≡◌, length};
 ghost use Rattle.blocks.specs.Lists.{equal};
 ghost use Rattle.region.specs.Region.{any_empty, compare, number, compared};

@@ -1,6 +1,8 @@
 // Applying an edit script: the words that a command changes, written by themselves (P11).
 //
 // pool: the borrowed words; script: pairs of a place and a word, one after the other.
+#![tactic(auto)]
+
 ghost use Rattle.std.specs.Prelude.{◌≡◌, true, length};
 ghost use Rattle.answers.specs.Answers.{result_of};
 ghost use Rattle.script.specs.Script.{places_below, applied, apply_words, apply_result};

@@ -4,6 +4,8 @@
 //
 // pool: the borrowed words; rows, nums: the rows and the numbers of their nodes (crate script_table); i, order: the first
 // index of the entry and its order; v: the tier of its slots; top: the tier of the head; u: a tier; r: a row.
+#![tactic(auto)]
+
 ghost use Rattle.std.specs.Prelude.{ℕ, ◌+◌, ◌/◌, ◌<◌, ◌≤◌, ◌≡◌, true, List, eqb, get_or, length};
 ghost use Rattle.std.proofs.Math.Option.{none};
 ghost use Rattle.blocks.specs.Choice.{pick};

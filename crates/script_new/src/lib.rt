@@ -2,6 +2,8 @@
 //
 // path, chain: the numbers of the nodes over the index and over index 0, by tier; u, t: a tier; v: the tier of the slots
 // that hold the entry; beside: the old tree stays under a higher head; low: the lowest tier of the rows over index 0.
+#![tactic(auto)]
+
 ghost use Rattle.std.specs.Prelude.{ℕ, ◌+◌, ◌-◌, ◌/◌, ◌<◌, ◌≤◌, max, ◌≡◌, true, false, List, get_or, length};
 ghost use Rattle.std.proofs.Math.Option.{Option};
 ghost use Rattle.model.specs.declared.Entry.{Entry};

@@ -4,6 +4,8 @@
 //
 // pool: the borrowed words; rows: the rows; r: the number of a row; n: the number of a node; o, c: the first slot of a run
 // and how many; x: a mark; m: marks.
+#![tactic(auto)]
+
 ghost use Rattle.std.specs.Prelude.{ℕ, ◌+◌, ◌-◌, ◌/◌, ◌%◌, ◌<◌, ◌≤◌, List, length, ◌≡◌, Bool, true, false, not, eqb, get_or, set};
 ghost use Rattle.std.proofs.Math.Option.{Option};
 ghost use Rattle.blocks.specs.Blocks.{block};

@@ -1,4 +1,6 @@
 // A command that leaves the nodes: the rows of the path, the anchor and the numbers, a table of the words after it.
+#![tactic(auto)]
+
 ghost use Rattle.std.specs.Prelude.{ℕ, ◌+◌, ◌-◌, ◌/◌, ◌<◌, ◌≤◌, ◌≡◌, true, false, List, get_or, length};
 ghost use Rattle.std.proofs.Math.Option.{Option};
 ghost use Rattle.blocks.specs.Blocks.{block};

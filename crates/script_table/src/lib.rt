@@ -3,6 +3,8 @@
 //
 // pool: the borrowed words, n nodes; rows: the rows, laid out as the words of a pool, whose anchor is that after the command;
 // nums: the number of the node of each row, n or more where there is none; k: words of the script so far.
+#![tactic(auto)]
+
 ghost use Rattle.std.specs.Prelude.{ℕ, ◌+◌, ◌*◌, ◌-◌, ◌^◌, ◌<◌, ◌≤◌, ◌≡◌, List, eqb, get_or, length, set};
 ghost use Rattle.blocks.specs.Choice.{pick};
 ghost use Rattle.layout.specs.Words.{pool_words, last_place, max_nodes};

@@ -5,6 +5,8 @@
 //
 // pool: the borrowed words, n nodes; rows, nums: the rows and their numbers (crate script_table); base, order: the range; map: the nodes
 // inside it; m: the number of a node; k: words of the script so far.
+#![tactic(auto)]
+
 ghost use Rattle.std.specs.Prelude.{ℕ, ◌+◌, ◌*◌, ◌-◌, ◌^◌, ◌<◌, ◌≤◌, ◌≡◌, true, false, List, get_or, length};
 ghost use Rattle.model.specs.Model.{max_order};
 ghost use Rattle.tree.specs.Tree.{tier_order};

@@ -2,6 +2,8 @@
 //
 // pool: the borrowed words; n, m: numbers of nodes, or m the marks; v: the level of a node (its shift / 6); j: an offset of a slot.
 // A test's contract is `Decides r A`: true with A, false with the refutation of A.
+#![tactic(auto)]
+
 ghost use Rattle.std.specs.Prelude.{◌≡◌, ℕ, ◌+◌, ◌<◌, ◌≤◌};
 ghost use Rattle.blocks.specs.Blocks.{bit};
 ghost use Rattle.model.specs.Model.{mark_count};

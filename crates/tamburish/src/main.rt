@@ -1,5 +1,7 @@
 // The program: a pool of 40 nodes just initialised, one batch from standard input, its replies to standard output. A
 // refused call is one record of six bytes: tag 255, length 3, the answer, and the place in two bytes (R56).
+#![tactic(auto)]
+
 ghost use Rattle.std.specs.Prelude.{◌≤◌, ◌≡◌, length, take};
 ghost use Rattle.tamburish.specs.Program;
 ghost use Rattle.tamburish.specs.Program.{ran, refusal_size, refusal_over, input_bytes, output_bytes, written};

@@ -2,3 +2,4 @@
 //
 // tier: a block of tier u has 64^u indices; the node (u, b), of shift 6u - 6, covers block b of tier u, and its
 // slots are blocks of tier u - 1.
+#![tactic(auto)]

@@ -1,6 +1,8 @@
 // The check of a pool, and its init.
 //
 // pool: the borrowed words, 4 + 70 n of them for n nodes; map: words for the map of the free ones.
+#![tactic(auto)]
+
 ghost use Rattle.std.specs.Prelude.{◌≡◌};
 ghost use Rattle.freemap.specs.FreeMap.{BlankMap};
 ghost use Rattle.freenodes.specs.FreeNodes.{FreeMap};

@@ -1,6 +1,8 @@
 // Words and their bits; numbers as bytes, the highest byte first.
 //
 // s, out: borrowed words or bytes; at, a: a place in them; w, x: a word or a number; j, o: a bit of a word.
+#![tactic(auto)]
+
 ghost use Rattle.std.specs.Prelude.{◌≡◌, [], ◌+◌, ◌<◌, ◌≤◌, ◌^◌, length};
 ghost use Rattle.blocks.specs.Choice.{pick};
 ghost use Rattle.blocks.specs.Blocks.{NextBit};

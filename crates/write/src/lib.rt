@@ -6,6 +6,8 @@
 // the tier of the slots that hold the entry; h, top: the tier of the head before and after; path, chain: the numbers of
 // the nodes over the index and over index 0, by tier; a: a node; o, c: the first of its slots, and how many; f: a filled
 // count.
+#![tactic(auto)]
+
 ghost use Rattle.std.specs.Prelude.{ℕ, ◌+◌, ◌-◌, ◌/◌, ◌%◌, ◌<◌, ◌≤◌, ◌≡◌, ltb, get_or, length};
 ghost use Rattle.tree.specs.Tree.{slots, slot_bits, top_tier};
 ghost use Rattle.layout.specs.Words.{pool_words, last_place, filled_place, mark_place};

@@ -1,6 +1,8 @@
 // The plain engine: the entries in index order, in four slices, and zeros after them (R300 to R309).
 //
 // index, order, word, marks: the borrowed slices, of one length; n: how many entries they hold; i: an index.
+#![tactic(auto)]
+
 ghost use Rattle.std.specs.Prelude.{leb, ltb, ◌≡◌, ℕ, ◌+◌, ◌-◌, ◌^◌, ◌≤◌, ◌<◌, length, get_or, set, true, false};
 ghost use Rattle.blocks.specs.Choice.{pick, both};
 ghost use Rattle.blocks.specs.Blocks.{set_bit};

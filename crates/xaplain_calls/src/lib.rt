@@ -3,6 +3,8 @@
 //
 // index, order, word, marks: the borrowed slices; n: how many entries they hold; batch: the borrowed bytes of the commands;
 // reply: the borrowed bytes for their replies; at: a place in the batch; out: a place in the reply.
+#![tactic(auto)]
+
 ghost use Rattle.std.specs.Prelude.{◌≡◌, List, ◌+◌, ◌≤◌, length};
 ghost use Rattle.batch.specs.Batch.{rest_at, counted, parse};
 ghost use Rattle.batch.specs.Batch;

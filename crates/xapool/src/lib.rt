@@ -1,4 +1,6 @@
 // The exports of the library, a file for each family: an archive has those of one crate.
+#![tactic(auto)]
+
 mod gates;
 mod names;
 mod plain;
