@@ -1,0 +1,7 @@
+use Rattle.std.proofs.Common.{refl}
+use Rattle.words.specs.Bytes.{write_from}
+use Rattle.words.proofs.put8.Goals as goal
+
+pub returns : goal.returns
+unfolding write_from
+returns c = refl
