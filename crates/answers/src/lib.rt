@@ -46,7 +46,7 @@ pub const PART_ABOVE_TOTAL: u64 = 20;
 
 // What a call answers: the number of the answer, and the number that goes with it (R68 to R72).
 #[repr(C)]
-#[derive(Drop)]
+#[derive(Clone, Copy)]
 pub struct Result {
     pub answer: u64,
     pub number: u64,

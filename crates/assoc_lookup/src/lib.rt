@@ -19,7 +19,7 @@ use assoc_layout::{
 };
 
 // What one step of the way down comes to: the key is not there; its leaf; a block, and the tier of its upper end.
-#[derive(Drop)]
+#[derive(Clone, Copy)]
 pub enum Step {
     Nothing,
     Leaf(u64),
@@ -27,7 +27,7 @@ pub enum Step {
 }
 
 // What looking a key up finds.
-#[derive(Drop)]
+#[derive(Clone, Copy)]
 pub enum Looked {
     Absent,
     Present(u64),

@@ -21,7 +21,7 @@ const HEAD_BYTES: usize = 3;
 pub const REPLY_BYTES: usize = 24;
 
 // A command of a batch.
-#[derive(Drop)]
+#[derive(Clone, Copy)]
 pub enum Command {
     Store {
         index: u64,
@@ -54,13 +54,13 @@ pub enum Command {
 }
 
 // A position in a batch.
-#[derive(Drop)]
+#[derive(Clone, Copy)]
 pub struct Cursor {
     pub at: usize,
 }
 
 // What reading at a position finds: a command, with the position after its record; a bad record; the batch's end.
-#[derive(Drop)]
+#[derive(Clone, Copy)]
 pub enum Read {
     Next(Command, Cursor),
     Bad,
@@ -68,21 +68,21 @@ pub enum Read {
 }
 
 // A command, and the place after its record.
-#[derive(Drop)]
+#[derive(Clone, Copy)]
 pub struct Step {
     pub command: Command,
     pub at: usize,
 }
 
 // What a whole batch comes to: how many commands, or the place of its first bad record.
-#[derive(Drop)]
+#[derive(Clone, Copy)]
 pub enum Counted {
     Commands(u64),
     Refused(u64),
 }
 
 // The fields of a reply.
-#[derive(Drop)]
+#[derive(Clone, Copy)]
 pub struct Reply {
     pub tag: u64,
     pub answer: u64,

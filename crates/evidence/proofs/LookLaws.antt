@@ -239,6 +239,9 @@ pub found_exactly : (b s : List ℕ) (i : ℕ) → Whole b → Whole s →
 found_exactly b s i v w = (there (looked b s i), back (looked b s i))
   where
     there : {f : Found} → Looked b s i f → HasText f → Named b s i
+    there (bad_base {at = at} _) h = elim h [ ]
+    there (bad_supplement {at = at} _) h = elim h [ ]
+    there (nowhere _ _ _ _) h = elim h [ ]
     there (in_supplement _ _ c) h = by_supplement c.names
     there (in_base _ _ _ c) h = by_base c.names
 

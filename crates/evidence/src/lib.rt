@@ -19,7 +19,7 @@ const INDEX_BYTES: usize = 8;
 const TEXT_AT: usize = 11;
 
 // What a look-up in one sheet comes to.
-#[derive(Drop)]
+#[derive(Clone, Copy)]
 pub enum Sought {
     Nothing,
     Text { place: usize, size: usize },
@@ -27,7 +27,7 @@ pub enum Sought {
 }
 
 // What a look-up in both comes to.
-#[derive(Drop)]
+#[derive(Clone, Copy)]
 pub enum Found {
     Nowhere,
     InBase { place: usize, size: usize },

@@ -40,7 +40,7 @@ const ANY_MARK: u64 = 3;
 const MATCHED: u64 = 2;
 
 // What a command asks of a store, if it is one or a reservation.
-#[derive(Drop)]
+#[derive(Clone, Copy)]
 struct Put {
     is: bool,
     index: u64,

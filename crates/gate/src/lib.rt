@@ -9,7 +9,7 @@ ghost use Rattle.gate.specs.Gate.{share, bad_limit, bad_limits, holds, judge, re
 use answers::{BAD_GATE, DONE, NO_TOTAL, PART_ABOVE_TOTAL, Result};
 
 // Each kind has its own limits, and no other is looked at.
-#[derive(Drop)]
+#[derive(Clone, Copy)]
 pub enum Gate {
     MatchedAtLeast(f64),
     UnreadAtMost(f64),
@@ -17,7 +17,7 @@ pub enum Gate {
 }
 
 // A fail is first: it is what memory of zeros reads as.
-#[derive(Drop)]
+#[derive(Clone, Copy)]
 pub enum Verdict {
     Fail,
     Pass,

@@ -60,7 +60,7 @@ const NODE_OFFSET: u64 = 1024;
 const NODES_FROM: u64 = 4 * NODE_OFFSET;
 
 // What the word of a slot says: nothing; a reservation; an entry's word; a sibling of the slot at an offset; the node with a number.
-#[derive(Drop)]
+#[derive(Clone, Copy)]
 pub enum Slot {
     Empty,
     Reserved,

@@ -26,7 +26,7 @@ const LENGTH: u64 = 18;
 const ENTRY_BYTES: u64 = 21;
 
 // The indices asked for, and how many of their entries may be written.
-#[derive(Drop)]
+#[derive(Clone, Copy)]
 pub struct Wanted {
     pub first: u64,
     pub last: u64,
@@ -34,7 +34,7 @@ pub struct Wanted {
 }
 
 // What a listing comes to, with the number of its entries: they do not fit, and nothing was written; all are written.
-#[derive(Drop)]
+#[derive(Clone, Copy)]
 pub enum Listed {
     Short(u64),
     Done(u64),

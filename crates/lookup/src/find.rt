@@ -24,21 +24,21 @@ use words::pow2;
 const ANY_MARK: u64 = 3;
 
 // The way down stops, or goes on into a node.
-#[derive(Drop)]
+#[derive(Clone, Copy)]
 pub enum Down {
     Here,
     Into(u64),
 }
 
 // Where the way down stopped: a node, and the tier of its slots.
-#[derive(Drop)]
+#[derive(Clone, Copy)]
 pub struct Stop {
     pub node: u64,
     pub tier: u64,
 }
 
 // Slots of a node that find passes at once: the slot after them, and the steps that they count; 0 steps: none are.
-#[derive(Drop)]
+#[derive(Clone, Copy)]
 pub struct Passed {
     pub to: u64,
     pub steps: u64,

@@ -10,7 +10,7 @@ ghost use Rattle.model.specs.Model.{reserved, shown};
 pub const RESERVED: u64 = 1030;
 
 // An entry of the list, of a load and of a find; or a reservation.
-#[derive(Drop)]
+#[derive(Clone, Copy)]
 pub struct Entry {
     pub base: u64,
     pub order: u64,
@@ -19,7 +19,7 @@ pub struct Entry {
 }
 
 // What covers an index, as the changing commands hand it back.
-#[derive(Drop)]
+#[derive(Clone, Copy)]
 pub enum Covered {
     Nothing,
     By(Entry),

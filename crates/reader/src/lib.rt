@@ -9,7 +9,7 @@ ghost use Rattle.batch.specs.Batch.{read_at, counted, parse};
 
 use batch::{Counted, Cursor, Read};
 
-#[derive(Drop)]
+#[derive(Clone, Copy)]
 pub struct Reader<'a> {
     pub batch: &'a [u8],
     pub at: usize,

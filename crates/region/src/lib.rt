@@ -5,7 +5,7 @@ ghost use Rattle.std.specs.Prelude.{◌≡◌, length};
 ghost use Rattle.blocks.specs.Lists.{equal};
 ghost use Rattle.region.specs.Region.{any_empty, compare, number, compared};
 
-#[derive(Drop)]
+#[derive(Clone, Copy)]
 pub enum Matching {
     Nothing,
     Matched,
@@ -13,7 +13,7 @@ pub enum Matching {
 }
 
 // A comparison, and the digest of each region.
-#[derive(Drop)]
+#[derive(Clone, Copy)]
 pub struct Compared {
     pub verdict: Matching,
     pub old_crc: u32,

@@ -137,7 +137,7 @@ pub fn finish_row(rows: &mut [u64], r: u64, shift: u64, owner: u64)
 // THE ROWS OF THE PATH: row u is that of the path's node of tier u
 
 // What becomes of an aligned range: it gets an entry's word and marks, or nothing, if the word is 0.
-#[derive(Drop)]
+#[derive(Clone, Copy)]
 pub struct Range {
     pub base: u64,
     pub order: u64,

@@ -27,7 +27,7 @@ use plan::{Heads, Target, at_least_1};
 use words::pow2;
 
 // The slots that an entry takes: its node, the first of them, how many they are, and their tier.
-#[derive(Drop)]
+#[derive(Clone, Copy)]
 pub struct Seat {
     pub node: u64,
     pub slot: u64,

@@ -40,14 +40,14 @@ const MAX_ORDER: u64 = 63;
 const MATCHED_BIT: u64 = 4;
 
 // What a command comes to: its reply, and the number of entries after it.
-#[derive(Drop)]
+#[derive(Clone, Copy)]
 pub struct Turned {
     pub reply: Reply,
     pub count: usize,
 }
 
 // What a store comes to: too little room; or what covers its index then, and the number of entries.
-#[derive(Drop)]
+#[derive(Clone, Copy)]
 enum Stored {
     Short,
     Done(Covered, usize),
@@ -684,7 +684,7 @@ const MARKS: u64 = 3;
 const ANY_MARK: u64 = 3;
 
 // What a find asks.
-#[derive(Drop)]
+#[derive(Clone, Copy)]
 pub struct Sought {
     pub first: u64,
     pub last: u64,

@@ -5,7 +5,7 @@ ghost use Rattle.xapool.specs.Regions.{compare_result};
 
 // What a comparison gives: its number, and the digest of each region (R168, R169).
 #[repr(C)]
-#[derive(Drop)]
+#[derive(Clone, Copy)]
 pub struct Comparison {
     pub verdict: u64,
     pub old_crc: u64,

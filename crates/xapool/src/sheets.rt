@@ -8,7 +8,7 @@ use evidence::Found;
 
 // Where a text stands: the sheet (0 base, 1 supplement), its place there and its length; all 0 with answers 3 and 10.
 #[repr(C)]
-#[derive(Drop)]
+#[derive(Clone, Copy)]
 pub struct Part {
     pub answer: u64,
     pub sheet: u64,
