@@ -60,7 +60,7 @@ chain_bases a c [] p = tt
 chain_bases a c (x ∷ xs) p = (
   p.0,
   all_map {A = Entry} (λ e. x.base + 2 ^ x.order ≤ e.base) (λ e. a ≤ e.base)
-      (λ e q. omega (arith, p.0)) xs (chain_bases _ c xs p.2),
+      (λ e q. omega (arith, p.0)) xs (chain_bases (x.base + 2 ^ x.order) c xs p.2),
 )
 
 pub all_keep : (p : Entry → Bool) (Q : Entry → Type 0) (xs : List Entry) → Every Q xs →
@@ -73,7 +73,7 @@ pub keep_chain : (p : Entry → Bool) (a c : ℕ) (xs : List Entry) → Chain a 
 keep_chain p a c [] h = h
 keep_chain p a c (x ∷ xs) h =
     by_t (p x)
-    (λ e. rw e (h.0, h.1, keep_chain p _ c xs h.2))
+    (λ e. rw e (h.0, h.1, keep_chain p (x.base + 2 ^ x.order) c xs h.2))
     (λ e. rw e (chain_lower a (x.base + 2 ^ x.order) c (keep p xs) (omega (arith, h.0))
     (keep_chain p _ c xs h.2)))
 
@@ -121,7 +121,7 @@ module _ (v c : ℕ) where
       (λ y z. (eqb-true (y.base / wide v) c z.0, z.1.0, z.1.1)) (part (wide v) c xs)
       (all_keep (in_block (wide v) c) _ xs (all_with {A = Entry} (λ y. x.base + 2 ^ x.order ≤ y.base) EntryGood _
       (λ y p q. (p, q)) xs (chain_bases _ hi xs h.2) (chain_oks _ hi xs h.2))))
-      (shape _ hi xs h.2)))
+      (shape (x.base + 2 ^ x.order) hi xs h.2)))
       (λ t. rw t (shape _ hi xs h.2))
 
 -- ---- the slots of a block, one after another
@@ -177,7 +177,7 @@ part_slots v b lo hi (x ∷ xs) h =
     let d : x.base / wide v / slots ≡ b = sym (up x.base v) ∙ eqb-true (x.base / wide (suc v)) b t in
     let o : ℕ = x.base / wide v % slots in
     let e : x.base / wide v ≡ slots * b + o = omega arith in
-    rw (t, part_slots v b _ hi xs h.2)
+    rw (t, part_slots v b (x.base + 2 ^ x.order) hi xs h.2)
     (sym (span_cons x (λ j. part (wide v) (slots * b + j) (x ∷ xs)) (λ j. part (wide v) (slots * b + j) xs) o 0 slots
     (omega arith) (omega arith)
     (λ i p q.
@@ -198,6 +198,7 @@ abbrev pub Mem : Entry → List Entry → Type 0
 Mem x xs = Some (λ e. e ≡ x) xs
 
 pub all_mem : (Q : Entry → Type 0) (x : Entry) (xs : List Entry) → Every Q xs → Mem x xs → Q x
+all_mem Q x [] a x3 = elim x3 [ ]
 all_mem Q x (y ∷ ys) a (inl e) = subst Q e a.0
 all_mem Q x (y ∷ ys) a (inr m) = all_mem Q x ys a.1 m
 
@@ -225,6 +226,7 @@ first_mem p (y ∷ ys) x e =
 -- two entries of a list that cover one index are one
 pub first_at : (i a c : ℕ) (xs : List Entry) (x : Entry) → Chain a xs c → Mem x xs → covers i x ≡ true →
     first (covers i) xs ≡ some x
+first_at i a c [] x h x5 q = elim x5 [ ]
 first_at i a c (y ∷ ys) x h (inl e) q = subst (λ (z : Entry). first (covers i) (z ∷ ys) ≡ some x) (sym e) (rw q)
 first_at i a c (y ∷ ys) x h (inr m) q =
     by_t (covers i y)
@@ -232,4 +234,4 @@ first_at i a c (y ∷ ys) x h (inr m) q =
     let lo = all_mem _ x ys (chain_bases (y.base + 2 ^ y.order) c ys h.2) m in
     let ok = all_mem _ x ys (chain_oks (y.base + 2 ^ y.order) c ys h.2) m in
     absurd (omega (arith, lo, (covers_in i y h.1 t).1, (covers_in i x ok q).0)))
-    (λ t. rw t (first_at i _ c ys x h.2 m q))
+    (λ t. rw t (first_at i (y.base + 2 ^ y.order) c ys x h.2 m q))

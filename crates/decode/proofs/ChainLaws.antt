@@ -44,7 +44,7 @@ chain_lower a b c (x ∷ xs) h p = (omega arith, p.1, p.2)
 
 pub chain_append : (a b c : ℕ) (xs ys : List Entry) → Chain a xs b → Chain b ys c → Chain a (xs ++ ys) c
 chain_append a b c [] ys p q = chain_lower a b c ys p q
-chain_append a b c (x ∷ xs) ys p q = (p.0, p.1, chain_append _ b c xs ys p.2 q)
+chain_append a b c (x ∷ xs) ys p q = (p.0, p.1, chain_append (x.base + 2 ^ x.order) b c xs ys p.2 q)
 
 pub held_word : (e : Entry) → slot_of e.word ≡ Held → T (is_word_ok e)
 held_word e k = let q = word_of_lem e.word Held k in rw (ne_eqb _ _ q.0, ne_eqb _ _ q.1) tt

@@ -1,5 +1,5 @@
 -- The tests of `Decide` hold exactly where what they test does.
-use Prim.Native.Nat.{ℕ, ◌*◌, ◌^◌}
+use Prim.Native.Nat.{ℕ, ◌+◌, ◌*◌, ◌^◌}
 use mathlib.Core.Path.{◌≡◌, refl, sym, ap, subst, ◌∙◌}
 use mathlib.Core.Bool.{true}
 use mathlib.Core.List.{List, [], ◌∷◌}
@@ -77,7 +77,7 @@ is_sorted_lem n [] t = done
 is_sorted_lem n (e ∷ l) t =
     let u = both_r (leb n e.base) _ t in
     more (leb-true _ _ (both_l (leb n e.base) _ t)) (is_entry_lem e (both_l (is_entry e) _ u))
-    (is_sorted_lem _ l (both_r (is_entry e) _ u))
+    (is_sorted_lem (e.base + (2 ^ e.order)) l (both_r (is_entry e) _ u))
 
 -- THE PLACES
 pub placed_is : {n : ℕ} (l : List Entry) {os : Places} → Placed n l os → is_placed n l os ≡ true

@@ -24,15 +24,15 @@ wide_mono h t p = rw (← wide_pow h, ← wide_pow t) (pow_mono (omega arith))
 
 pub chain_le : (a c : ℕ) (xs : List Entry) → Chain a xs c → a ≤ c
 chain_le a c [] p = p
-chain_le a c (x ∷ xs) p = omega (arith, p.0, chain_le _ c xs p.2)
+chain_le a c (x ∷ xs) p = omega (arith, p.0, chain_le (x.base + 2 ^ x.order) c xs p.2)
 
 pub chain_ends : (a c : ℕ) (xs : List Entry) → Chain a xs c → Every (λ e. e.base + 2 ^ e.order ≤ c) xs
 chain_ends a c [] p = tt
-chain_ends a c (x ∷ xs) p = (chain_le _ c xs p.2, chain_ends _ c xs p.2)
+chain_ends a c (x ∷ xs) p = (chain_le _ c xs p.2, chain_ends (x.base + 2 ^ x.order) c xs p.2)
 
 pub chain_oks : (a c : ℕ) (xs : List Entry) → Chain a xs c → Every EntryGood xs
 chain_oks a c [] p = tt
-chain_oks a c (x ∷ xs) p = (p.1, chain_oks _ c xs p.2)
+chain_oks a c (x ∷ xs) p = (p.1, chain_oks (x.base + 2 ^ x.order) c xs p.2)
 
 -- an entry that does not fit under a head of tier t
 abbrev pub Big : ℕ → Entry → Type 0
@@ -63,6 +63,7 @@ height_upper h [] a = omega arith
 height_upper h (x ∷ xs) a = omega (arith, fits_tall h x a.0, height_upper h xs a.1)
 
 height_lower : (t : ℕ) (l : List Entry) → Every Low l → Some (Big t) l → suc t ≤ height l
+height_lower t [] a x'' = elim x'' [ ]
 height_lower t (x ∷ xs) a (inl b) =
     by_t (leb (suc t) (tall x)) (λ e. omega (arith, leb-true (suc t) (tall x) e))
     (λ e. absurd (big_fits t x b (tall_fits t x a.0 (omega (arith, leb-false (suc t) (tall x) e)))))
@@ -82,4 +83,4 @@ chain_low l c =
 
 pub chain_raise : (a b c : ℕ) (xs : List Entry) → b ≤ c → Chain a xs b → Chain a xs c
 chain_raise a b c [] h p = omega arith
-chain_raise a b c (x ∷ xs) h p = (p.0, p.1, chain_raise _ b c xs h p.2)
+chain_raise a b c (x ∷ xs) h p = (p.0, p.1, chain_raise (x.base + 2 ^ x.order) b c xs h p.2)

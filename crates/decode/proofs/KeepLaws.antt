@@ -72,6 +72,7 @@ Some P (x ∷ xs) = P x ⊎ Some P xs
 
 module _ {A : Type 0} where
   pub some_left : (P : A → Type 0) (xs ys : List A) → Some P xs → Some P (xs ++ ys)
+  some_left P [] ys x' = elim x' [ ]
   some_left P (x ∷ xs) ys (inl p) = inl p
   some_left P (x ∷ xs) ys (inr p) = inr (some_left P xs ys p)
 
@@ -81,22 +82,27 @@ module _ {A : Type 0} where
 
   pub some_with : (P Q R : A → Type 0) → ((x : A) → P x → Q x → R x) → (xs : List A) → Every P xs → Some Q xs →
       Some R xs
+  some_with P Q R f [] a x'' = elim x'' [ ]
   some_with P Q R f (x ∷ xs) a (inl q) = inl (f x a.0 q)
   some_with P Q R f (x ∷ xs) a (inr q) = inr (some_with P Q R f xs a.1 q)
 
   pub some_map : (Q R : A → Type 0) → ((x : A) → Q x → R x) → (xs : List A) → Some Q xs → Some R xs
+  some_map Q R f [] x' = elim x' [ ]
   some_map Q R f (x ∷ xs) (inl q) = inl (f x q)
   some_map Q R f (x ∷ xs) (inr q) = inr (some_map Q R f xs q)
 
   pub some_no : (P : A → Type 0) → ((x : A) → P x → ⊥) → (xs : List A) → Some P xs → ⊥
+  some_no P f [] x' = elim x' [ ]
   some_no P f (x ∷ xs) (inl q) = f x q
   some_no P f (x ∷ xs) (inr q) = some_no P f xs q
 
   pub some_get : (C : Type 0) (xs : List A) → Some (λ x. C) xs → C
+  some_get C [] x' = elim x' [ ]
   some_get C (x ∷ xs) (inl q) = q
   some_get C (x ∷ xs) (inr q) = some_get C xs q
 
   pub some_any : (p : A → Bool) (xs : List A) → Some (λ x. p x ≡ true) xs → any p xs ≡ true
+  some_any p [] x' = elim x' [ ]
   some_any p (x ∷ xs) (inl q) = rw q
   some_any p (x ∷ xs) (inr q) = by_t (p x) (λ e. rw e) (λ e. rw e (some_any p xs q))
 
@@ -106,11 +112,13 @@ module _ {A : Type 0} where
 
   pub some_keep : (p : A → Bool) (Q : A → Type 0) (xs : List A) → Some (λ x. (p x ≡ true) × Q x) xs →
       Some Q (keep p xs)
+  some_keep p Q [] x' = elim x' [ ]
   some_keep p Q (x ∷ xs) (inl q) = rw q.0 (inl q.1)
   some_keep p Q (x ∷ xs) (inr q) = by_t (p x) (λ e. rw e (inr (some_keep p Q xs q))) (λ e. rw e (some_keep p Q xs q))
 
   pub keep_some : (p : A → Bool) (Q : A → Type 0) (xs : List A) → Some Q (keep p xs) →
       Some (λ x. (p x ≡ true) × Q x) xs
+  keep_some p Q [] q = elim q [ ]
   keep_some p Q (x ∷ xs) q =
       by_t (p x)
       (λ e. ⊎_elim (λ z. inl (e, z)) (λ z. inr (keep_some p Q xs z)) (un_or (rw e at q)))

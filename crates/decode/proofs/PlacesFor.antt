@@ -186,9 +186,9 @@ module _ (ws : List ℕ) (l : List Entry) (ν : Numbering) (R : Prescribes (pool
       let m : ℕ = ν v b in
       let I : NodeIs (pool_of ws) l ν m v b = R.nodes v b (has_of v b t) in
       let inside : any (within (tier_order (suc v)) b) l ≡ true = has_within l (suc v) b t in
-      all_words ws m l (raise ν) (height l) v b I.Shift-is
+      all_words ws m l (raise ν) (height l) v b I.shift_is
       (I.owner_is ∙ level_owner_lem valid (raise ν) v b)
-      I.Filled-is
+      I.filled_is
       (λ μ h. I.marks_are μ h ∙ marks_same l ν μ v b)
       (λ j h. let q : (slots * b + j) / slots ≡ b = omega arith in
       I.slots_are j h ∙ slot_same valid (raise ν) v (slots * b + j) (rw q inside))

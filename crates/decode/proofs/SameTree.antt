@@ -92,7 +92,7 @@ to_chain v = chain_from v (lit≤ tt)
 pub to_sorted : (n : ℕ) (l : List Entry) → Chain n l (2 ^ 64) → Sorted n l
 to_sorted n [] p = done
 to_sorted n (e ∷ l) p = more p.0 (ok_from p.1 (omega (arith, chain_le _ _ l p.2, pow_pos e.order)))
-    (to_sorted _ l p.2)
+    (to_sorted (e.base + 2 ^ e.order) l p.2)
 
 -- NODES
 both_comm : (a b : Bool) → both a b ≡ both b a
@@ -139,6 +139,7 @@ first_keep p q (also {x} h a) =
     by_t (q x) (λ t. rw (t, first_keep p q a)) (λ t. rw (t, is_false (λ s. clash (h s) t), first_keep p q a))
 
 mem_in : (x : Entry) (l : List Entry) → Mem x l → In x l
+mem_in x [] x'' = elim x'' [ ]
 mem_in x (y ∷ l) (inl e) = subst (λ (z : Entry). In z (y ∷ l)) e here
 mem_in x (y ∷ l) (inr m) = there (mem_in x l m)
 

@@ -30,6 +30,7 @@ module _ {A : Type 0} (p : A → Bool) where
   keep_all (also {x} t a) = rw t (ap (λ (y : List A). x ∷ y) (keep_all a))
 
   pub keep_in : (l : List A) {x : A} → In x (keep p l) → In x l × (p x ≡ true)
+  keep_in [] {x = x} m = elim m [ ]
   keep_in (y ∷ l) {x} m =
       by_t (p y)
       (λ t. ⊎_elim (λ e. subst (λ (z : A). In z (y ∷ l) × (p z ≡ true)) (sym e) (here, t))
@@ -52,12 +53,14 @@ sorted_keep p (more {e} h ok s) =
 
 -- each entry of a sorted list lies at or above where it starts
 pub sorted_above : {n : ℕ} {l : List Entry} {x : Entry} → Sorted n l → In x l → n ≤ x.base
+sorted_above (done {n = n}) x8 = elim x8 [ ]
 sorted_above (more h ok s) here = h
 sorted_above (more {e} h ok s) (there m) = omega (arith, sorted_above s m, pow_pos e.order)
 
 -- one entry alone passes a test
 pub keep_one : (p : Entry → Bool) {n : ℕ} {l : List Entry} {e : Entry} → Sorted n l → In e l → p e ≡ true →
     ((x : Entry) → In x l → p x ≡ true → x ≡ e) → keep p l ≡ e ∷ []
+keep_one p {e = e} (done {n = n}) x10 t only = elim x10 [ ]
 keep_one p (more {e} {l} h ok s) here t only =
     rw t (ap (λ (y : List Entry). e ∷ y) (keep_none p (each l (λ x m. by_t (p x)
     (λ q. let same : x ≡ e = only x (there m) q in

@@ -205,6 +205,7 @@ module _ (P : Pool) (L : Local P) where
 
     slot_low : (v c : ℕ) (xs : List Entry) → Every (λ e. e.order < tier_order v) xs → Some (λ e. Unit {0}) xs →
         part_word l ν v c xs ≡ node_word (ν (v - 1) c)
+    slot_low v c [] p q = elim q [ ]
     slot_low v c (x ∷ xs) p q = rw (lt-leb (tier_order v) x.order p.0)
 
     child_num : (n v b j m : ℕ) → At P h H.top n v b → j < slots → slot_at P n j ≡ Child m → ChildOk P n v j m →

@@ -101,6 +101,7 @@ low_end v e ok h =
     (λ t. absurd (let k : B * A * K ≤ q * K = mul-le-mul_right K (ltb-false q (B * A) t) in omega arith))
 
 shape_one : (v : ℕ) (y : Entry) (xs : List Entry) → Shape v xs → Mem y xs → tier_order v ≤ y.order → xs ≡ y ∷ []
+shape_one v y _ Rattle.decode.proofs.BlockShape.empty m g = elim m [ ]
 shape_one v y _ (one x h) (inl e) g = ap (λ (z : Entry). z ∷ []) e
 shape_one v y _ (one x h) (inr m) g = absurd m
 shape_one v y _ (low x xs p q) m g = absurd (let z = all_mem (λ e. e.order < tier_order v) y (x ∷ xs) (p, q) m in
@@ -284,6 +285,7 @@ module _ (P : Pool) (l : List Entry) (ν : Numbering) (R : Prescribes P l ν) wh
       m))
 
   pub some_mem : (Q : Entry → Type 0) (xs : List Entry) → Some Q xs → (x : Entry) × Mem x xs × Q x
+  some_mem Q [] x' = elim x' [ ]
   some_mem Q (x ∷ xs) (inl q) = (x, inl refl, q)
   some_mem Q (x ∷ xs) (inr q) = let r = some_mem Q xs q in (r.0, inr r.1, r.2)
 

@@ -79,7 +79,7 @@ over_is : (l : List Entry) (i w : ℕ) → eqb w reserved_word ≡ false →
 over_is [] i w n = refl
 over_is (x ∷ l) i w n = ap₂ ◌∷◌ (over_one i w x n) (over_is l i w n)
 
-remark_off : {l : List Entry} (i m : ℕ) (b : Bool) → All (λ x. covers i x ≡ true → ⊥) l → remark l i m b ≡ l
+remark_off : (i m : ℕ) (b : Bool) {l : List Entry} → All (λ x. covers i x ≡ true → ⊥) l → remark l i m b ≡ l
 remark_off i m b end = refl
 remark_off i m b (also {x} {l} f a) = rw (is_false f, remark_off i m b a)
 
