@@ -19,5 +19,5 @@ returns c =
     let s = c in
     let k = s.args.level - 1 in
     let e : k + 2 ≡ s.args.level + 1 = omega arith in
-    further_at s.args.t.now s.args.f.now s.requires.table s.requires.further.0 k (s.args.x % 256) (omega arith) (mod-lt s.args.x (lit< tt))
+    further_at s.args.t.now s.args.f.now s.requires.table s.requires.further k (s.args.x % 256) (omega arith) (mod-lt s.args.x (lit< tt))
     ∙ ap (λ (n : ℕ). after n (s.args.x % 256)) e

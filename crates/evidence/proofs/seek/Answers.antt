@@ -20,7 +20,7 @@ returns-then-size-eq0 c =
 
 pub named_at-text-requires-clause-at_value : goal.named_at-text-requires-clause-at_value
 named_at-text-requires-clause-at_value c =
-    (has_size _ _ c.size_at-size.ensures c.if-size-eq0.false, c.size_at-size.ensures)
+    has_size _ _ c.size_at-size.ensures c.if-size-eq0.false
 
 pub overflow_add-at : goal.overflow_add-at
 overflow_add-at c =
