@@ -5,7 +5,7 @@ use Rattle.batch.proofs.BatchLaws.{read_end, read_bad, read_next}
 use Rattle.batch.proofs.ParseLaws.{Onward, next_after, count_end, count_bad, count_next}
 use Rattle.batch.proofs.count_records.Goals as goal
 
-onward : (c : goal.Else-next-eq0 invariant-loop decreases-loop) → Onward c.args.batch.now
+onward : (c : goal.Else-next-eq0) → Onward c.args.batch.now
     c.loop-at.at c.skip_at-next.result
 onward c = next_after _ _ (sym (read_next _ _ c.loop-at-test.true _ c.skip_at-next.ensures
     c.if-next-eq0.false refl))

@@ -10,14 +10,16 @@ overflow_add-result c =
     let h = supplement_inside _ _ _ _ _ (sym c.look-f.ensures ∙ c.in-InSupplement.is) in omega (arith, h)
 
 pub slice_bounds-result-end : goal.slice_bounds-result-end
-slice_bounds-result-end c = ?
+slice_bounds-result-end c =
+    let h = supplement_inside _ _ _ _ _ (sym c.look-f.ensures ∙ c.in-InSupplement.is) in omega (arith, h)
 
 pub overflow_add-result-in-InBase : goal.overflow_add-result-in-InBase
 overflow_add-result-in-InBase c =
     let h = base_inside _ _ _ _ _ (sym c.look-f.ensures ∙ c.in-InBase.is) in omega (arith, h)
 
 pub slice_bounds-result-end-in-InBase : goal.slice_bounds-result-end-in-InBase
-slice_bounds-result-end-in-InBase c = ?
+slice_bounds-result-end-in-InBase c =
+    let h = base_inside _ _ _ _ _ (sym c.look-f.ensures ∙ c.in-InBase.is) in omega (arith, h)
 
 pub returns-in-InSupplement : goal.returns-in-InSupplement
 returns-in-InSupplement c =

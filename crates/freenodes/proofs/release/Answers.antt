@@ -6,5 +6,5 @@ pub returns-clause-follows : goal.returns-clause-follows
 returns-clause-follows c =
     let r = c in let g = r in let t = g in
     let z = t in
-    follows_cleared z.args.n t.Shift-of.result z.requires.n_in_bounds t.Shift-of.ensures r.clear_node.ensures
+    follows_cleared z.args.n t.shift_of.result z.requires.n_in_bounds t.shift_of.ensures r.clear_node.ensures
           g.give_used.ensures
