@@ -60,6 +60,7 @@ nth_end (z ∷ zs) zero h = absurd (omega arith)
 nth_end (z ∷ zs) (suc j) h = nth_end zs j (omega arith)
 
 in_nth : (zs : List Item) {y : Item} → In y zs → (j : ℕ) × (nth zs j ≡ some y)
+in_nth [] {y = y} x' = elim x' [ ]
 in_nth (z ∷ zs) here = (0, refl)
 in_nth (z ∷ zs) (there i) = let (j, e) = in_nth zs i in (suc j, e)
 

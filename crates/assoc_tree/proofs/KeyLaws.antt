@@ -22,10 +22,12 @@ pub block_zero : (x : ℕ) → block_of 0 x ≡ x
 block_zero x = div-one x
 
 pub sorted_in : {n : ℕ} {l : List Item} {x : Item} → Sorted n l → In x l → (n ≤ x.key) × (is_item x ≡ true)
+sorted_in (done {n = n}) x8 = elim x8 [ ]
 sorted_in (more h t s) here = (h, t)
 sorted_in (more h t s) (there m) = let (a, b) = sorted_in s m in (omega arith, b)
 
 pub unique : {n : ℕ} {l : List Item} {x y : Item} → Sorted n l → In x l → In y l → x.key ≡ y.key → x ≡ y
+unique {y = y} (done {n = n}) x14 _ e = elim x14 [ ]
 unique (more h t s) here here e = refl
 unique (more h t s) here (there k) e = let (a, b) = sorted_in s k in absurd (omega arith)
 unique (more h t s) (there m) here e = let (a, b) = sorted_in s m in absurd (omega arith)

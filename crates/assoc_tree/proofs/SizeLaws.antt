@@ -28,6 +28,7 @@ module _ {A : Type 0} (p q : A → Bool) where
   -- as many pass the one as the other: the same do
   pub keep_all : (l : List A) → ((x : A) → q x ≡ true → p x ≡ true) → length (keep q l) ≡ length (keep p l) →
       {x : A} → In x l → p x ≡ true → q x ≡ true
+  keep_all [] f e x6 t = elim x6 [ ]
   keep_all (x ∷ l) f e here t = by_t (q x) (λ d. d)
       (λ d. let h : length (keep q l) ≤ length (keep p l) = keep_le l f in
       let e' : length (keep q l) ≡ suc (length (keep p l)) = (rw (d, t) at e) in absurd (omega arith))

@@ -26,6 +26,7 @@ in_keep p here t = rw t here
 in_keep p (there {y = y} m) t = by_t (p y) (λ e. rw e (there (in_keep p m t))) (λ e. rw e (in_keep p m t))
 
 pub keep_in : {A : Type 0} (p : A → Bool) (l : List A) {x : A} → In x (keep p l) → In x l × (p x ≡ true)
+keep_in {A = A} p [] {x = x} m = elim m [ ]
 keep_in p (y ∷ l) {x} m =
     by_t (p y) (λ e. go e (in_cons (rw e at m)) (λ k. keep_in p l k))
     (λ e. let (a, b) = keep_in p l (rw e at m) in (there a, b))
@@ -108,6 +109,7 @@ size_pos {l} {x} v m = go l m
     p = over v (block_of v x.key)
 
     go : (t : List Item) → In x t → 1 ≤ length (keep (over v (block_of v x.key)) t)
+    go [] x'' = elim x'' [ ]
     go (y ∷ t) here = rw (in_own v x) (omega arith)
     go (y ∷ t) (there i) = elim (over v (block_of v x.key) y) as
         (λ (b : Bool). 1 ≤ length (pick b (y ∷ keep (over v (block_of v x.key)) t) (keep (over v (block_of v x.key)) t)))

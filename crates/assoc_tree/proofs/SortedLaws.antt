@@ -45,6 +45,7 @@ insert_in e (y ∷ l) =
     (λ c. by_t (eqb e.key y.key) (λ d. rw (c, d) here) (λ d. rw (c, d) (there (insert_in e l))))
 
 pub insert_stays : (e : Item) (l : List Item) {x : Item} → In x l → (x.key ≡ e.key → ⊥) → In x (insert e l)
+insert_stays e [] {x = x} m n = elim m [ ]
 insert_stays e (y ∷ l) {x} m n =
     by_t (ltb e.key y.key) (λ c. rw c (there m))
     (λ c. by_t (eqb e.key y.key)

@@ -148,7 +148,7 @@ after_each {n} {l} {ws} lo hi s bs rs b cs ds e room =
     (p, q, rw (q, le-ltb (length rs) (reply_bytes * length cs) h) at r)
 
 -- R102
-pub demand_3 : {n : ℕ} {l : List Entry} {ws : List ℕ} → 1 ≤ n → n ≤ max_nodes → Stands n l ws → {cs : List Call} →
+pub demand_3 : {n : ℕ} {cs : List Call} {l : List Entry} {ws : List ℕ} → 1 ≤ n → n ≤ max_nodes → Stands n l ws →
     All Bytewise cs → Stands n (list_after_all n l cs) (words_after_all ws cs)
 demand_3 lo hi s end = s
 demand_3 lo hi s (also {x = c} b bs) = demand_3 lo hi (call_stands lo hi s.prescribed c b) bs

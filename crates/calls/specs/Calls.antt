@@ -20,7 +20,7 @@ use Rattle.answers.specs.Answers.{result_of, done, bad_batch, reply_space, first
 
 -- what a call leaves: its result, the pool's words and the reply's bytes
 pub record Called : Type 0 where
-  pub result_of : Result
+  pub result : Result
   pub words : List ℕ
   pub reply : List ℕ
 
@@ -74,7 +74,7 @@ run ws bs rs =
 -- LIST
 -- what a listing leaves: its result and the buffer's bytes; it writes nothing in the pool (R147)
 pub record Listing : Type 0 where
-  pub result_of : Result
+  pub result : Result
   pub buffer : List ℕ
 
 abbrev pub refuse_list : List ℕ → ℕ → ℕ → Listing

@@ -148,7 +148,7 @@ next_kept {n} {s} c f k =
           (omega (arith, h.enough, free_places n s.list s.places k.placed));
     }
 
-pub states_kept : {n : ℕ} {s : State} {cs : List Command} → All Fits cs → Kept n s → Kept n (states n s cs)
+pub states_kept : {n : ℕ} {cs : List Command} {s : State} → All Fits cs → Kept n s → Kept n (states n s cs)
 states_kept end k = k
 states_kept (also {x = c} f a) k = states_kept a (next_kept c f k)
 

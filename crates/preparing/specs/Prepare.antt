@@ -20,7 +20,7 @@ use Rattle.script.specs.Script.{script}
 
 -- what preparing leaves: its answer with the number, and the slice
 pub record Yield : Type 0 where
-  pub result_of : Result
+  pub result : Result
   pub slice : List ℕ
 
 -- R333: a refusal leaves the slice, and its number is 0

@@ -168,16 +168,16 @@ module _ {n : ℕ} {l : List Entry} {ws : List ℕ} (st : Starts n l ws) (p z f 
         }
 
 -- THE WALK
-follows : {n f z : ℕ} {l : List Entry} {ws : List ℕ} {p : ℕ} {gs : List Leg} {rs : List Reply} → Starts n l ws → f ≤ any_mark → p ≤ z →
+follows : {n f z : ℕ} {ws : List ℕ} {p : ℕ} {gs : List Leg} {rs : List Reply} {l : List Entry} → Starts n l ws → f ≤ any_mark → p ≤ z →
     (c : ℕ) → Walks f z ws p gs rs → walk f z (moments n l gs) p c ≡ some (reports_by c rs)
 unfolding walk
-follows {n} {f} {z} {l} {ws} {p} st fm h c (stops g a x) =
+follows {n} {f} {z} {ws} {p} {l} st fm h c (stops g a x) =
     let m = leg st p z f fm h g a in
     let o : Outcome = find (met n l g) p z f g.budget in
     subst (λ (r : Reply). go_on z c o (walk f z []) ≡ some (reports_by c (r ∷ []))) (sym m.reads)
     (ends_as (met n l g) m.valid p z f g.budget c h (walk f z []) o refl
     (sym (by_outcome z o) ∙ ap (next_by z) (sym m.reads) ∙ x))
-follows {n} {f} {z} {l} {ws} {p} st fm h c (goes_on {q = q} {gs = gs} {rs = rs} g a x w) =
+follows {n} {f} {z} {ws} {p} {l} st fm h c (goes_on {q = q} {gs = gs} {rs = rs} g a x w) =
     let m = leg st p z f fm h g a in
     let o : Outcome = find (met n l g) p z f g.budget in
     let rest : ℕ → ℕ → Option (List Outcome) = walk f z (moments n (list_after_all n l (calls_of g)) gs) in
@@ -186,10 +186,10 @@ follows {n} {f} {z} {l} {ws} {p} st fm h c (goes_on {q = q} {gs = gs} {rs = rs} 
     subst (λ (r : Reply). go_on z c o rest ≡ some (reports_by c (r ∷ rs))) (sym m.reads)
     (goes_as (met n l g) m.valid p z f g.budget c h rest q rs (λ j. follows m.starts fm i j w) o refl y)
 
-all_valid : {n f z : ℕ} {l : List Entry} {ws : List ℕ} {p : ℕ} {gs : List Leg} {rs : List Reply} → Starts n l ws → f ≤ any_mark → p ≤ z →
+all_valid : {n f z : ℕ} {ws : List ℕ} {p : ℕ} {gs : List Leg} {rs : List Reply} {l : List Entry} → Starts n l ws → f ≤ any_mark → p ≤ z →
     Walks f z ws p gs rs → All (λ m. Valid m.list) (moments n l gs)
-all_valid {n} {f} {z} {l} {ws} {p} st fm h (stops g a x) = also (leg st p z f fm h g a).valid end
-all_valid {n} {f} {z} {l} {ws} {p} st fm h (goes_on {q = q} {gs = gs} g a x w) =
+all_valid {n} {f} {z} {ws} {p} {l} st fm h (stops g a x) = also (leg st p z f fm h g a).valid end
+all_valid {n} {f} {z} {ws} {p} {l} st fm h (goes_on {q = q} {gs = gs} g a x w) =
     let m = leg st p z f fm h g a in
     let o : Outcome = find (met n l g) p z f g.budget in
     let y : next_of z o ≡ some q = sym (by_outcome z o) ∙ ap (next_by z) (sym m.reads) ∙ x in

@@ -48,11 +48,13 @@ over l f a z i v h g t =
 
 -- no entry before the first match is one
 above : {n : ℕ} {l : List Entry} {e : Entry} → Sorted n l → In e l → n ≤ e.base
+above {e = e} (Rattle.model.specs.Model.done {n = n}) x4 = elim x4 [ ]
 above (more h ok s) here = h
 above (more {e = x} h ok s) (there m) = omega (arith, above s m)
 
 first_least : (q : Entry → Bool) {n : ℕ} {l : List Entry} {e x : Entry} → Sorted n l → first q l ≡ some e → In x l → q x ≡ true →
     e.base ≤ x.base
+first_least q {e = e} {x = x} (Rattle.model.specs.Model.done {n = n}) d x14 t = elim x14 [ ]
 first_least q {e = e} {x = x} (more h ok s) d here t =
     let r : some x ≡ some e = rw t at d in
     let i : x.base ≡ e.base = let z : x ≡ e = cc in ap (λ (w : Entry). w.base) z in

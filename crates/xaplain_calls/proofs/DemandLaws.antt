@@ -53,9 +53,9 @@ all_split [] c es (also p a) = (end, p)
 all_split (d ∷ ds) c es (also p a) = let (x, y) = all_split ds c es a in (also p x, y)
 
 -- THE LIST stays valid and fits
-keeps_all : {room : ℕ} {l : List Entry} {cs : List Command} → All Fits cs → Keeps room l → Keeps room (list_by (execute room) l cs)
+keeps_all : {room : ℕ} {cs : List Command} {l : List Entry} → All Fits cs → Keeps room l → Keeps room (list_by (execute room) l cs)
 keeps_all end k = k
-keeps_all {room} {l} (also {x = c} f fs) k = keeps_all fs (execute_keeps room l k c f)
+keeps_all {room} {l = l} (also {x = c} f fs) k = keeps_all fs (execute_keeps room l k c f)
 
 list_last : (room : ℕ) (l : List Entry) (cs : List Command) (c : Command) →
     list_by (execute room) l (cs ++ (c ∷ [])) ≡ (execute room (list_by (execute room) l cs) c).list
@@ -171,7 +171,7 @@ module _ {room : ℕ} {l : List Entry} {s : Slices} (hi : room ≤ max_room) (p 
   at_call (Call.batch bs rs) b = at_batch bs rs b (parse bs) refl
 
 -- ALL CALLS
-pub calls_stand : {room : ℕ} {l : List Entry} {s : Slices} → room ≤ max_room → Prescribes room l s → {cs : List Call} →
+pub calls_stand : {room : ℕ} {cs : List Call} {l : List Entry} {s : Slices} → room ≤ max_room → Prescribes room l s →
     All Bytewise cs → Prescribes room (list_after_all room l cs) (slices_after_all s cs)
 calls_stand hi p end = p
 calls_stand hi p (also {x = c} b bs) = calls_stand hi (call_stands hi p c b) bs

@@ -12,7 +12,7 @@ use Rattle.xaplain.specs.Engine.{execute}
 
 -- what a call leaves: its result, the slices and the reply's bytes
 pub record Called : Type 0 where
-  pub result_of : Result
+  pub result : Result
   pub slices : Slices
   pub reply : List ℕ
 
