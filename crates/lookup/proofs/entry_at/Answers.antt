@@ -16,6 +16,6 @@ returns c =
     (c.order_of-k.ensures.order_value s x.v x.c e a refl st) in
     let w : c.slot_word-w.result ≡ e.word = c.slot_word-w.ensures ∙
     (slot_read s x.c _ a refl ∙ entry_word_lem s.valid st _) in
-    let m : c.marks_of_lem.result ≡ e.marks = c.marks_of_lem.ensures s x.v x.c e a
+    let m : c.marks_of-m.result ≡ e.marks = c.marks_of-m.ensures s x.v x.c e a
     refl st in
     λ i. record { base = b i; order = k i; word = w i; marks = m i }

@@ -9,23 +9,23 @@ use Rattle.lookup.proofs.HeadLaws.{at_spot}
 use Rattle.lookup.proofs.locate.Goals as goal
 
 gap : (c : goal.In-Vacant) (s : WellFormed c.args.pool.now) →
-    let g = c.k2.given.0 in
-    Stops s.list (num s) c.args.i (Vacant g.0 g.1.0 g.1.1.0)
+    
+    Stops s.list (num s) c.args.i (Vacant c.in-Vacant.n c.in-Vacant.v c.in-Vacant.top)
 gap c s = subst (Stops s.list (num s) _) c.in-Vacant.is (c.ending-k.ensures s)
 
 within : (c : goal.In-Within) (s : WellFormed c.args.pool.now) →
-    let g = c.k3.given.0 in
-    Covers s.list (num s) c.args.i g.0 g.1.0 g.1.1.0 g.1.1.1.0
+    
+    Covers s.list (num s) c.args.i c.in-Within.n c.in-Within.v c.in-Within.c c.in-Within.top
 within c s = subst (Stops s.list (num s) _) c.in-Within.is (c.ending-k.ensures s)
 
 within_2 : (c : goal.After-entry_at-e) (s : WellFormed c.args.pool.now) →
-    let g = c.k3.given.0 in
-    Covers s.list (num s) c.args.i g.0 g.1.0 g.1.1.0 g.1.1.1.0
+    
+    Covers s.list (num s) c.args.i c.in-Within.n c.in-Within.v c.in-Within.c c.in-Within.top
 within_2 c s = subst (Stops s.list (num s) _) c.in-Within.is (c.ending-k.ensures s)
 
 within_3 : (c : goal.After-spot_of-at) (s : WellFormed c.args.pool.now) →
-    let g = c.k3.given.0 in
-    Covers s.list (num s) c.args.i g.0 g.1.0 g.1.1.0 g.1.1.1.0
+    
+    Covers s.list (num s) c.args.i c.in-Within.n c.in-Within.v c.in-Within.c c.in-Within.top
 within_3 c s = subst (Stops s.list (num s) _) c.in-Within.is (c.ending-k.ensures s)
 
 pub overflow_add-result : goal.overflow_add-result
@@ -62,4 +62,4 @@ overflow_sub-result-in-Within c =
 pub returns-in-Within : goal.returns-in-Within
 returns-in-Within c =
     λ s. let w = within_3 c s in
-    rw (c.entry_at-e.ensures s w.entry w.at_node_lem w.stands, c.spot_of_lem.ensures) w.located
+    rw (c.entry_at-e.ensures s w.entry w.at_node_lem w.stands, c.spot_of-at.ensures) w.located

@@ -15,7 +15,7 @@ use Rattle.lookup.proofs.marks_of.Goals as goal
 pub returns : goal.returns
 returns c =
     λ s v d e a q st.
-    let q₀ = c.mark_bit_lem.ensures ∙ mark_read s 0 d _ (lit< tt) a q ∙ ap (λ (t : Bool). pick {A = ℕ} t 1 0)
+    let q₀ = c.mark_bit.ensures ∙ mark_read s 0 d _ (lit< tt) a q ∙ ap (λ (t : Bool). pick {A = ℕ} t 1 0)
     (mark_is s.valid st 0) in
     let q₁ = c.mark_bit-2.ensures ∙ mark_read s 1 d _ (lit< tt) a q ∙ ap (λ (t : Bool). pick {A = ℕ} t 1 0)
     (mark_is s.valid st 1) in

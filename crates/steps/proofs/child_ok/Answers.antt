@@ -1,7 +1,6 @@
 -- `child_ok`: whether slot j may lead to node m.
 use mathlib.Core.Path.{sym, ◌∙◌}
 use native.Mathlib.Omega.{arith}
-use borrow.Author.Tests.{not-false}
 use Prim.Native.Nat.{◌-◌}
 use Rattle.steps.proofs.ChildLaws.{child_yes}
 use Rattle.steps.proofs.child_ok.Goals as goal
@@ -17,5 +16,5 @@ returns c =
     let c15 = c10 in
     child_yes _ _ _ _ _ _ (c15.args.v - 1) (omega arith) (omega arith) (sym c10.shift_of.ensures ∙ c9.if-shift_of-v.false)
     (sym c8.owner_of.ensures ∙ (c7.if-owner_of-owner_word.false ∙ c7.owner_word.ensures)) (omega arith)
-    (c4.agrees.ensures.0 (not-false _ c3.if-not-agrees.false))
-    (c.agrees-2.ensures.0 (not-false _ c.if-not-agrees-2.false)) c.agrees-3.ensures
+    (c4.agrees.ensures.0 c3.if-not-agrees.false)
+    (c.agrees-2.ensures.0 c.if-not-agrees-2.false) c.agrees-3.ensures

@@ -1,5 +1,4 @@
 -- `gap_ok`: the empty slots from slot j on, where m is the marks.
-use borrow.Author.Tests.{not-true, not-false}
 use Rattle.layout.specs.Pool.{pool_of}
 use Rattle.steps.proofs.StepLaws.{rest_marked, step_gap}
 use Rattle.steps.proofs.gap_ok.Goals as goal
@@ -8,12 +7,12 @@ pub returns-then-not-rest_clear : goal.returns-then-not-rest_clear
 returns-then-not-rest_clear c =
     let s =  c in
     rest_marked (pool_of s.args.pool.now) s.args.n s.args.v s.args.j s.args.m
-    s.requires.1.1.1.1 s.requires.1.0.0 s.requires.1.1.0 _ c.same_slots-g.ensures
-    (c.rest_clear.ensures.1 (not-true _ c.if-not-rest_clear.true))
+    s.requires.fact_5 s.requires.fact_2.0 s.requires.fact_3 _ c.same_slots-g.ensures
+    (c.rest_clear.ensures.1 c.if-not-rest_clear.true)
 
 pub returns : goal.returns
 returns c =
     let s =  c in
     step_gap (pool_of s.args.pool.now) s.args.n s.args.v s.args.j s.args.m
-    s.requires.1.1.1.1 s.requires.1.0.0 s.requires.1.1.0 _ c.same_slots-g.ensures s.requires.1.1.1.0
-    c.if-m-j-ne0.false (c.rest_clear.ensures.0 (not-false _ c.if-not-rest_clear.false))
+    s.requires.fact_5 s.requires.fact_2.0 s.requires.fact_3 _ c.same_slots-g.ensures s.requires.fact_4
+    c.if-m-j-ne0.false (c.rest_clear.ensures.0 c.if-not-rest_clear.false)

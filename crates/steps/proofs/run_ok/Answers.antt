@@ -1,7 +1,6 @@
 -- `run_ok`: the slots that the entry in slot j takes, where m is the marks.
 use Prim.Native.Nat.{ℕ}
 use mathlib.Core.Path.{subst}
-use borrow.Author.Tests.{not-true, not-false}
 use Rattle.layout.specs.Pool.{pool_of}
 use Rattle.steps.specs.Steps.{SameSlots}
 use Rattle.steps.proofs.StepLaws.{step_bad, step_marked, step_run}
@@ -14,9 +13,9 @@ returns-then-not-run_fits c =
     let P = pool_of s.args.pool.now in
     let q = subst (λ (w : ℕ). SameSlots P s.args.n s.args.j w c.same_slots-p.result)
     c.sibling_word.ensures c.same_slots-p.ensures in
-    step_bad P s.args.n s.args.v s.args.j s.requires.1.0.0
-    (λ k. c.run_fits.ensures.1 (not-true _ c.if-not-run_fits.true)
-    (fits_of P s.args.n s.args.v s.args.j _ s.requires.1.0.0 q s.requires.1.1.1.1 k))
+    step_bad P s.args.n s.args.v s.args.j s.requires.fact_2.0
+    (λ k. c.run_fits.ensures.1 c.if-not-run_fits.true
+    (fits_of P s.args.n s.args.v s.args.j _ s.requires.fact_2.0 q s.requires.fact_5 k))
 
 pub returns-then-not-rest_clear : goal.returns-then-not-rest_clear
 returns-then-not-rest_clear c =
@@ -24,11 +23,11 @@ returns-then-not-rest_clear c =
     let P = pool_of s.args.pool.now in
     let q = subst (λ (w : ℕ). SameSlots P s.args.n s.args.j w c.same_slots-p.result)
     c.sibling_word.ensures c.same_slots-p.ensures in
-    let f = c.run_fits.ensures.0 (not-false _ c.if-not-run_fits.false) in
-    step_marked P s.args.n s.args.v s.args.j s.requires.1.1.1.1 s.requires.1.0.0 _ s.args.m
-    (fits_run_lem P s.args.n s.args.v s.args.j _ s.requires.1.0.0 q f)
-    (fits_held P s.args.n s.args.v s.args.j _ s.requires.1.0.0 q s.requires.1.0.1 f) s.requires.1.1.0
-    (c.rest_clear.ensures.1 (not-true _ c.if-not-rest_clear.true))
+    let f = c.run_fits.ensures.0 c.if-not-run_fits.false in
+    step_marked P s.args.n s.args.v s.args.j s.requires.fact_5 s.requires.fact_2.0 _ s.args.m
+    (fits_run_lem P s.args.n s.args.v s.args.j _ s.requires.fact_2.0 q f)
+    (fits_held P s.args.n s.args.v s.args.j _ s.requires.fact_2.0 q s.requires.fact_2.1 f) s.requires.fact_3
+    (c.rest_clear.ensures.1 c.if-not-rest_clear.true)
 
 pub returns : goal.returns
 returns c =
@@ -36,8 +35,8 @@ returns c =
     let P = pool_of s.args.pool.now in
     let q = subst (λ (w : ℕ). SameSlots P s.args.n s.args.j w c.same_slots-p.result)
     c.sibling_word.ensures c.same_slots-p.ensures in
-    let f = c.run_fits.ensures.0 (not-false _ c.if-not-run_fits.false) in
-    step_run P s.args.n s.args.v s.args.j s.requires.1.1.1.1 s.requires.1.0.0 _ s.args.m
-    (fits_run_lem P s.args.n s.args.v s.args.j _ s.requires.1.0.0 q f)
-    (fits_held P s.args.n s.args.v s.args.j _ s.requires.1.0.0 q s.requires.1.0.1 f) s.requires.1.1.0 s.requires.1.1.1.0
-    (c.rest_clear.ensures.0 (not-false _ c.if-not-rest_clear.false))
+    let f = c.run_fits.ensures.0 c.if-not-run_fits.false in
+    step_run P s.args.n s.args.v s.args.j s.requires.fact_5 s.requires.fact_2.0 _ s.args.m
+    (fits_run_lem P s.args.n s.args.v s.args.j _ s.requires.fact_2.0 q f)
+    (fits_held P s.args.n s.args.v s.args.j _ s.requires.fact_2.0 q s.requires.fact_2.1 f) s.requires.fact_3 s.requires.fact_4
+    (c.rest_clear.ensures.0 c.if-not-rest_clear.false)

@@ -1,6 +1,5 @@
 use mathlib.Core.Path.{◌≡◌, sym, ◌∙◌}
 use lib.ListN.{length}
-use Rattle.blocks.proofs.BoolLaws.{not-false}
 use Rattle.xaplain.specs.Slices.{in_order, list_of, all_zero}
 use Rattle.xaplain.proofs.LoopLaws.{count_is}
 use Rattle.xaplain.proofs.holds.Goals as goal
@@ -11,4 +10,4 @@ returns c =
     let e : c.count-n.result ≡ length (list_of a.index.now a.order.now a.word.now a.marks.now) =
     count_is a.index.now a.order.now a.word.now a.marks.now c.count-n.result
     c.requires.1 c.count-n.ensures in
-    rw (sym c.in_order.ensures ∙ not-false _ c.if-not-in_order.false, ← e) c.all_zero.ensures
+    rw (sym c.in_order.ensures ∙ c.if-not-in_order.false, ← e) c.all_zero.ensures

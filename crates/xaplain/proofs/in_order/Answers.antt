@@ -4,7 +4,7 @@ use Prim.Native.Nat.{ℕ, ◌+◌, ◌-◌, ◌^◌, ◌<◌}
 use mathlib.Core.Path.{◌≡◌, sym, ap, ◌∙◌}
 use native.Mathlib.Omega.{arith}
 use lib.ListN.{get_or}
-use Rattle.blocks.proofs.BoolLaws.{not-true, not-false}
+use Rattle.blocks.proofs.BoolLaws.{not-false}
 use Rattle.xaplain.specs.Slices.{in_order}
 use Rattle.xaplain.specs.Moves.{low_of}
 use Rattle.xaplain.proofs.LoopLaws.{rest_list, list_start, order_low, order_bad, order_on, order_end, last_fits, next_low}
@@ -21,7 +21,7 @@ returns-then-not-follows c =
     sym (sym v.invariant.1 ∙ order_low a.index.now a.order.now a.word.now a.marks.now a.n
     c.requires.order_len.1
     c.requires.counts v.k (low_of v.k v.last)
-    c.loop-k-test.true (sym c.follows.ensures ∙ not-true _ c.if-not-follows.true))
+    c.loop-k-test.true (sym c.follows.ensures ∙ c.if-not-follows.true)
 
 pub returns-then-not-fits : goal.returns-then-not-fits
 returns-then-not-fits c =
@@ -31,13 +31,13 @@ returns-then-not-fits c =
     c.requires.order_len.1
     c.requires.counts v.k
     (low_of v.k v.last) c.loop-k-test.true
-    (sym c.fits2.ensures ∙ not-true _ c.if-not-fits.true))
+    (sym c.fits.ensures ∙ c.if-not-fits.true)
 
 pub overflow_add-last : goal.overflow_add-last
 overflow_add-last c =
     let a = c.args in
     let k = c.loop-k.k in
-    let t : fits_entry (entry_at a.index.now a.order.now a.word.now a.marks.now k) ≡ true = sym c.fits2.ensures ∙ not-false _
+    let t : fits_entry (entry_at a.index.now a.order.now a.word.now a.marks.now k) ≡ true = sym c.fits.ensures ∙ not-false _
     c.if-not-fits.false in
     let lt : get_or a.index.now k 0 < 2 ^ 64 = omega (
       arith,
@@ -54,7 +54,7 @@ loop-k-preserved c =
     let a = c.args in
     let v = c.loop-k in
     let k = c.loop-k.k in
-    let t : fits_entry (entry_at a.index.now a.order.now a.word.now a.marks.now k) ≡ true = sym c.fits2.ensures ∙ not-false _
+    let t : fits_entry (entry_at a.index.now a.order.now a.word.now a.marks.now k) ≡ true = sym c.fits.ensures ∙ not-false _
     c.if-not-fits.false in
     let lt : get_or a.index.now k 0 < 2 ^ 64 = omega (
       arith,
@@ -71,7 +71,7 @@ loop-k-preserved c =
           c.requires.order_len.1
           c.requires.counts k
           (low_of k v.last) c.loop-k-test.true
-          (sym c.follows.ensures ∙ not-false _ c.if-not-follows.false) t)
+          (sym c.follows.ensures ∙ c.if-not-follows.false t)
           ∙ v.invariant.1,
     )
 

@@ -8,21 +8,22 @@ use Rattle.blocks.proofs.BoolLaws.{by_t}
 use Rattle.tree.specs.Tree.{slot_mark, tier_order, slots}
 use Rattle.layout.specs.WellFormed.{WellFormed}
 use Rattle.lookup.proofs.WordLaws.{node_fits_lem, mark_read}
+use Rattle.lookup.proofs.WayLaws.{at_slot, is_node_lem, is_gap, is_entry_lem, down_any, down_mark, down_lacks, down_leaf}
 use Rattle.lookup.proofs.find.below.Goals as goal
 
-marked : (c : goal.Then-mark_bit-eq1) (s : WellFormed c.args.pool.now) → c.mark_bit_lem.result ≡ pick (slot_mark s.list
+marked : (c : goal.Then-mark_bit-eq1) (s : WellFormed c.args.pool.now) → c.mark_bit.result ≡ pick (slot_mark s.list
     c.args.filter
     c.args.v
     (block (tier_order c.args.v)
     c.args.p)) 1 0
-marked c s = c.mark_bit_lem.ensures ∙ mark_read s _ _ _ (omega arith) (at_slot _ (c.requires.at_node s)) (ap (λ (x : ℕ). x % slots) c.block_of.ensures)
+marked c s = c.mark_bit.ensures ∙ mark_read s _ _ _ (omega arith) (at_slot _ (c.requires.at_node s)) (ap (λ (x : ℕ). x % slots) c.block_of.ensures)
 
-marked_2 : (c : goal.Else-mark_bit-eq1) (s : WellFormed c.args.pool.now) → c.mark_bit_lem.result ≡ pick (slot_mark s.list
+marked_2 : (c : goal.Else-mark_bit-eq1) (s : WellFormed c.args.pool.now) → c.mark_bit.result ≡ pick (slot_mark s.list
     c.args.filter
     c.args.v
     (block (tier_order c.args.v)
     c.args.p)) 1 0
-marked_2 c s = c.mark_bit_lem.ensures ∙ mark_read s _ _ _ (omega arith) (at_slot _ (c.requires.at_node s)) (ap (λ (x : ℕ). x % slots) c.block_of.ensures)
+marked_2 c s = c.mark_bit.ensures ∙ mark_read s _ _ _ (omega arith) (at_slot _ (c.requires.at_node s)) (ap (λ (x : ℕ). x % slots) c.block_of.ensures)
 
 pub returns-then-filter-eq-ANY_MARK : goal.returns-then-filter-eq-ANY_MARK
 returns-then-filter-eq-ANY_MARK c =

@@ -41,14 +41,14 @@ consider-requires-clause-order_le_max_order c =
     let s = c.requires.well_formed in
     let w = shown_2 c s in
     let e = c.entry_at.ensures s w.entry w.at_node_lem w.stands in
-    (rw e w.order_le, rw e w.ends)
+    rw e w.order_le
 
 pub consider-requires-clause-order_bound : goal.consider-requires-clause-order_bound
 consider-requires-clause-order_bound c =
     let s = c.requires.well_formed in
     let w = shown_2 c s in
     let e = c.entry_at.ensures s w.entry w.at_node_lem w.stands in
-    (c.requires.filter_le_any_mark, (rw e w.order_le, rw e w.ends))
+    rw e w.ends
 
 pub returns-in-Gap : goal.returns-in-Gap
 returns-in-Gap c =

@@ -15,4 +15,4 @@ returns-then-plain_slots c =
     let le : a.to ≤ slots = c.requires.o_le_to.1 in
     sym (count_zero (λ i. get_or a.pool.now (slot_place a.n i) 0) a.o (a.to - a.o)
     (λ i lt. sibling_bit_0 (get_or a.pool.now (slot_place a.n (a.o + i)) 0)
-    (λ e h. c.plain_slots_lem.ensures.0 c.if-plain_slots.true (a.o + i) (omega arith) (omega arith) e)))
+    (λ e h. c.plain_slots.ensures.0 c.if-plain_slots.true (a.o + i) (omega arith) (omega arith) e)))

@@ -32,7 +32,7 @@ ends c =
 pub leap-g-requires-clause-n_in_bounds : goal.leap-g-requires-clause-n_in_bounds
 leap-g-requires-clause-n_in_bounds c =
     let t = c.requires in
-    ((node_fits_lem t.0 (t.1.1.1.1 t.0).on_way_lem.at_node_lem).0, (omega arith, t.1.1.0))
+    (node_fits_lem t.0 (t.1.1.1.1 t.0).on_way_lem.at_node_lem).0
 
 pub returns-then-to-o : goal.returns-then-to-o
 returns-then-to-o c =
@@ -46,9 +46,9 @@ returns-then-to-o c =
     let pos : 0 < k = c.if-k-gt0.true in
     let at : AtNode s.list (num s) a.u (d / slots) a.m = subst
     (λ (x : ℕ). AtNode s.list (num s) a.u (x / slots) a.m) (sym e) (at_slot a.p st.on_way_lem.at_node_lem) in
-    let ge : d % slots ≤ to = c.leap-g.ensures.0.0 in
+    let ge : d % slots ≤ to = c.leap-g.ensures.o_le_to.0 in
     let y : d - d % slots + to ≡ d + (to - d % slots) = omega arith in
-    let lp : Leaps s.list (num s) a.filter a.u d (d - d % slots + to) k = c.leap-g.ensures.1 s a.u d at
+    let lp : Leaps s.list (num s) a.filter a.u d (d - d % slots + to) k = c.leap-g.ensures.leaps s a.u d at
     refl pos in
     let le : d - d % slots + to ≤ block (tier_order a.u) a.last = rw y (ends c) in
     let i2 : k ≤ a.budget - a.n = leb-true _ _ c.if-k-budget.true in

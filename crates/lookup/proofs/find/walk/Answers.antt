@@ -11,45 +11,24 @@ pub consider-requires-clause-order_le_max_order : goal.consider-requires-clause-
 consider-requires-clause-order_le_max_order c =
     let t = c.requires in
     let (z, h, q, o, e) = entered_head_entry (c.enter-k.ensures t.0) _ c.in-HeadEntry.is in
-    (omega arith, rw (o, e) (omega arith))
+    omega arith
 
 pub consider-requires-clause-order_bound : goal.consider-requires-clause-order_bound
 consider-requires-clause-order_bound c =
     let t = c.requires in
     let (z, h, q, o, e) = entered_head_entry (c.enter-k.ensures t.0) _ c.in-HeadEntry.is in
-    (t.1.0, (omega arith, rw (o, e) (omega arith)))
+    rw (o, e) (omega arith)
 
 pub walk_under-requires-clause-top_lt_top_tier : goal.walk_under-requires-clause-top_lt_top_tier
 walk_under-requires-clause-top_lt_top_tier c =
     let t = c.requires in
-    (
-        (entered_under (c.enter-k.ensures t.0) _ _ c.in-Under.is).1,
-        (
-          t.1.0,
-          (
-            t.1.1,
-            λ s. let (z, le, h, a) = entered_under (c.enter-k.ensures s) _ _ c.in-Under.is in
-                record { at_node_lem = a; through = through_head s.list _ _ _ z h },
-          ),
-        ),
-      )
+    (entered_under (c.enter-k.ensures t.0) _ _ c.in-Under.is).1
 
 pub walk_under-requires-clause-on_way : goal.walk_under-requires-clause-on_way
 walk_under-requires-clause-on_way c =
-    let t = c.requires in (
-      t.0,
-      (
-        (entered_under (c.enter-k.ensures t.0) _ _ c.in-Under.is).1,
-        (
-          t.1.0,
-          (
-            t.1.1,
-            λ s. let (z, le, h, a) = entered_under (c.enter-k.ensures s) _ _ c.in-Under.is in
-                record { at_node_lem = a; through = through_head s.list _ _ _ z h },
-          ),
-        ),
-      ),
-    )
+    let t = c.requires in
+    λ s. let (z, le, h, a) = entered_under (c.enter-k.ensures s) _ _ c.in-Under.is in
+                record { at_node_lem = a; through = through_head s.list _ _ _ z h }
 
 pub returns-in-Outside : goal.returns-in-Outside
 returns-in-Outside c =

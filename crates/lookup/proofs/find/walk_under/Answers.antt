@@ -8,31 +8,20 @@ use Rattle.lookup.proofs.find.walk_under.Goals as goal
 pub stride-t-requires-clause-stops_at : goal.stride-t-requires-clause-stops_at
 stride-t-requires-clause-stops_at c =
     let t = c.requires in
-    let i = c.loop-k.invariant in (
-      t.0,
-      (
-        c.descend-s.ensures.0,
-        (
-          t.1.1.0,
-          (
-            c.loop-k-test.true,
-            λ s. stops_at s.valid (i.3 s).0 (c.descend-s.ensures.1 s),
-          ),
-        ),
-      ),
-    )
+    let i = c.loop-k.invariant in
+    λ s. stops_at s.valid (i.3 s).0 (c.descend-s.ensures.stopped s)
 
 pub loop-k-preserved : goal.loop-k-preserved
 loop-k-preserved c =
     let s = c.requires.well_formed in
     let (a, b, e) = walked_on s.list _ _ _ _ _ (c.stride-t.ensures s) _
     (c.loop-k.invariant.3 s).1 _ _ c.in-Paused.is in (
-      c.descend-s.ensures.0,
+      c.descend-s.ensures.tier_lt_top_tier,
       omega (arith, a, c.loop-k.invariant.1),
       b,
       λ s. let (a, b, e) = walked_on s.list _ _ _ _ _ (c.stride-t.ensures s) _
           (c.loop-k.invariant.3 s).1 _ _ c.in-Paused.is in (
-            on_way_stay _ (stops_at s.valid (c.loop-k.invariant.3 s).0 (c.descend-s.ensures.1 s)).on_way_lem
+            on_way_stay _ (stops_at s.valid (c.loop-k.invariant.3 s).0 (c.descend-s.ensures.stopped s)).on_way_lem
                 (ap (λ (x : ℕ). x / slots) (sym c.block_of.ensures) ∙ c.if-block_of.false ∙ ap
                 (λ (x : ℕ). x / slots) c.block_of-in-Paused.ensures),
             e,
