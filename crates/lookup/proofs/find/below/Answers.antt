@@ -33,7 +33,7 @@ returns-then-filter-eq-ANY_MARK c =
 pub mark_bit-requires-clause-m_in_bounds : goal.mark_bit-requires-clause-m_in_bounds
 mark_bit-requires-clause-m_in_bounds c =
     let s = c.requires.well_formed in
-    (omega (arith, (node_fits_lem s (c.requires.at_node s)).0)).0
+    omega (arith, (node_fits_lem s (c.requires.at_node s)).0)
 
 pub returns-then-mark_bit-eq1 : goal.returns-then-mark_bit-eq1
 returns-then-mark_bit-eq1 c =

@@ -2,7 +2,6 @@
 use Prim.Native.Nat.{ℕ, ◌+◌, ◌*◌, ◌-◌, ◌/◌, ◌%◌, ◌^◌, ◌≤◌, ◌<◌}
 use mathlib.Core.Path.{◌≡◌, refl, sym, ap, subst, ◌∙◌}
 use native.Mathlib.Omega.{arith}
-use borrow.Author.Tests.{leb-true}
 use Rattle.blocks.specs.Blocks.{block}
 use Rattle.tree.specs.Tree.{tier_order, slots}
 use Rattle.layout.specs.WellFormed.{num}
@@ -22,8 +21,8 @@ ends c =
     let z : ℕ = c.block_of-z.result in
     let d : ℕ = c.block_of-c.result in
     let to : ℕ = c.leap-g.result.to in
-    let i3 : d ≤ z = leb-true _ _ c.if-c-z.true in
-    let i4 : to - d % slots ≤ z - d = leb-true _ _ c.if-to-o.true in
+    let i3 : d ≤ z = c.if-c-z.true in
+    let i4 : to - d % slots ≤ z - d = c.if-to-o.true in
     let e : z ≡ block (tier_order c.args.u)
     c.args.last =
     c.block_of-z.ensures in
@@ -32,7 +31,7 @@ ends c =
 pub leap-g-requires-clause-n_in_bounds : goal.leap-g-requires-clause-n_in_bounds
 leap-g-requires-clause-n_in_bounds c =
     let t = c.requires in
-    (node_fits_lem t.0 (t.1.1.1.1 t.0).on_way_lem.at_node_lem).0
+    (node_fits_lem t.well_formed (t.stops_at t.well_formed).on_way_lem.at_node_lem).0
 
 pub returns-then-to-o : goal.returns-then-to-o
 returns-then-to-o c =
@@ -51,7 +50,7 @@ returns-then-to-o c =
     let lp : Leaps s.list (num s) a.filter a.u d (d - d % slots + to) k = c.leap-g.ensures.leaps s a.u d at
     refl pos in
     let le : d - d % slots + to ≤ block (tier_order a.u) a.last = rw y (ends c) in
-    let i2 : k ≤ a.budget - a.n = leb-true _ _ c.if-k-budget.true in
+    let i2 : k ≤ a.budget - a.n = c.if-k-budget.true in
     subst (λ (x : ℕ). Walks s.list a.filter a.last a.budget a.p a.n (Paused x (a.n + k)))
     (ap (λ (x : ℕ). x * 2 ^ (tier_order a.u)) y ∙ ap (λ (x : ℕ). (d + (to - d % slots)) * x) (sym c.pow2.ensures))
     (leap_walks s.valid (num s) a.filter a.last a.budget a.p a.n a.m a.u d (d - d % slots + to) k st
@@ -62,8 +61,8 @@ returns c =
     λ s.
     let a = c.args in
     let t = c.requires in
-    let st = t.1.1.1.1 s in
+    let st = t.stops_at s in
     subst (Walks s.list a.filter a.last a.budget a.p a.n) (sym c.counted.ensures)
     (counted_walks s.list a.filter a.last a.budget a.p a.n c.finish.result
     (c.finish.ensures s ∙ step_at_lem s.list a.filter a.last a.p a.u _ st.on_way_lem.through refl
-    st.stops) t.1.1.1.0)
+    st.stops) t.n_lt_budget)

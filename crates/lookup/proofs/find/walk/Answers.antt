@@ -10,19 +10,19 @@ use Rattle.lookup.proofs.find.walk.Goals as goal
 pub consider-requires-clause-order_le_max_order : goal.consider-requires-clause-order_le_max_order
 consider-requires-clause-order_le_max_order c =
     let t = c.requires in
-    let (z, h, q, o, e) = entered_head_entry (c.enter-k.ensures t.0) _ c.in-HeadEntry.is in
+    let (z, h, q, o, e) = entered_head_entry (c.enter-k.ensures t.well_formed) _ c.in-HeadEntry.is in
     omega arith
 
 pub consider-requires-clause-order_bound : goal.consider-requires-clause-order_bound
 consider-requires-clause-order_bound c =
     let t = c.requires in
-    let (z, h, q, o, e) = entered_head_entry (c.enter-k.ensures t.0) _ c.in-HeadEntry.is in
+    let (z, h, q, o, e) = entered_head_entry (c.enter-k.ensures t.well_formed) _ c.in-HeadEntry.is in
     rw (o, e) (omega arith)
 
 pub walk_under-requires-clause-top_lt_top_tier : goal.walk_under-requires-clause-top_lt_top_tier
 walk_under-requires-clause-top_lt_top_tier c =
     let t = c.requires in
-    (entered_under (c.enter-k.ensures t.0) _ _ c.in-Under.is).1
+    (entered_under (c.enter-k.ensures t.well_formed) _ _ c.in-Under.is).1
 
 pub walk_under-requires-clause-on_way : goal.walk_under-requires-clause-on_way
 walk_under-requires-clause-on_way c =

@@ -1,0 +1,12 @@
+-- `faults`: 0 only if no slot is at fault.
+use mathlib.Core.Path.{◌≡◌}
+use Prim.Native.Nat.{◌-◌, ◌≤◌}
+use Rattle.tree.specs.Tree.{slots}
+use Rattle.passes.specs.Bytes.{ChainedTo}
+use Rattle.passes.proofs.faults.Given as goal
+
+abbrev pub invariant-loop-j : goal.invariant-loop-j
+invariant-loop-j l = (l.j ≤ slots) × (l.bad ≡ 0 → ChainedTo l.a l.j)
+
+abbrev pub decreases-loop-j : goal.decreases-loop-j
+decreases-loop-j l = slots - l.j

@@ -1,0 +1,11 @@
+-- `loose`: 0 only if each slot with a mark has an entry or leads to a node.
+use Prim.Native.Nat.{◌-◌}
+use Rattle.tree.specs.Tree.{slots}
+use Rattle.passes.proofs.ByteLaws.{Off}
+use Rattle.passes.proofs.loose.Given as goal
+
+abbrev pub invariant-loop-t : goal.invariant-loop-t
+invariant-loop-t l = Off l.a l.t l.f
+
+abbrev pub decreases-loop-t : goal.decreases-loop-t
+decreases-loop-t l = slots - l.t
