@@ -62,4 +62,4 @@ overflow_sub-result-in-Within c =
 pub returns-in-Within : goal.returns-in-Within
 returns-in-Within c =
     λ s. let w = within_3 c s in
-    rw (c.entry_at-e.ensures s w.entry w.at_node_lem w.stands, c.spot_of-at.ensures) w.located
+    simp (c.entry_at-e.ensures s w.entry w.at_node_lem w.stands, c.spot_of-at.ensures) w.located

@@ -21,7 +21,7 @@ returns-then-not-follows c =
     sym (sym v.invariant.1 ∙ order_low a.index.now a.order.now a.word.now a.marks.now a.n
     c.requires.order_len.1
     c.requires.counts v.k (low_of v.k v.last)
-    c.loop-k-test.true (sym c.follows.ensures ∙ c.if-not-follows.true)
+    c.loop-k-test.true (sym c.follows.ensures ∙ c.if-not-follows.true))
 
 pub returns-then-not-fits : goal.returns-then-not-fits
 returns-then-not-fits c =
@@ -31,7 +31,7 @@ returns-then-not-fits c =
     c.requires.order_len.1
     c.requires.counts v.k
     (low_of v.k v.last) c.loop-k-test.true
-    (sym c.fits.ensures ∙ c.if-not-fits.true)
+    (sym c.fits.ensures ∙ c.if-not-fits.true))
 
 pub overflow_add-last : goal.overflow_add-last
 overflow_add-last c =
@@ -71,7 +71,7 @@ loop-k-preserved c =
           c.requires.order_len.1
           c.requires.counts k
           (low_of k v.last) c.loop-k-test.true
-          (sym c.follows.ensures ∙ c.if-not-follows.false t)
+          (sym c.follows.ensures ∙ c.if-not-follows.false) t)
           ∙ v.invariant.1,
     )
 

@@ -16,7 +16,7 @@ pub overflow_add-last : goal.overflow_add-last
 overflow_add-last c =
     let z =  c in let k≤ = z.requires.k_le_max_order.0 in
     rw (shl_one z.args.k k≤)
-    (omega (arith, pow_pos z.args.k, end_fits z.args.k z.args.i k≤ z.fits.i.fits (whole z.args.i z.args.k z.requires.k_le_max_order.1)))
+    (omega (arith, pow_pos z.args.k, end_fits z.args.k z.args.i k≤ z.ranges.i.fits (whole z.args.i z.args.k z.requires.k_le_max_order.1)))
 
 pub position-q-requires-clause-rising : goal.position-q-requires-clause-rising
 position-q-requires-clause-rising c =
