@@ -1,6 +1,7 @@
 -- `count_through` meets its contract, as `batch::count` does: it calls `read_through` on a plain slice, so no walk.
 use Prim.Native.Nat.{◌≤◌, ◌-◌}
 use lib.ListN.{length}
+use Rattle.batch.proofs.ParseLaws.{CountedTo}
 use Rattle.reader.proofs.count_through.Given as goal
 
 abbrev pub invariant-loop-next : goal.invariant-loop-next
