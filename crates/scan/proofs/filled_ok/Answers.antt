@@ -1,0 +1,71 @@
+use mathlib.Core.Path.{sym, ap, ◌∙◌}
+use native.Mathlib.Omega.{arith}
+use Prim.Native.Nat.{◌-◌}
+use Rattle.layout.specs.Pool.{slot_of}
+use Rattle.steps.proofs.DecideLaws.{no!}
+use Rattle.steps.proofs.WordLaws.{among_clear, clear_among}
+use Rattle.scan.proofs.FilledLaws.{gap_clear}
+use Rattle.steps.proofs.StepLaws.{step_child, child_bad}
+use Rattle.scan.proofs.TallyLaws.{tallied_past, tallied_leap, all_tallied}
+use Rattle.scan.proofs.filled_ok.Goals as goal
+
+pub returns-then-f-m-ne0 : goal.returns-then-f-m-ne0
+returns-then-f-m-ne0 c =
+    no! (λ s. c.if-f-m-ne0.true (clear_among _ _ (omega arith) (omega arith)
+    (gap_clear _ _ _ _ _ c.filled_slots-f.ensures c.all_marks-m.ensures s.slots_ok_lem)))
+
+pub returns-then-o-eq-SLOTS : goal.returns-then-o-eq-SLOTS
+returns-then-o-eq-SLOTS c =
+    let g = tallied_past _ _ _ _ _ c.filled_slots-f.ensures
+    c.all_marks-m.ensures _ _ _ c.loop-j.invariant
+    (among_clear _ _ (omega arith) c.if-f-m-ne0.false) c.next_marked-o.ensures in
+    all_tallied _ _ _ _ _ _ g (omega arith)
+
+pub returns-then-not-child_ok : goal.returns-then-not-child_ok
+returns-then-not-child_ok c =
+    let r =  c in
+    let e =  r in
+    no! (λ s. child_bad _ _ _ _ _
+    (sym (ap slot_of r.slot_word.ensures) ∙ sym r.read_slot-s.ensures ∙ c.in-Child.is)
+    (omega (arith, e.next_marked-o.ensures.most))
+    (c.child_ok.ensures.1 c.if-not-child_ok.true) s.slots_ok_lem)
+
+pub loop-j-preserved-in-Child : goal.loop-j-preserved-in-Child
+loop-j-preserved-in-Child c =
+    let r =  c in
+    let e =  r in
+    let g = tallied_past _ _ _ _ _ e.filled_slots-f.ensures
+    e.all_marks-m.ensures _ _ _ e.loop-j.invariant
+    (among_clear _ _ (omega arith) e.if-f-m-ne0.false) e.next_marked-o.ensures in
+    tallied_leap _ _ _ _ _ e.filled_slots-f.ensures e.all_marks-m.ensures _ _ _ _ g
+    e.next_marked-o.ensures (omega (arith, g.gone.inside))
+    (step_child _ _ _ _ _
+    (sym (ap slot_of r.slot_word.ensures) ∙ sym r.read_slot-s.ensures ∙ c.in-Child.is)
+    (omega (arith, g.gone.inside)) g.gone.past (c.child_ok.ensures.0 c.if-not-child_ok.false))
+    (λ z. omega (arith, z))
+
+pub step-p-requires : goal.step-p-requires
+step-p-requires c =
+    let e =  c in
+    let g = tallied_past _ _ _ _ _ e.filled_slots-f.ensures
+    e.all_marks-m.ensures _ _ _ e.loop-j.invariant
+    (among_clear _ _ (omega arith) e.if-f-m-ne0.false) e.next_marked-o.ensures in
+    record {
+      fact_1 = ( ( e)).requires.fact_1;
+      fact_2 = (omega (arith, g.gone.inside), omega arith);
+      fact_3 = e.all_marks-m.ensures;
+      fact_4 = g.gone.past;
+    }
+
+pub loop-j-preserved : goal.loop-j-preserved
+loop-j-preserved c =
+    let e =  c in
+    let g = tallied_past _ _ _ _ _ e.filled_slots-f.ensures
+    e.all_marks-m.ensures _ _ _ e.loop-j.invariant
+    (among_clear _ _ (omega arith) e.if-f-m-ne0.false) e.next_marked-o.ensures in
+    tallied_leap _ _ _ _ _ e.filled_slots-f.ensures e.all_marks-m.ensures _ _ _ _ g
+    e.next_marked-o.ensures (omega (arith, g.gone.inside)) c.step-p.ensures c.if-p-eq0.false
+
+pub returns : goal.returns
+returns c =
+    let L = c.loop-j.invariant in all_tallied _ _ _ _ _ _ L (omega arith)

@@ -1,0 +1,13 @@
+-- `plain_filled`: how many slots of node n are filled, where none has an internal word.
+use native.Mathlib.Omega.{arith}
+use Rattle.scan.proofs.TallyLaws.{odd_filled_lem, both_plain}
+use Rattle.scan.proofs.plain_filled.Goals as goal
+
+pub returns-then-full_odd : goal.returns-then-full_odd
+returns-then-full_odd c =
+    odd_filled_lem _ _ (c.full_odd.ensures c.if-full_odd.true)
+
+pub returns : goal.returns
+returns c =
+    both_plain _ _ _ _ _ _ (omega arith) (omega arith) c.plain_part-a.ensures c.plain_part-b.ensures
+    (omega arith) (omega arith)
