@@ -10,8 +10,8 @@ use Rattle.erase.specs.Tall.{Tall, Tower}
 use Rattle.erase.proofs.shrink.Given as goal
 
 abbrev pub invariant-loop-h : goal.invariant-loop-h
-invariant-loop-h l = Tower l.h l.pool × (length l.pool ≡ length l.initial.pool) × (length l.map ≡ length l.initial.map) × FreeMap l.pool l.map ×
-    ((k : ℕ) (l : List Entry) (os : Places) → Tall k l.top l os l.initial.pool → Tall k l.h l os l.pool)
+invariant-loop-h z = Tower z.h z.pool × (length z.pool ≡ length z.initial.pool) × (length z.map ≡ length z.initial.map) × FreeMap z.pool z.map ×
+    ((k : ℕ) (l : List Entry) (os : Places) → Tall k z.top l os z.initial.pool → Tall k z.h l os z.pool)
 
 abbrev pub decreases-loop-h : goal.decreases-loop-h
 decreases-loop-h l = l.h
