@@ -24,13 +24,11 @@ returns-then-batch-gt-MAX_BATCH c = sym (ap counted (parse_long _ c.if-batch-gt-
 
 pub returns-in-End : goal.returns-in-End
 returns-in-End c =
-    count_end _ _ _ c.loop-next.invariant.2 c.in-End.ensures ∙
-    not-long _ c.if-batch-gt-MAX_BATCH.false
+    count_end _ _ _ c.loop-next.invariant.2 c.in-End.ensures ∙ not-long _ c.if-batch-gt-MAX_BATCH.false
 
 pub returns-in-Bad : goal.returns-in-Bad
 returns-in-Bad c =
-    count_bad _ _ _ c.loop-next.invariant.2 c.in-Bad.ensures ∙
-    not-long _ c.if-batch-gt-MAX_BATCH.false
+    count_bad _ _ _ c.loop-next.invariant.2 c.in-Bad.ensures ∙ not-long _ c.if-batch-gt-MAX_BATCH.false
 
 pub loop-next-smaller : goal.loop-next-smaller
 loop-next-smaller c =

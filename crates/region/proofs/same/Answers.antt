@@ -1,5 +1,5 @@
 use mathlib.Core.Path.{◌≡◌, refl, sym, ap, ◌∙◌}
-use Prim.Native.Nat.{ℕ, ◌-◌}
+use Prim.Native.Nat.{ℕ}
 use native.Mathlib.Omega.{arith}
 use native.Mathlib.Numerals.{add-one}
 use lib.Dec.{eqb}
@@ -16,11 +16,10 @@ loop-i-init c =
 
 pub loop-i-preserved : goal.loop-i-preserved
 unfolding spread
-loop-i-preserved c =
-    (
-      omega arith,
-      ap (λ (x : ℕ). bit_or x (bit_xor (get_or c.args.a.now c.loop-i.i 0) (get_or c.args.b.now c.loop-i.i 0))) c.loop-i.invariant.1 ∙ ap (spread c.args.a.now c.args.b.now) (sym (add-one c.loop-i.i)),
-    )
+loop-i-preserved c = (
+  omega arith,
+  ap (λ (x : ℕ). bit_or x (bit_xor (get_or c.args.a.now c.loop-i.i 0) (get_or c.args.b.now c.loop-i.i 0))) c.loop-i.invariant.1 ∙ ap (spread c.args.a.now c.args.b.now) (sym (add-one c.loop-i.i)),
+)
 
 pub returns : goal.returns
 returns c =

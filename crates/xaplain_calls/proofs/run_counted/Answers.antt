@@ -22,23 +22,22 @@ returns-then-room-k-clause-reply_after c =
 
 pub run_all-requires-clause-holds : goal.run_all-requires-clause-holds
 run_all-requires-clause-holds c =
-    let z =  c in
+    let z = c in
     holds_checked (record { small = λ i. omega (arith, c.slice_known-1.given i) }) (record {
-    small = λ i. omega (
-      arith,
-      c.slice_known-3-1.given i,
-    );
-      }) z.requires.marks_value c.count-n.ensures
+      small = λ i. omega (
+        arith,
+        c.slice_known-3-1.given i,
+      );
+    }) z.requires.marks_value c.count-n.ensures
 
 pub run_all-requires-clause-ahead : goal.run_all-requires-clause-ahead
 run_all-requires-clause-ahead c =
-    let z =  c in
+    let z = c in
     ahead z.args.reply.now (was_read z.requires.k_value) (omega arith)
 
 pub returns-clause-value : goal.returns-clause-value
 returns-clause-value c =
     let r = was_read c.requires.k_value in
-
     let h = holds_checked {is = c.args.index.now} {os = c.args.order.now} {ws = c.args.word.now} {ms = c.args.marks.now} (record {
       small = λ i. omega (
         arith,
@@ -56,7 +55,6 @@ returns-clause-value c =
 pub returns-clause-marks_after : goal.returns-clause-marks_after
 returns-clause-marks_after c =
     let r = was_read c.requires.k_value in
-
     let h = holds_checked {is = c.args.index.now} {os = c.args.order.now} {ws = c.args.word.now} {ms = c.args.marks.now} (record {
       small = λ i. omega (
         arith,
@@ -74,7 +72,6 @@ returns-clause-marks_after c =
 pub returns-clause-reply_after : goal.returns-clause-reply_after
 returns-clause-reply_after c =
     let r = was_read c.requires.k_value in
-
     let h = holds_checked {is = c.args.index.now} {os = c.args.order.now} {ws = c.args.word.now} {ms = c.args.marks.now} (record {
       small = λ i. omega (
         arith,
