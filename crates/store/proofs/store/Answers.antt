@@ -67,7 +67,7 @@ store_at_gap-requires-clause-u_lt_top_tier c =
 pub store_at_gap-requires-clause-at_gap : goal.store_at_gap-requires-clause-at_gap
 store_at_gap-requires-clause-at_gap c =
     λ s. let (t, q, a, le, d) = at_vacant _ _ _ (subst (Stops s.list (num s) _) c.in-Vacant.is (c.ending-found.ensures s)).2 refl in
-          record {  = new_store s.valid (fit_2 c) (over_none s.list _ _ q); at_node_lem = a; nothing = t }
+          record { new = new_store s.valid (fit_2 c) (over_none s.list _ _ q); at_node_lem = a; nothing = t }
 
 pub returns-then-word-eq-RESERVED-clause-puts : goal.returns-then-word-eq-RESERVED-clause-puts
 returns-then-word-eq-RESERVED-clause-puts c =
