@@ -4,7 +4,7 @@
 // slot; h: the tier of the head; map: the map of the free nodes.
 #![tactic(auto)]
 
-ghost use Rattle.std.specs.Prelude.{ℕ, ◌+◌, ◌-◌, ◌<◌, ◌≤◌, ◌≡◌, true, false, List, get_or, set};
+ghost use Rattle.std.specs.Prelude.{ℕ, ◌+◌, ◌-◌, ◌<◌, ◌≤◌, ◌≡◌, true, false, List, get_or, length, set};
 ghost use Rattle.blocks.specs.Lists.{any};
 ghost use Rattle.model.specs.Model;
 ghost use Rattle.model.specs.Model.{within, covering, covered};

@@ -4,7 +4,7 @@
 // m: a mark, 0 to 2; on: whether it is set or cleared.
 #![tactic(auto)]
 
-ghost use Rattle.std.specs.Prelude.{ℕ, ◌<◌, ◌≡◌, true, false, not, eqb, get_or, set};
+ghost use Rattle.std.specs.Prelude.{ℕ, ◌<◌, ◌≡◌, true, false, not, eqb, get_or, length, set};
 ghost use Rattle.blocks.specs.Blocks.{set_bit};
 ghost use Rattle.model.specs.Model.{reserved, mark_count, covers, covering, present, covered, with_mark, remark};
 ghost use Rattle.tree.specs.Tree.{slots};

@@ -19,7 +19,6 @@ loop-u-init c =
 
 pub loop-u-preserved : goal.loop-u-preserved
 loop-u-preserved c =
-    let a = c.args in
     let u : ℕ = c.loop-u.u in
     let j : ℕ = c.loop-u.j in
     let g : 1 ≤ c.loop-u.u = omega (
@@ -27,13 +26,13 @@ loop-u-preserved c =
       c.loop-u-test.true,
     ) in
     let e₁ : c.one_if-j.result ≡ pick
-    (in_chain a.chained a.h a.v a.d a.top
+    (in_chain c.args.chained c.args.h c.args.v c.args.d c.args.top
     c.loop-u.u) 1 0 = c.one_if-j.ensures.0 ∙ ap
     (λ (b : Bool). pick {A = ℕ} b 1 0) c.in_chain-c.ensures in
-    let e₂ : c.one_if-j-in-loop-u.result ≡ pick (on_path a.chained a.h a.v a.d a.top
+    let e₂ : c.one_if-j-in-loop-u.result ≡ pick (on_path c.args.chained c.args.h c.args.v c.args.d c.args.top
     c.loop-u.u) 1 0 = c.one_if-j-in-loop-u.ensures.0 ∙ ap (λ (b : Bool). pick {A = ℕ} b 1 0)
     c.on_path-p.ensures in
-    let bt = before_tier a.chained a.h a.v a.d a.top
+    let bt = before_tier c.args.chained c.args.h c.args.v c.args.d c.args.top
     c.loop-u.u g c.loop-u.invariant.0 in (
       omega (
         arith,
@@ -46,8 +45,8 @@ loop-u-preserved c =
         c.loop-u.invariant.1,
         c.loop-u.invariant.0,
       ),
-      c.give_if-in-loop-u.auto.0 ∙ c.loop-u.invariant.2,
-      c.give_if.auto.0 ∙ c.loop-u.invariant.3,
+      c.give_if-in-loop-u.auto.to ∙ c.loop-u.invariant.2,
+      c.give_if.auto.to ∙ c.loop-u.invariant.3,
       ap₂ (λ (x y : ℕ). x + y) (ap₂ (λ (x y : ℕ). x + y)
           c.loop-u.invariant.4 e₁) e₂ ∙ (add_assoc _ _ _ ∙ sym bt),
       assign_step
@@ -67,14 +66,14 @@ loop-u-preserved c =
             c.requires.top_le_top_tier,
             c.requires.top_tier_in_bounds.2,
           ))
-          c.loop-u.invariant.4 refl (ap (λ (w : ℕ). get_or a.nums.now
+          c.loop-u.invariant.4 refl (ap (λ (w : ℕ). get_or c.args.nums.now
           (c.loop-u.j + w) 0) e₁)
           (c.give_if.ensures ∙ ap
           (λ (b : Bool). pick b (set c.loop-u.chain
-          c.loop-u.u (get_or a.nums.now
+          c.loop-u.u (get_or c.args.nums.now
           c.loop-u.j 0)) c.loop-u.chain)
           c.in_chain-c.ensures)
           (c.give_if-in-loop-u.ensures ∙ ap (λ (b : Bool). pick b
           (set c.loop-u.path c.loop-u.u
-          (get_or a.nums.now (c.loop-u.j + c.one_if-j.result) 0)) c.loop-u.path) c.on_path-p.ensures),
+          (get_or c.args.nums.now (c.loop-u.j + c.one_if-j.result) 0)) c.loop-u.path) c.on_path-p.ensures),
     )

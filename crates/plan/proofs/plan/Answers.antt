@@ -15,52 +15,52 @@ use Rattle.plan.proofs.PlanLaws.{low_tier, top_small, h_le_top, path_head, plann
 use Rattle.plan.proofs.plan.Goals as goal
 
 small : (c : goal.After-lowest_tier-arg-1) → c.args.heads.new ≤ top_tier
-small c = let p = c.requires in let q = p.1.1 in top_small p.well_formed (q.1.1 p.well_formed)
+small c = top_small c.requires.well_formed (c.requires.known c.requires.well_formed)
 
 small_2 : (c : goal.After-chained_of-chained) → c.args.heads.new ≤ top_tier
-small_2 c = let p = c.requires in let q = p.1.1 in top_small p.well_formed (q.1.1 p.well_formed)
+small_2 c = top_small c.requires.well_formed (c.requires.known c.requires.well_formed)
 
 small_3 : (c : goal.Else-not-enough) → c.args.heads.new ≤ top_tier
-small_3 c = let p = c.requires in let q = p.1.1 in top_small p.well_formed (q.1.1 p.well_formed)
+small_3 c = top_small c.requires.well_formed (c.requires.known c.requires.well_formed)
 
 small_4 : (c : goal.After-assign-arg-2-1) → c.args.heads.new ≤ top_tier
-small_4 c = let p = c.requires in let q = p.1.1 in top_small p.well_formed (q.1.1 p.well_formed)
+small_4 c = top_small c.requires.well_formed (c.requires.known c.requires.well_formed)
 
 small_5 : (c : goal.After-slice_known-7-1) → c.args.heads.new ≤ top_tier
-small_5 c = let p = c.requires in let q = p.1.1 in top_small p.well_formed (q.1.1 p.well_formed)
+small_5 c = top_small c.requires.well_formed (c.requires.known c.requires.well_formed)
 
 small_6 : (c : goal.After-slice_known-8-1) → c.args.heads.new ≤ top_tier
-small_6 c = let p = c.requires in let q = p.1.1 in top_small p.well_formed (q.1.1 p.well_formed)
+small_6 c = top_small c.requires.well_formed (c.requires.known c.requires.well_formed)
 
 below : (c : goal.After-lowest_tier-arg-1) → c.args.heads.old ≤ c.args.heads.new
-below c = let p = c.requires in let q = p.1.1 in h_le_top p.well_formed (q.1.1 p.well_formed)
+below c = h_le_top c.requires.well_formed (c.requires.known c.requires.well_formed)
 
 below_2 : (c : goal.Else-not-enough) → c.args.heads.old ≤ c.args.heads.new
-below_2 c = let p = c.requires in let q = p.1.1 in h_le_top p.well_formed (q.1.1 p.well_formed)
+below_2 c = h_le_top c.requires.well_formed (c.requires.known c.requires.well_formed)
 
 below_3 : (c : goal.After-slice_known-8-1) → c.args.heads.old ≤ c.args.heads.new
-below_3 c = let p = c.requires in let q = p.1.1 in h_le_top p.well_formed (q.1.1 p.well_formed)
+below_3 c = h_le_top c.requires.well_formed (c.requires.known c.requires.well_formed)
 
-chained_is : (c : goal.Then-not-enough) → let a = c.args in
-    c.chained_of-chained.result ≡ both (not (eqb a.heads.word 0)) (not (eqb (block a.target.order a.target.index) 0))
-chained_is c = let a = c.args in c.chained_of-chained.ensures ∙
-    ap (λ (b : Bool). both (not (eqb a.heads.word 0)) (not b)) c.starts_at_0.ensures
+chained_is : (c : goal.Then-not-enough) →
+    c.chained_of-chained.result ≡ both (not (eqb c.args.heads.word 0)) (not (eqb (block c.args.target.order c.args.target.index) 0))
+chained_is c = c.chained_of-chained.ensures ∙
+    ap (λ (b : Bool). both (not (eqb c.args.heads.word 0)) (not b)) c.starts_at_0.ensures
 
-chained_is_2 : (c : goal.After-slice_known-8-1) → let a = c.args in
-    c.chained_of-chained.result ≡ both (not (eqb a.heads.word 0)) (not (eqb (block a.target.order a.target.index) 0))
-chained_is_2 c = let a = c.args in c.chained_of-chained.ensures ∙
-    ap (λ (b : Bool). both (not (eqb a.heads.word 0)) (not b)) c.starts_at_0.ensures
+chained_is_2 : (c : goal.After-slice_known-8-1) →
+    c.chained_of-chained.result ≡ both (not (eqb c.args.heads.word 0)) (not (eqb (block c.args.target.order c.args.target.index) 0))
+chained_is_2 c = c.chained_of-chained.ensures ∙
+    ap (λ (b : Bool). both (not (eqb c.args.heads.word 0)) (not b)) c.starts_at_0.ensures
 
-chain_long : (c : goal.After-slice_known-8-1) → length c.assign.new.chain.1.0 ≡ length c.args.chain.now
-chain_long c = let a = c.args in c.assign.auto.1.1.0 ∙
-    length-set a.chain.now a.heads.old ( ( c)).node-number.result
+chain_long : (c : goal.After-slice_known-8-1) → length c.assign.new.chain ≡ length c.args.chain.now
+chain_long c = c.assign.auto.chain ∙
+    length-set c.args.chain.now c.args.heads.old c.node_number-first.result
 
 abbrev Drew : (c : goal.Then-not-enough) → WellFormed c.args.pool.now → Bool → Type 0
-Drew c s b = Draws s.places c.count_new-need.result c.draw-enough.new.nums.0 c.args.map.now
+Drew c s b = Draws s.places c.count_new-need.result c.draw-enough.new.nums c.args.map.now
     c.draw-enough.new.map b
 
 abbrev Drew_2 : (c : goal.After-slice_known-8-1) → WellFormed c.args.pool.now → Bool → Type 0
-Drew_2 c s b = Draws s.places c.count_new-need.result c.draw-enough.new.nums.0 c.args.map.now
+Drew_2 c s b = Draws s.places c.count_new-need.result c.draw-enough.new.nums c.args.map.now
     c.draw-enough.new.map b
 
 drew : (c : goal.Then-not-enough) (s : WellFormed c.args.pool.now) → Drew c s c.draw-enough.result
@@ -71,41 +71,36 @@ drew_2 c s = c.draw-enough.ensures s.places (places_fit s) (map_places s c.requi
 
 pub lowest_tier-d-requires-clause-v_lt_top : goal.lowest_tier-d-requires-clause-v_lt_top
 lowest_tier-d-requires-clause-v_lt_top c =
-    let z =  c in let p = z.requires in let t = p.storable in let q = p.1.1.1 in
-    (low_tier p.well_formed (q.1 p.well_formed), small z, below z, q.0.1)
+    (low_tier c.requires.well_formed (c.requires.known c.requires.well_formed), small c, below c, c.requires.word_value.1)
 
 pub lowest_tier-d-requires-clause-h_value : goal.lowest_tier-d-requires-clause-h_value
 lowest_tier-d-requires-clause-h_value c =
-    let z =  c in let p = z.requires in let t = p.storable in let q = p.1.1.1 in
     λ s. (
-      (q.1 s).h_is,
-      path_head s (q.1 s) q.0.0 c.node_number-first.ensures,
+      (c.requires.known s).h_is,
+      path_head s (c.requires.known s) c.requires.word_value.0 c.node_number-first.ensures,
     )
 
 pub count_new-need-requires : goal.count_new-need-requires
 count_new-need-requires c =
-    small_2 ( c)
+    small_2 c
 
 pub returns-then-not-enough : goal.returns-then-not-enough
 returns-then-not-enough c =
-    let t =  c in let n =  t in let f = n in let d =  f in
-    let p = t.requires in let q = p.1.1 in
-    λ s. planned_no s (q.1.1 s) q.1.0.0 (chained_is f) (d.lowest_tier-d.ensures s) n.count_new-need.ensures.0
-    (subst (Drew t s) c.if-not-enough.true (drew t s))
+    λ s. planned_no s (c.requires.known s) c.requires.word_value.0 (chained_is c) (c.lowest_tier-d.ensures s) c.count_new-need.ensures.0
+    (subst (Drew c s) c.if-not-enough.true (drew c s))
 
 pub offset_bounds-chain-h : goal.offset_bounds-chain-h
 offset_bounds-chain-h c =
-    let z =  c in omega (arith, below_2 z, small_3 z)
+    omega (arith, below_2 c, small_3 c)
 
 pub bounds-chain-h : goal.bounds-chain-h
 bounds-chain-h c =
-    let z =  c in omega (arith, z.requires.word_value.2, below_2 z, small_3 z)
+    omega (arith, c.requires.word_value.2, below_2 c, small_3 c)
 
 pub assign-requires-clause-top_le_top_tier : goal.assign-requires-clause-top_le_top_tier
 assign-requires-clause-top_le_top_tier c =
-    let t =  c in let z =  t in let p = z.requires.word_value in
-    let d =  ( t) in
-    small_4 z
+    let d =  c in
+    small_4 c
 
 pub offset_bounds-path-top : goal.offset_bounds-path-top
 offset_bounds-path-top c =
@@ -113,28 +108,25 @@ offset_bounds-path-top c =
 
 pub bounds-path-top : goal.bounds-path-top
 bounds-path-top c =
-    let x =  c in let t =  x in let z =  t in
     omega (
       arith,
-      x.assign.kept.1.0,
-      ( ( t)).lowest-tier.auto.1.0,
-      z.requires.word_value.1,
-      small_6 z,
+      c.assign.auto.path,
+      c.lowest_tier-d.auto.path,
+      c.requires.word_value.1,
+      small_6 c,
     )
 
 pub offset_bounds-chain-top : goal.offset_bounds-chain-top
 offset_bounds-chain-top c =
-    omega (arith, small_6 ( c))
+    omega (arith, small_6 c)
 
 pub bounds-chain-top : goal.bounds-chain-top
 bounds-chain-top c =
-    let x =  c in let z =  ( x) in
-    omega (arith, chain_long x, z.requires.word_value.2, small_6 z)
+    let z =  c in
+    omega (arith, chain_long c, z.requires.word_value.2, small_6 z)
 
 pub returns : goal.returns
 returns c =
-    let x =  c in let t =  x in let n =  t in let f = n in
-    let d =  f in let h =  d in let z =  h in let p = z.requires in let q = p.1.1 in
-    λ s. planned_yes s (q.1.1 s) q.1.0.0 (chained_is_2 f) (d.lowest_tier-d.ensures s) h.node_number-first.ensures
-    z.args.chain.now n.count_new-need.ensures.0 (subst (Drew_2 t s) x.if-not-enough.false (drew_2 t s))
-    x.assign.ensures (omega (arith, q.1.0.2, below_3 z, small_6 z)) (omega (arith, chain_long x, q.1.0.2, small_6 z))
+    λ s. planned_yes s (c.requires.known s) c.requires.word_value.0 (chained_is_2 c) (c.lowest_tier-d.ensures s) c.node_number-first.ensures
+    c.args.chain.now c.count_new-need.ensures.0 (subst (Drew_2 c s) c.if-not-enough.false (drew_2 c s))
+    c.assign.ensures (omega (arith, c.requires.word_value.2, below_3 c, small_6 c)) (omega (arith, chain_long c, c.requires.word_value.2, small_6 c))

@@ -1,7 +1,6 @@
 use Prim.Native.Nat.{◌-◌}
 use mathlib.Core.Path.{sym, ◌∙◌}
 use mathlib.Core.Bool.{false}
-use Rattle.blocks.proofs.BoolLaws.{not-false}
 use Rattle.plan.specs.Plan.{fits_run}
 use Rattle.plan.proofs.WalkLaws.{top_is}
 use Rattle.plan.proofs.top_of.Goals as goal
@@ -14,4 +13,4 @@ returns c =
       order_le = c.requires.order_le_max_order;
       is_new = new;
     }) _ _ e c.loop-t.invariant.0 c.loop-t.invariant.2
-    (sym c.fits_run.ensures ∙ not-false _ c.loop-t-test.false)
+    (sym c.fits_run.ensures ∙ c.loop-t-test.false)
