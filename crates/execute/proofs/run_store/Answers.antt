@@ -44,23 +44,23 @@ pub returns-clause-executes : goal.returns-clause-executes
 returns-clause-executes c =
     let z =  c in
 
-    let z.args.index< = z.ranges.index.fits in let z.args.word< = z.ranges.word.fits in
+    let index< = z.ranges.index.fits in let word< = z.ranges.word.fits in
     let e = sym c.is_enterable-enterable.ensures ∙ c.if-not-enterable.false in
     let al = sym c.is_aligned-aligned.ensures ∙ c.if-not-aligned.false in
     (λ s. by_t z.args.reserve
           (λ t. put_reserve z.args.index z.args.order z.args.word s t (words_stay s (c.put_reply.ensures.value t).1
           (reserves s z.args.index ((c.store-outcome.ensures.puts s).reserves (z.requires.order_value t).1) (c.put_reply.ensures.value t).0)))
           (λ f. let st = put_storable z.args.index z.args.order z.args.word e f in put_store z.args.index z.args.order z.args.word s f
-          (stores s z.args.index z.args.order z.args.word z.args.index< z.args.word< c.if-order-gt-MAX_ORDER.false st ((c.store-outcome.ensures.puts s).stores st) (c.put_reply.ensures.settles f) al)))
+          (stores s z.args.index z.args.order z.args.word index< word< c.if-order-gt-MAX_ORDER.false st ((c.store-outcome.ensures.puts s).stores st) (c.put_reply.ensures.settles f) al)))
 
 pub returns-clause-free_map_2 : goal.returns-clause-free_map_2
 returns-clause-free_map_2 c =
     let z =  c in
 
-    let z.args.index< = z.ranges.index.fits in let z.args.word< = z.ranges.word.fits in
+    let index< = z.ranges.index.fits in let word< = z.ranges.word.fits in
     let e = sym c.is_enterable-enterable.ensures ∙ c.if-not-enterable.false in
     let al = sym c.is_aligned-aligned.ensures ∙ c.if-not-aligned.false in
     by_t z.args.reserve (λ t. map_stays (c.put_reply.ensures.value t).1 c.store-outcome.ensures.free_map_2)
           (λ f. let st = put_storable z.args.index z.args.order z.args.word e f in
-          store_mapped z.requires.well_formed z.args.index z.args.order z.args.word z.args.index< z.args.word< c.if-order-gt-MAX_ORDER.false st ((c.store-outcome.ensures.puts z.requires.well_formed).stores st) (c.put_reply.ensures.settles f)
+          store_mapped z.requires.well_formed z.args.index z.args.order z.args.word index< word< c.if-order-gt-MAX_ORDER.false st ((c.store-outcome.ensures.puts z.requires.well_formed).stores st) (c.put_reply.ensures.settles f)
           c.store-outcome.ensures.free_map_2)
