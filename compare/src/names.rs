@@ -217,7 +217,9 @@ impl Asked {
         let without = state.list.keys().map(|key| vec![key]);
         for keys in halves.into_iter().filter(|_| many > 4).chain(without) {
             let mut list = state.list.clone();
-            keys.into_iter().for_each(|key| drop(list.remove(key)));
+            for key in keys {
+                list.remove(key);
+            }
             let count = (blocks(&list) + spare).max(1);
             let state = State::empty(count).change_to(list).expect("blocks enough");
             smaller.extend(self.with(state, *damage));
