@@ -2,7 +2,7 @@
 """respell_pages.py: brings the names in backticks of the documents to the spelling that respell.py gave the crates, once.
 
 A name is turned where nothing in crates/ is called so any more and its new name of respell.tsv, or of port.py, is declared. Of CHANGES.md the newest note alone
-is turned, and docs/HISTORY.md and the draft of rules not at all: they speak of what was there then.
+is turned, and docs/HISTORY.md not at all: they speak of what was there then.
 """
 import importlib.machinery, importlib.util, os, re
 
@@ -30,7 +30,7 @@ def page(text):
 
 
 for path in documents["documents"](HERE):
-    if path in ("docs/HISTORY.md", "docs/P10-rules-draft.md", "docs/PORT.md"):
+    if path in ("docs/HISTORY.md", "docs/PORT.md"):
         continue
     old = documents["read"](HERE, path)
     note = documents["newest_note"](old) if path == "CHANGES.md" else old
