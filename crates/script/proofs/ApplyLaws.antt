@@ -1,5 +1,5 @@
 -- A script read pair by pair, and what applying it answers.
-use Prim.Native.Nat.{ℕ, zero, suc, ◌+◌, ◌*◌, ◌-◌, ◌%◌, ◌≤◌, ◌<◌}
+use Prim.Native.Nat.{ℕ, zero, suc, ◌+◌, ◌*◌, ◌%◌, ◌≤◌, ◌<◌}
 use mathlib.Core.Path.{◌≡◌, refl, sym, ap, ◌∙◌}
 use mathlib.Core.Bool.{true, false}
 use mathlib.Core.List.{List, [], ◌∷◌}
@@ -15,7 +15,7 @@ use Rattle.layout.specs.Decide.{node_count, is_sized}
 use Rattle.decode.proofs.DecideLaws.{sized_is, is_sized_lem}
 use Rattle.verify.proofs.AnswerLaws.{not_sized}
 use Rattle.script.specs.Script.{applied, places_below, apply_answer, apply_words}
-use Rattle.script.specs.Claims.{OutsideAt, ApplyRow, wrong_size, half_pair, place_out, written}
+use Rattle.script.specs.Claims.{ApplyRow, wrong_size, half_pair, place_out, written}
 
 module _ (ss : List ℕ) (t : ℕ) (h : t + 2 ≤ length ss) where
   pair : drop t ss ≡ get_or ss t 0 ∷ get_or ss (t + 1) 0 ∷ drop (t + 2) ss

@@ -1,7 +1,6 @@
 -- Scripts in numbers: what comes out stands here.
-use Prim.Native.Nat.{ℕ}
 use mathlib.Core.Path.{◌≡◌, refl}
-use mathlib.Core.List.{List, [], ◌∷◌}
+use mathlib.Core.List.{[], ◌∷◌}
 use lib.ListN.{replicate}
 use Rattle.script.specs.Script.{script_from, script, applied, apply_answer}
 use Rattle.script.specs.Claims.{cut_off, wrote_some}

@@ -1,5 +1,5 @@
 -- What R321 to R328 say of scripts, of applying and of power cuts, one by one. Assumes nothing: these are definitions.
-use Rattle.std.specs.Prelude.{ℕ, zero, suc, ◌+◌, ◌*◌, ◌%◌, ◌≤◌, ◌<◌, ◌≡◌, true, false, List, [], ◌∷◌, eqb, length, get_or, set}
+use Rattle.std.specs.Prelude.{ℕ, zero, suc, ◌+◌, ◌*◌, ◌%◌, ◌≤◌, ◌<◌, ◌≡◌, List, [], ◌∷◌, eqb, length, get_or, set}
 use Rattle.blocks.specs.Choice.{pick}
 use Rattle.layout.specs.WellFormed.{Sized}
 use Rattle.script.specs.Script.{applied}

@@ -1,23 +1,23 @@
 -- The tree after a change of one range: each slot and each mark by where its block lies, and which nodes of the path
 -- are there.
-use Prim.Native.Nat.{ℕ, suc, ◌+◌, ◌*◌, ◌/◌, ◌%◌, ◌^◌, ◌≤◌, ◌<◌}
-use mathlib.Core.Path.{◌≡◌, refl, sym, ap, subst, ◌∙◌}
+use Prim.Native.Nat.{ℕ, suc, ◌+◌, ◌*◌, ◌%◌, ◌^◌, ◌≤◌, ◌<◌}
+use mathlib.Core.Path.{◌≡◌, refl, sym, subst, ◌∙◌}
 use mathlib.Core.Bool.{Bool, true, false, not}
 use mathlib.Core.List.{List}
 use mathlib.Core.Option.{Option, none, some}
 use native.Mathlib.Omega.{arith}
-use lib.Dec.{ltb, eqb}
+use lib.Dec.{eqb}
 use borrow.Author.Tests.{eqb-true, eq-eqb, ne_eqb, lt-ltb, le-ltb}
 use Rattle.blocks.specs.Choice.{pick, both}
 use Rattle.blocks.specs.Lists.{any, All, In}
-use Rattle.blocks.specs.Blocks.{block, bits_to, count_to}
-use Rattle.blocks.proofs.BoolLaws.{clash, by_t, is_false, iff, not-true, not-false}
+use Rattle.blocks.specs.Blocks.{block, bits_to}
+use Rattle.blocks.proofs.BoolLaws.{clash, by_t, not-false}
 use Rattle.blocks.proofs.ListLaws.{first_yes, each, in_any}
 use Rattle.blocks.proofs.BlockLaws.{block_at, block_up}
 use Rattle.blocks.proofs.CountLaws.{count_none, count_zero}
 use Rattle.model.specs.declared.Entry.{Entry}
-use Rattle.model.specs.Model.{Valid, covers, covering, starts, within, has_mark}
-use Rattle.model.proofs.RangeLaws.{Apart, Inside, InRun}
+use Rattle.model.specs.Model.{Valid, covers, starts, within, has_mark}
+use Rattle.model.proofs.RangeLaws.{Apart, Inside}
 use Rattle.model.proofs.ValidLaws.{sole, sorted_ok}
 use Rattle.tree.specs.Tree.{slots, tier_order, slot_mark}
 use Rattle.tree.specs.Slots.{Numbering, slot, entry_word, node_word}

@@ -1,6 +1,6 @@
 -- Every changing command makes one aligned range of the list hold one entry of the range's order, or nothing; all else
 -- stays.
-use Prim.Native.Nat.{ℕ, ◌*◌, ◌^◌, ◌≤◌}
+use Prim.Native.Nat.{ℕ, ◌*◌, ◌^◌}
 use mathlib.Core.Path.{◌≡◌, refl, sym, ap, subst, ◌∙◌}
 use mathlib.Core.Bool.{Bool, true, false}
 use mathlib.Core.List.{List, map}
@@ -29,11 +29,11 @@ use Rattle.model.specs.Model.{
 }
 use Rattle.model.specs.ByBlock.{clear, new_entry, store_new}
 use Rattle.model.proofs.AlignedLaws.{store_is, bare_is}
-use Rattle.model.proofs.RangeLaws.{Room, InRun, Inside, covers_order, clear_inside, clear_uncovered}
+use Rattle.model.proofs.RangeLaws.{Room, covers_order, clear_inside, clear_uncovered}
 use Rattle.model.proofs.ValidLaws.{room, room_some, sole, sorted_ok, unique, covers_self, erase_clear}
 use Rattle.tree.proofs.RelabelLaws.{map_o, any_map, covering_map}
 use Rattle.tree.proofs.StoreLaws.{store_inside, store_covering}
-use Rattle.script_rows.specs.Becomes.{any_in, Seated, Becomes}
+use Rattle.script_rows.specs.Becomes.{Seated, Becomes}
 use Rattle.execute.proofs.LocalLaws.{
   Agree,
   Only,

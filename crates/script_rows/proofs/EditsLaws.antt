@@ -1,24 +1,19 @@
 -- The commands as edits: where the path's numbers come from, and that each row begins right.
-use Prim.Native.Nat.{ℕ, suc, ◌+◌, ◌*◌, ◌/◌, ◌^◌, ◌≤◌, ◌<◌}
+use Prim.Native.Nat.{ℕ, suc, ◌+◌, ◌/◌, ◌≤◌, ◌<◌}
 use mathlib.Core.Path.{◌≡◌, refl, sym, ap, subst, ◌∙◌}
-use mathlib.Core.Bool.{Bool, true, false}
+use mathlib.Core.Bool.{true, false}
 use mathlib.Core.List.{List}
-use mathlib.Core.Option.{Option, none, some}
+use mathlib.Core.Option.{Option, none}
 use native.Mathlib.Omega.{arith}
 use lib.ListN.{get_or}
-use lib.Dec.{leb}
-use borrow.Author.Tests.{le-leb}
-use Rattle.blocks.specs.Choice.{both}
-use Rattle.blocks.specs.Lists.{any}
 use Rattle.blocks.specs.Blocks.{block}
-use Rattle.blocks.proofs.BoolLaws.{by_t, both_yes, clash, is_false}
+use Rattle.blocks.proofs.BoolLaws.{by_t, clash, is_false}
 use Rattle.model.specs.declared.Entry.{Entry}
-use Rattle.model.specs.Model.{Valid, within}
-use Rattle.model.proofs.RangeLaws.{Apart}
-use Rattle.tree.specs.Tree.{slots, slot_bits, tier_order, height, has, needed}
+use Rattle.model.specs.Model.{Valid}
+use Rattle.tree.specs.Tree.{slot_bits, tier_order, height, has, needed}
 use Rattle.tree.specs.Slots.{Numbering}
 use Rattle.tree.proofs.NodeListLaws.{has_in}
-use Rattle.layout.specs.Places.{Places, number_in, free_count, new_places}
+use Rattle.layout.specs.Places.{number_in, free_count, new_places}
 use Rattle.layout.specs.WellFormed.{WellFormed, num}
 use Rattle.layout.proofs.NewNumberLaws.{kept, was_not, new_at}
 use Rattle.plan.specs.Plan.{Walked}

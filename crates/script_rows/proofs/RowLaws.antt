@@ -1,7 +1,7 @@
 -- The rows of the path: a node's words right apart from the range, and then the range put in.
 use Prim.Native.Nat.{ℕ, suc, ◌+◌, ◌*◌, ◌-◌, ◌/◌, ◌%◌, ◌^◌, ◌≤◌, ◌<◌}
-use mathlib.Core.Path.{◌≡◌, refl, sym, ap, ap₂, subst, ◌∙◌}
-use mathlib.Core.Bool.{Bool, true, false, not}
+use mathlib.Core.Path.{◌≡◌, refl, sym, ap, subst, ◌∙◌}
+use mathlib.Core.Bool.{true, false, not}
 use mathlib.Core.List.{List}
 use mathlib.Core.Option.{Option, none, some}
 use native.Mathlib.Omega.{arith}
@@ -9,11 +9,11 @@ use native.Mathlib.Numerals.{add-one}
 use native.Mathlib.Nat.{zero-div}
 use lib.Dec.{leb, ltb, eqb}
 use lib.ListN.{get_or}
-use borrow.Author.Tests.{leb-true, leb-false, ltb-true, ltb-false, eqb-true, eqb-false, eq-eqb, ne_eqb, lt-ltb, le-leb, lt-leb, le-ltb}
+use borrow.Author.Tests.{leb-true, leb-false, ltb-true, ltb-false, eqb-true, eqb-false, eq-eqb, ne_eqb, lt-ltb, le-leb}
 use Rattle.blocks.specs.Choice.{pick, both}
 use Rattle.blocks.specs.Lists.{any, All}
-use Rattle.blocks.specs.Blocks.{block, bit, bits_to}
-use Rattle.blocks.proofs.BoolLaws.{clash, by_t, both_l, both_r}
+use Rattle.blocks.specs.Blocks.{block, bit}
+use Rattle.blocks.proofs.BoolLaws.{by_t, both_l, both_r}
 use Rattle.blocks.proofs.BitLaws.{bits_same, bits_none}
 use Rattle.blocks.proofs.BlockLaws.{block_at, block_block}
 use Rattle.blocks.proofs.ListLaws.{look}
@@ -23,7 +23,7 @@ use Rattle.model.proofs.RangeLaws.{Apart, Inside, apart_up}
 use Rattle.model.proofs.ValidLaws.{sorted_ok}
 use Rattle.model.proofs.WordLaws.{word_kind}
 use Rattle.tree.specs.Tree.{slots, slot_bits, tier_order, slot_mark, has, Node}
-use Rattle.tree.specs.Slots.{Numbering, slot, entry_word, node_word, sibling_word}
+use Rattle.tree.specs.Slots.{Numbering, slot, entry_word, node_word}
 use Rattle.tree.proofs.SlotLaws.{tier_up, empty_node, empty_marks}
 use Rattle.layout.specs.Words.{place, mark_place, slot_place, slot_field, mark_field, IsField, filled_of, field, field_under, owner_under, field_at}
 use Rattle.layout.specs.WellFormed.{WellFormed, num}

@@ -9,7 +9,7 @@ use lib.ListN.{length, get_or, set, length-set}
 use lib.Seq.{get_or-set_same, get_or-set_other}
 use mir.Val.{bool_byte}
 use native.Mathlib.Numerals.{add-one}
-use borrow.Author.Tests.{leb-true, leb-false, ltb-true, ltb-false, eqb-true, eqb-false, eq-eqb, ne_eqb, lt-ltb, le-leb, lt-leb, le-ltb}
+use borrow.Author.Tests.{leb-true, ltb-true, ltb-false, eqb-true, eqb-false, eq-eqb, ne_eqb, lt-ltb, le-leb, le-ltb}
 use Rattle.blocks.specs.Choice.{pick, both}
 use Rattle.blocks.specs.Blocks.{bit, set_bit, bits_to, count_to}
 use Rattle.blocks.proofs.BoolLaws.{by_t, both_l, both_r}
@@ -17,25 +17,12 @@ use Rattle.blocks.proofs.BitLaws.{bits_same}
 use Rattle.model.specs.Model.{mark_count}
 use Rattle.tree.specs.Tree.{slots}
 use Rattle.tree.specs.Slots.{sibling_word}
-use Rattle.layout.specs.Words.{
-  place,
-  pool_words,
-  node_words,
-  node_end,
-  last_place,
-  shift_place,
-  owner_place,
-  filled_place,
-  mark_place,
-  slot_place,
-  filled_of,
-  IsField,
-}
+use Rattle.layout.specs.Words.{place, pool_words, node_words, node_end, last_place, shift_place, owner_place, filled_place, mark_place, slot_place}
 use Rattle.words.specs.Fill.{filled}
 use Rattle.words.proofs.FillLaws.{length_filled, filled_before, filled_after, filled_in_lem}
 use Rattle.layout.proofs.FieldLaws.{filled_same}
 use Rattle.marks.proofs.BitSetLaws.{set_bits}
-use Rattle.script_rows.specs.Row.{in_run, run_word, OtherRows, Copies, BitsPut, RunPut, Finishes, marks_up, AnchorPut}
+use Rattle.script_rows.specs.Row.{in_run, run_word, Copies, BitsPut, RunPut, Finishes, marks_up, AnchorPut}
 
 pub in_yes : (a c j : ℕ) → a ≤ j → j < a + c → in_run a c j ≡ true
 in_yes a c j h g = rw (le-leb a j h, lt-ltb j (a + c) g) refl

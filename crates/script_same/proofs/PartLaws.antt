@@ -1,23 +1,21 @@
 -- Any command: where every node of its part has a row with that node's final words, and every other number stays out of
 -- the part (R39), the rows are a table of the words after it. What stays is the footprint's law.
-use Prim.Native.Nat.{ℕ, ◌+◌, ◌*◌, ◌-◌, ◌/◌, ◌%◌, ◌<◌}
-use mathlib.Core.Path.{◌≡◌, refl, sym, ap, subst, ◌∙◌}
-use mathlib.Core.Bool.{Bool, true, false}
+use Prim.Native.Nat.{ℕ, ◌-◌, ◌/◌, ◌%◌, ◌<◌}
+use mathlib.Core.Path.{◌≡◌, sym, ◌∙◌}
+use mathlib.Core.Bool.{true, false}
 use mathlib.Core.List.{List}
-use mathlib.Core.Option.{Option, none, some}
+use mathlib.Core.Option.{none}
 use native.Mathlib.Omega.{arith}
 use lib.Dec.{ltb}
-use lib.ListN.{length, get_or}
+use lib.ListN.{get_or}
 use borrow.Author.Tests.{le-ltb}
 use Rattle.model.specs.declared.Entry.{Entry}
-use Rattle.model.specs.Model.{Valid, aligned}
-use Rattle.tree.specs.Tree.{Node}
-use Rattle.layout.specs.Words.{anchor_words, node_words, node_of, field_in, place, IsField, field_at}
-use Rattle.layout.specs.Places.{Places, new_places, number_in, word_at, render}
+use Rattle.model.specs.Model.{aligned}
+use Rattle.layout.specs.Words.{anchor_words, node_words, place, IsField, field_at}
+use Rattle.layout.specs.Places.{Places, new_places, number_in, render}
 use Rattle.layout.specs.WellFormed.{WellFormed, num}
 use Rattle.layout.proofs.RenderWordLaws.{render_node, pool_node, pool_length_lem}
-use Rattle.execute.specs.State.{State}
-use Rattle.execute.specs.Part.{Range, node_part, in_part}
+use Rattle.execute.specs.Part.{Range, node_part}
 use Rattle.execute.specs.Promised.{state_of}
 use Rattle.execute.specs.State.{Kept}
 use Rattle.execute.proofs.LocalLaws.{Agree}

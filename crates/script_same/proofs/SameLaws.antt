@@ -1,13 +1,13 @@
 -- The rows of the path, the anchor and the numbers of a command that leaves the nodes make a table.
-use Prim.Native.Nat.{ℕ, zero, suc, ◌+◌, ◌*◌, ◌-◌, ◌/◌, ◌≤◌, ◌<◌}
+use Prim.Native.Nat.{ℕ, zero, suc, ◌+◌, ◌/◌, ◌≤◌, ◌<◌}
 use mathlib.Core.Path.{◌≡◌, refl, sym, ap, subst, ◌∙◌}
-use mathlib.Core.Bool.{Bool, true, false}
+use mathlib.Core.Bool.{true}
 use mathlib.Core.List.{List}
-use mathlib.Core.Option.{Option, none, some}
+use mathlib.Core.Option.{Option}
 use native.Mathlib.Omega.{arith}
 use native.Mathlib.Nat.{le_refl}
 use lib.Dec.{eqb}
-use lib.ListN.{length, get_or, set, length-set}
+use lib.ListN.{length, get_or, set}
 use lib.Seq.{get_or-set_same, get_or-set_other}
 use borrow.Author.Tests.{eqb-true, eqb-false}
 use Rattle.blocks.specs.Blocks.{block}
@@ -17,7 +17,7 @@ use Rattle.model.specs.Model.{Valid}
 use Rattle.tree.specs.Tree.{slot_bits, top_tier, tier_order, height, has}
 use Rattle.tree.proofs.NodeListLaws.{has_within}
 use Rattle.tree.proofs.HeightLaws.{height_most}
-use Rattle.layout.specs.Words.{anchor_words, place, pool_words, last_place, IsField, max_nodes}
+use Rattle.layout.specs.Words.{anchor_words, place, pool_words, last_place, max_nodes}
 use Rattle.layout.specs.Places.{new_places, render}
 use Rattle.layout.specs.WellFormed.{WellFormed, num}
 use Rattle.layout.proofs.RenderWordLaws.{slot_node, render_anchor, pool_anchor, pool_head, pool_length_lem, node_of}
@@ -28,7 +28,6 @@ use Rattle.script_rows.proofs.AnchorLaws.{anchor_marks}
 use Rattle.script_rows.proofs.EditsLaws.{edits_old}
 use Rattle.script_table.specs.Table.{row_count, Tables}
 use Rattle.script_same.proofs.TableLaws.{tables_same}
-use Rattle.blocks.specs.Lists.{any}
 use Rattle.blocks.proofs.ListLaws.{any_in_lem, look}
 use Rattle.model.specs.Model.{within, marks_of}
 use Rattle.tree.proofs.StoreLaws.{within_only}

@@ -1,25 +1,24 @@
 -- A command that leaves the nodes as they are (mark, unmark, a store onto an entry): the rows of the path and the anchor
 -- are a table of the words after it.
-use Prim.Native.Nat.{ℕ, zero, suc, ◌+◌, ◌*◌, ◌/◌, ◌^◌, ◌≤◌, ◌<◌}
+use Prim.Native.Nat.{ℕ, zero, suc, ◌/◌, ◌≤◌, ◌<◌}
 use mathlib.Core.Path.{◌≡◌, refl, sym, ap, subst, ◌∙◌}
-use mathlib.Core.Bool.{Bool, true, false}
+use mathlib.Core.Bool.{true}
 use mathlib.Core.List.{List}
 use mathlib.Core.Option.{Option, none, some}
 use native.Mathlib.Omega.{arith}
 use native.Mathlib.Nat.{le_refl}
-use lib.ListN.{length, get_or}
-use Rattle.blocks.specs.Lists.{any, All}
+use lib.ListN.{get_or}
 use Rattle.blocks.specs.Blocks.{block}
 use Rattle.blocks.proofs.BoolLaws.{clash}
 use Rattle.blocks.proofs.ListLaws.{any_in_lem, look}
 use Rattle.model.specs.declared.Entry.{Entry}
-use Rattle.model.specs.Model.{Valid, within}
+use Rattle.model.specs.Model.{within}
 use Rattle.model.proofs.RangeLaws.{Apart}
 use Rattle.tree.specs.Tree.{slot_bits, tier_order, height, has, Node}
 use Rattle.tree.proofs.HeightLaws.{height_fits, fits_base}
 use Rattle.tree.proofs.NodeListLaws.{has_within, has_tier}
 use Rattle.tree.proofs.StoreLaws.{within_only}
-use Rattle.layout.specs.Words.{anchor_words, place, IsField, field, field_at, field_under}
+use Rattle.layout.specs.Words.{anchor_words, IsField, field, field_at, field_under}
 use Rattle.layout.specs.Places.{Places, new_places, render, number_in}
 use Rattle.layout.specs.WellFormed.{WellFormed, num}
 use Rattle.layout.proofs.RenderWordLaws.{render_node, pool_node, pool_length_lem, place_of, node_of}

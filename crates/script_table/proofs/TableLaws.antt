@@ -1,16 +1,14 @@
 -- The script by nodes: those without a row are passed at once.
-use Prim.Native.Nat.{ℕ, zero, suc, ◌+◌, ◌*◌, ◌-◌, ◌≤◌, ◌<◌}
+use Prim.Native.Nat.{ℕ, zero, suc, ◌+◌, ◌-◌, ◌≤◌, ◌<◌}
 use mathlib.Core.Path.{◌≡◌, refl, sym, ap, subst, ◌∙◌}
-use mathlib.Core.Bool.{Bool, true, false}
 use mathlib.Core.List.{List}
 use native.Mathlib.Omega.{arith}
-use native.Mathlib.Numerals.{add-one}
-use lib.Dec.{ltb, eqb}
+use lib.Dec.{eqb}
 use lib.ListN.{length, get_or, set}
-use borrow.Author.Tests.{eqb-true, eqb-false, ltb-true, ltb-false}
+use borrow.Author.Tests.{eqb-true, eqb-false}
 use Rattle.blocks.specs.Choice.{pick}
 use Rattle.blocks.proofs.BoolLaws.{by_t}
-use Rattle.layout.specs.Words.{anchor_words, node_words, pool_words, place, node_of, field_in, IsField}
+use Rattle.layout.specs.Words.{anchor_words, node_words, pool_words, place, node_of, field_in}
 use Rattle.script.specs.Script.{script_from, script}
 use Rattle.script_table.proofs.LaidLaws.{next_same, next_pair, laid_pair, laid_none, script_end, script_start}
 use Rattle.script_table.specs.Table.{laid, row_count, Tables, Agrees, NextNumber, Wrote}

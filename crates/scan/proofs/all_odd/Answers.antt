@@ -1,4 +1,3 @@
-use Prim.Native.Nat.{◌-◌}
 use native.Mathlib.Omega.{arith}
 use Rattle.layout.specs.Pool.{pool_of}
 use Rattle.scan.proofs.TallyLaws.{odd_next}

@@ -1,8 +1,7 @@
 use mathlib.Core.Path.{sym, ap, ◌∙◌}
 use native.Mathlib.Omega.{arith}
-use Prim.Native.Nat.{◌-◌}
 use Rattle.layout.specs.Pool.{slot_of}
-use Rattle.steps.proofs.DecideLaws.{no!}
+use Rattle.steps.proofs.DecideLaws.{no! }
 use Rattle.steps.proofs.WordLaws.{among_clear, clear_among}
 use Rattle.scan.proofs.FilledLaws.{gap_clear}
 use Rattle.steps.proofs.StepLaws.{step_child, child_bad}
@@ -23,8 +22,8 @@ returns-then-o-eq-SLOTS c =
 
 pub returns-then-not-child_ok : goal.returns-then-not-child_ok
 returns-then-not-child_ok c =
-    let r =  c in
-    let e =  r in
+    let r = c in
+    let e = r in
     no! (λ s. child_bad _ _ _ _ _
     (sym (ap slot_of r.slot_word.ensures) ∙ sym r.read_slot-s.ensures ∙ c.in-Child.is)
     (omega (arith, e.next_marked-o.ensures.most))
@@ -32,8 +31,8 @@ returns-then-not-child_ok c =
 
 pub loop-j-preserved-in-Child : goal.loop-j-preserved-in-Child
 loop-j-preserved-in-Child c =
-    let r =  c in
-    let e =  r in
+    let r = c in
+    let e = r in
     let g = tallied_past _ _ _ _ _ e.filled_slots-f.ensures
     e.all_marks-m.ensures _ _ _ e.loop-j.invariant
     (among_clear _ _ (omega arith) e.if-f-m-ne0.false) e.next_marked-o.ensures in
@@ -46,12 +45,12 @@ loop-j-preserved-in-Child c =
 
 pub step-p-requires : goal.step-p-requires
 step-p-requires c =
-    let e =  c in
+    let e = c in
     let g = tallied_past _ _ _ _ _ e.filled_slots-f.ensures
     e.all_marks-m.ensures _ _ _ e.loop-j.invariant
     (among_clear _ _ (omega arith) e.if-f-m-ne0.false) e.next_marked-o.ensures in
     record {
-      fact_1 = ( ( e)).requires.fact_1;
+      fact_1 = ((e)).requires.fact_1;
       fact_2 = (omega (arith, g.gone.inside), omega arith);
       fact_3 = e.all_marks-m.ensures;
       fact_4 = g.gone.past;
@@ -59,7 +58,7 @@ step-p-requires c =
 
 pub loop-j-preserved : goal.loop-j-preserved
 loop-j-preserved c =
-    let e =  c in
+    let e = c in
     let g = tallied_past _ _ _ _ _ e.filled_slots-f.ensures
     e.all_marks-m.ensures _ _ _ e.loop-j.invariant
     (among_clear _ _ (omega arith) e.if-f-m-ne0.false) e.next_marked-o.ensures in

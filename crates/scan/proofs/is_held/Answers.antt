@@ -1,7 +1,7 @@
 -- `is_held`: whether a word is an entry's.
 use Rattle.layout.specs.declared.Slot.TheVariants.{Held}
 use Rattle.layout.proofs.SaysLaws.{said, word_of_lem}
-use Rattle.steps.proofs.DecideLaws.{yes!, no!}
+use Rattle.steps.proofs.DecideLaws.{yes!, no! }
 use Rattle.scan.proofs.is_held.Goals as goal
 
 pub returns-then-w-eq0 : goal.returns-then-w-eq0

@@ -2,7 +2,7 @@
 use mathlib.Core.Path.{refl}
 use mathlib.Core.Bool.{true}
 use native.Mathlib.Omega.{arith}
-use Rattle.steps.proofs.DecideLaws.{yes!, no!}
+use Rattle.steps.proofs.DecideLaws.{yes!, no! }
 use Rattle.scan.proofs.PlainLaws.{plain_yes, plain_none, plain_end}
 use Rattle.scan.proofs.TallyLaws.{full_tight}
 use Rattle.scan.proofs.plain_ok.Goals as goal
@@ -15,13 +15,13 @@ returns-then-not-below_end c =
 
 pub returns-then-m-eq0 : goal.returns-then-m-eq0
 returns-then-m-eq0 c =
-    let s =  c in
+    let s = c in
     yes! (plain_none s.args.pool.now s.args.n _ (s.requires.fact_3.plain s.requires.fact_4) c.all_marks-m.result (omega arith)
     (c.below_end.ensures.0 c.if-not-below_end.false) c.all_marks-m.ensures c.if-m-eq0.true)
 
 pub returns-then-c-eq-SLOTS : goal.returns-then-c-eq-SLOTS
 returns-then-c-eq-SLOTS c =
-    let s =  c in
+    let s = c in
     let m = c.all_marks-m.result in
     yes! ((plain_yes s.args.pool.now s.args.n _ (s.requires.fact_3.plain s.requires.fact_4) true m (omega arith)
     (c.below_end.ensures.0 c.if-not-below_end.false) c.all_marks-m.ensures
@@ -29,7 +29,7 @@ returns-then-c-eq-SLOTS c =
 
 pub returns : goal.returns
 returns c =
-    let s =  c in
+    let s = c in
     plain_yes s.args.pool.now s.args.n _ (s.requires.fact_3.plain s.requires.fact_4) _ c.all_marks-m.result (omega arith)
     (c.below_end.ensures.0 c.if-not-below_end.false)
     c.all_marks-m.ensures c.none_loose.ensures

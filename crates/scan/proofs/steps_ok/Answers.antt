@@ -1,5 +1,4 @@
 use native.Mathlib.Omega.{arith}
-use Prim.Native.Nat.{◌-◌}
 use Rattle.scan.proofs.TallyLaws.{tallied_on, all_tallied}
 use Rattle.scan.proofs.steps_ok.Goals as goal
 

@@ -1,11 +1,7 @@
 -- `used_from`: whether a slot from the given one on is in use.
-use native.Mathlib.Omega.{arith}
 use Rattle.scan.proofs.PlainLaws.{used_decides}
 use Rattle.scan.proofs.used_from.Goals as goal
 
 pub returns : goal.returns
 returns c =
     used_decides c.args.pool.now c.args.n _ c.args.from c.blank_slots.ensures
-
-    pub used-from-spec : {M : Type 1} → statement M
-    used-from-spec = tie.close (tie.spec (λ c κs. omega arith) returns)
