@@ -25,12 +25,10 @@ returns-then-not-aligned-clause-executes c =
 pub returns-then-not-enterable-clause-executes : goal.returns-then-not-enterable-clause-executes
 returns-then-not-enterable-clause-executes c =
     let z =  c in
-
-    let al = sym c.is_aligned-aligned.ensures ∙ c.if-not-aligned.false in
     let e = sym c.is_enterable-enterable.ensures ∙ c.if-not-enterable.true in
     let (f, w) = put_word z.args.index z.args.order z.args.word {b = z.args.reserve} e in
     (λ s. put_store z.args.index z.args.order z.args.word s f
-          (leaves s (Store _ _ _) (store_word s.n s.list _ _ _ c.if-order-gt-MAX_ORDER.false al w) c.answered-then-not-enterable.ensures))
+          (leaves s (Store _ _ _) (store_word s.n s.list _ _ _ c.if-order-gt-MAX_ORDER.false (sym c.is_aligned-aligned.ensures ∙ c.if-not-aligned.false) w) c.answered-then-not-enterable.ensures))
 
 pub put_reply-requires : goal.put_reply-requires
 put_reply-requires c =

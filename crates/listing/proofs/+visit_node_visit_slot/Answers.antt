@@ -100,7 +100,7 @@ visit_slot-entry_at-requires-clause-n_in_bounds t c =
     let a = c.args in
     let w = seen_entry s a.v a.c _ (ap (λ (x : ℕ). a.c * x) c.pow2-w.ensures)
     (c.look-seen.ensures s)
-    (c.in-Shows.is ∙ ap Shows c.if-d-c.false) in
+    (cc) in
     (node_fits_lem s w.at_node_lem).0
 
 pub visit_slot-offer-requires-clause-k_bound : goal.visit_slot-offer-requires-clause-k_bound
@@ -114,7 +114,7 @@ visit_slot-offer-requires-clause-order_le_max_order t c =
     let a = c.args in
     let w = seen_entry s a.v a.c _ (ap (λ (x : ℕ). a.c * x) c.pow2-w.ensures)
     (c.look-seen.ensures s)
-    (c.in-Shows.is ∙ ap Shows c.if-d-c.false) in
+    (cc) in
     let e = c.entry_at.ensures s w.entry w.at_node_lem w.stands in
     rw e w.order_le
 
@@ -124,7 +124,7 @@ visit_slot-offer-requires-clause-order_bound t c =
     let a = c.args in
     let w = seen_entry s a.v a.c _ (ap (λ (x : ℕ). a.c * x) c.pow2-w.ensures)
     (c.look-seen.ensures s)
-    (c.in-Shows.is ∙ ap Shows c.if-d-c.false) in
+    (cc) in
     let e = c.entry_at.ensures s w.entry w.at_node_lem w.stands in
     rw e w.ends
 
