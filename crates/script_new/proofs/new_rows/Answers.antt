@@ -61,12 +61,12 @@ anchor_row-requires c =
     let np = c.requires.new_planned c.requires.well_formed in (
       omega (arith, pool_length_lem c.requires.well_formed),
       omega (
-    arith,
-    top_le c.requires.well_formed np,
-    c.requires.row_count_in_bounds.0,
-    c.chain_rows.auto.rows,
-    c.put_rows.auto.rows,
-    c.begin_new.auto.rows,
+        arith,
+        top_le c.requires.well_formed np,
+        c.requires.row_count_in_bounds.0,
+        c.chain_rows.auto.rows,
+        c.put_rows.auto.rows,
+        c.begin_new.auto.rows,
       ),
     )
 
