@@ -19,7 +19,7 @@ fn main() {
     let Some(library) = places.iter().find(|place| place.is_file()) else {
         eprintln!("no library {NAME}; looked for:");
         places.iter().for_each(|place| eprintln!("  {}", place.display()));
-        eprintln!("run 'rt staticlib xapool' in the project, or name the file by XAPOOL_LIB");
+        eprintln!("run 'scripts/library' in the project, or name the file by XAPOOL_LIB");
         exit(1);
     };
     let out = PathBuf::from(env::var_os("OUT_DIR").unwrap_or_default());

@@ -28,8 +28,8 @@ extern "C" {
 #define ASSOC_KEY_MIN 1
 #define ASSOC_KEY_MAX 32     /* a key has at most so many bytes */
 
-/* The words of a pool of n blocks, n from 1 to ASSOC_BLOCKS_MAX. A node, a shortcut or a leaf with its key takes one
- * block: no keys take none, one key two. */
+/* The words of a pool of n blocks, n from 1 to ASSOC_BLOCKS_MAX. A node, a shortcut and a leaf, which has its key in it, take a
+ * block each: no keys take none, one key two. */
 #define ASSOC_WORDS(n) (ASSOC_ANCHOR_WORDS + ASSOC_BLOCK_WORDS * (n))
 
 /* The words of a block, for who inspects a raw pool. Block n, 0 to N - 1, begins at word ASSOC_WORDS(n); a block that is

@@ -81,7 +81,7 @@ extern "C" {
 #define XAPOOL_MARKS 3
 
 /* The words of a pool of n nodes, n from 1 to XAPOOL_MAX_NODES. One node is enough for entries at indices 0
- * to 63; a store needs at most 21 new nodes (proved: needed-most, crates/tree/proofs/MostLaws.antt). */
+ * to 63; a store needs at most 21 new nodes (proved: needed_most, crates/tree/proofs/MostLaws.antt). */
 #define XAPOOL_WORDS(n) (XAPOOL_ANCHOR_WORDS + XAPOOL_NODE_WORDS * (n))
 
 /* The words of a node, for who inspects a raw pool. Node n, 0 to N - 1, begins at word
@@ -766,8 +766,8 @@ static inline xapool_result xapool_read_list(const uint8_t *list, size_t bytes)
 /* Where a find up to 'last' goes on after this reply to it: after the run of the entry that it found,
  * or where it paused. Gives 1 and sets *first, or 0 if there is nowhere to go: that is the end with
  * answer 12, and with answer 0 where the entry reaches to last; with any other it is trouble.
- * That this is where to go on is the theorem host-next of crates/walks; finds that go this way, also
- * while the pool changes in between, miss nothing that was there throughout: no-index-missed. */
+ * That this is where to go on is the theorem host_next of crates/walks; finds that go this way, also
+ * while the pool changes in between, miss nothing that was there throughout: no_index_missed. */
 XAPOOL_MUST_USE
 static inline int xapool_next_first(const xapool_reply *reply, uint64_t last, uint64_t *first)
 {

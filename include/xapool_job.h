@@ -279,9 +279,9 @@ static inline void xapool_job_print(const xapool_job *job, FILE *to)
  *         ... it is not known what else there is
  *
  * It goes on behind the run of the entry that it reports, or where a find paused, until one ended or a run came to last. So, by
- * the theorem no-index-missed of crates/walks (host-misses-none of a host's calls), the pool may be changed between two steps:
+ * the theorem no_index_missed of crates/walks (host_misses_none of a host's calls), the pool may be changed between two steps:
  * no index is missed that at each find is covered by an entry with the mark, the same or another; one may be reported
- * twice. With no change in between any budget above 0 finds the same (budgets-agree), and it ends (walk-ends).
+ * twice. With no change in between any budget above 0 finds the same (budgets_agree), and it ends (walk_ends).
  *
  * A pause is gone over and is none of the three. Each step is a run, which checks the whole pool: for all entries
  * of a large pool, take the list. Where it ended, no further entry has the mark; that says nothing of an

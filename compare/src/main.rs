@@ -21,7 +21,6 @@ mod lend;
 mod list;
 mod listing_cases;
 mod listings;
-mod name_cases;
 mod name_damage;
 mod name_figures;
 mod name_keys;

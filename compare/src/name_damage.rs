@@ -191,12 +191,10 @@ impl Broken<'_> {
                 self.words = words_by(rule, &self.state.list, spare, &mut self.random)?;
                 Some(())
             }
-            Wrong::Several => {
-                (0..2 + self.random.below(4)).try_for_each(|_| {
-                    let place = self.random.below(self.words.len() as u64);
-                    self.change(place as usize)
-                })
-            }
+            Wrong::Several => (0..2 + self.random.below(4)).try_for_each(|_| {
+                let place = self.random.below(self.words.len() as u64);
+                self.change(place as usize)
+            }),
         }
     }
 

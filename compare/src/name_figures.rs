@@ -80,10 +80,8 @@ impl Figures {
     }
 
     fn name_answers_came(self) -> bool {
-        let never: Vec<usize> = [0, 1, 2, 10, 16]
-            .into_iter()
-            .filter(|answer| self.at(ANSWERS + answer) == 0)
-            .collect();
+        let never: Vec<usize> =
+            [0, 1, 2, 10, 16].into_iter().filter(|answer| self.at(ANSWERS + answer) == 0).collect();
         if !never.is_empty() {
             println!("DIFFERENCE in names: answers that never came: {never:?}");
         }

@@ -103,7 +103,10 @@ pub fn of_pool(state: &State) -> Vec<Kind> {
         (Kind::PackedRoot, root_node.is_some_and(|keys| keys <= SLOTS as u64)),
         (Kind::SpreadRoot, root_node.is_some_and(|keys| keys > SLOTS as u64)),
         (Kind::ShortcutRoot, root.is_some_and(is_shortcut)),
-        (Kind::ShortcutBelow, tree.items.keys().any(|item| is_shortcut(item) && Some(item) != root)),
+        (
+            Kind::ShortcutBelow,
+            tree.items.keys().any(|item| is_shortcut(item) && Some(item) != root),
+        ),
         (Kind::Sixteen, of(16)),
         (Kind::Seventeen, of(17)),
         (Kind::FullNode, nodes.iter().any(|node| node.value > 16 && filled(node) == SLOTS)),

@@ -213,11 +213,14 @@ impl Asked {
         let (spare, used) = (state.free_numbers().len(), blocks(&state.list));
         // Many at once first, if there are many.
         let many = state.list.len() / 2;
-        let halves = [state.list.keys().skip(many).collect(), state.list.keys().take(many).collect()];
+        let halves =
+            [state.list.keys().skip(many).collect(), state.list.keys().take(many).collect()];
         let without = state.list.keys().map(|key| vec![key]);
         for keys in halves.into_iter().filter(|_| many > 4).chain(without) {
             let mut list = state.list.clone();
-            keys.into_iter().for_each(|key| drop(list.remove(key)));
+            for key in keys {
+                list.remove(key);
+            }
             let count = (blocks(&list) + spare).max(1);
             let state = State::empty(count).change_to(list).expect("blocks enough");
             smaller.extend(self.with(state, *damage));
@@ -249,11 +252,8 @@ impl Asked {
     fn show(&self) -> String {
         let mut text = Vec::new();
         print_words(&self.words, &mut text).expect("memory");
-        let mut text = format!(
-            "pool {}\n{}",
-            self.words.len(),
-            String::from_utf8(text).expect("digits")
-        );
+        let mut text =
+            format!("pool {}\n{}", self.words.len(), String::from_utf8(text).expect("digits"));
         for call in &self.calls {
             text += &match call {
                 Call::Lookup { key } => format!("lookup {}\n", hex(key)),
@@ -346,7 +346,9 @@ fn called(
             bytes.read_only(false);
             result
         }
-        Call::Insert { .. } | Call::Delete { .. } => unreachable!("only calls that read, and clear"),
+        Call::Insert { .. } | Call::Delete { .. } => {
+            unreachable!("only calls that read, and clear")
+        }
     };
     words.read_only(false);
     result

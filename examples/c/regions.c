@@ -97,7 +97,7 @@ static int by_base(const void *a, const void *b)
 
 /* Lists the entries that have the filter. Each batch checks the whole pool, so one find a batch would
  * be dear: the range is cut into lanes, and a batch has a find for each lane that is not done. Each lane is a walk,
- * which goes on after a run or at a pause, so it misses nothing (no-index-missed, budgets-agree of crates/walks). */
+ * which goes on after a run or at a pause, so it misses nothing (no_index_missed, budgets_agree of crates/walks). */
 static size_t list(pool *p, uint8_t filter)
 {
     static uint64_t start[LANES], first[LANES], last[LANES];

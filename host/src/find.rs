@@ -7,7 +7,7 @@
 //!
 //! Each lane is a walk over a pool that is held and does not change: it goes on behind the run that it found
 //! or where its find paused, and is over once a find ended or a run came to the lane's last index. So by the theorems
-//! `budgets-agree` and `no-index-missed` of crates/walks it finds the same with any budget, and misses nothing.
+//! `budgets_agree` and `no_index_missed` of crates/walks it finds the same with any budget, and misses nothing.
 
 use crate::answer::Error;
 use crate::batch::{BatchBuilder, MOST_BATCH_BYTES};
@@ -34,7 +34,7 @@ struct Lane {
 }
 
 /// The entries of a range in index order, each once: see [`Pool::find`]. A pause is never its end, and no
-/// budget changes what it gives (`budgets-agree` of crates/walks; [`Walk`](crate::Walk) says more). What
+/// budget changes what it gives (`budgets_agree` of crates/walks; [`Walk`](crate::Walk) says more). What
 /// cannot be searched is an error, after which it ends: that is no end of the entries, so take the errors
 /// out with `?`, or ask for [`Finds::all`].
 #[derive(Debug)]

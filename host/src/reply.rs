@@ -164,7 +164,7 @@ impl Reply {
     /// Where a find up to `last` goes on: after the run that it found, or where it paused; none if it
     /// ended, or what it found ends at `last` or after. Any other answer, or the reply of another
     /// command, is no end: it is the error. [`Pool::find`](crate::Pool::find) and [`Walk`](crate::Walk) do
-    /// this for you. That this is where to go on is the theorem `host-next` of crates/walks.
+    /// this for you. That this is where to go on is the theorem `host_next` of crates/walks.
     ///
     /// ```
     /// # use xapool_host::{Answer, BatchBuilder, Command, Pool};

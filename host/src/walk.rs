@@ -11,12 +11,12 @@ use std::ops::RangeBounds;
 /// A walk through a range by one find after the other, with a pool that may change between the finds.
 ///
 /// It goes on behind the run of the entry that it reports, or where its find paused, and is over once a
-/// find ended or a run came to the last index. By the theorem `no-index-missed` (crates/walks; of a host's
-/// calls `host-misses-none`) no index is missed that at each of its finds is covered by an entry that the
-/// filter accepts, the same or another, until the walk is past it (`none-missed-until`); one may be
+/// find ended or a run came to the last index. By the theorem `no_index_missed` (crates/walks; of a host's
+/// calls `host_misses_none`) no index is missed that at each of its finds is covered by an entry that the
+/// filter accepts, the same or another, until the walk is past it (`none_missed_until`); one may be
 /// reported twice. Where nothing changes, all budgets
-/// above 0 give the same entries (`budgets-agree`), the finds up to one take 64U + 2 steps or fewer, U the
-/// nodes in use (`few-steps`), and the walk ends (`walk-ends`).
+/// above 0 give the same entries (`budgets_agree`), the finds up to one take 64U + 2 steps or fewer, U the
+/// nodes in use (`few_steps`), and the walk ends (`walk_ends`).
 ///
 /// ```
 /// # use xapool_host::{Command, Pool, Walk, Word, FIND_ANY};
@@ -67,7 +67,7 @@ impl Walk {
         self.rest.map(|(first, last)| Command::Find { first, last, filter, budget })
     }
 
-    /// Goes on by the reply to that find (`host-next`): the entry that it reports, none where it paused
+    /// Goes on by the reply to that find (`host_next`): the entry that it reports, none where it paused
     /// or ended. Any other answer is the error, and the walk stays where it was.
     pub fn read(&mut self, reply: Reply) -> Result<Option<Entry>, Answer> {
         if let Some((_, last)) = self.rest {

@@ -46,7 +46,7 @@ fn folder() -> Folder {
     let default = root().join("target/bin/tamburish");
     let program = std::env::var_os("TAMBURISH_BIN").map_or(default, PathBuf::from);
     fs::create_dir_all(folder.path("target/bin")).expect("a folder");
-    let program = program.canonicalize().expect("run 'rt check tamburish'");
+    let program = program.canonicalize().expect("run 'scripts/program'");
     symlink(program, folder.path("target/bin/tamburish")).expect("a link");
     folder
 }

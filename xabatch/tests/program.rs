@@ -10,7 +10,7 @@ use tool::{batch, output_of, tool, Folder, TOOL};
 fn bash(folder: &Folder, line: &str) -> (i32, String) {
     let default = concat!(env!("CARGO_MANIFEST_DIR"), "/../target/bin/tamburish").to_owned();
     let program = std::env::var("TAMBURISH_BIN").unwrap_or(default);
-    assert!(fs::exists(&program).is_ok_and(|is| is), "{program}: run 'rt check tamburish'");
+    assert!(fs::exists(&program).is_ok_and(|is| is), "{program}: run 'scripts/program'");
     let mut command = std::process::Command::new("bash");
     command.args(["-c", line]).current_dir(&folder.0).env("T", program).env("X", TOOL);
     let output = output_of(&mut command, &[]);

@@ -8,26 +8,7 @@ use Rattle.blocks.specs.Lists.{All, end, also}
 use Rattle.blocks.proofs.BoolLaws.{by_t}
 use Rattle.words.specs.Bytes.{Bytes}
 use Rattle.words.proofs.NumberLaws.{number_lt}
-use Rattle.batch.specs.Batch.{
-  Command,
-  max_batch,
-  head_bytes,
-  command_at,
-  read_at,
-  Read,
-  Next,
-  Bad,
-  End,
-  Cursor,
-  Parsed,
-  Parsed.commands,
-  Parsed.refused,
-  cons_to,
-  parse_read,
-  parse_from,
-  rest_at,
-  parse,
-}
+use Rattle.batch.specs.Batch.{Command, max_batch, head_bytes, command_at, read_at, Read, Next, Bad, End, Cursor, Parsed, cons_to, parse_read, parse_from, rest_at, parse}
 use Rattle.batch.specs.Fits.{Fits}
 use Rattle.batch.proofs.ParseLaws.{was_read}
 

@@ -13,34 +13,7 @@ use Rattle.blocks.proofs.BoolLaws.{by_t}
 use Rattle.blocks.specs.Choice.{pick}
 use Rattle.words.specs.Bytes.{number_at}
 use Rattle.words.proofs.NumberLaws.{number_cut, one_byte}
-use Rattle.batch.specs.Batch.{
-  max_batch,
-  head_bytes,
-  field_bytes,
-  command_at,
-  is_record,
-  next_at,
-  read_at,
-  Read,
-  Next,
-  Bad,
-  End,
-  Command,
-  Cursor,
-  Store,
-  Load,
-  Erase,
-  Mark,
-  Unmark,
-  Find,
-  Reserve,
-  Parsed,
-  Parsed.commands,
-  Parsed.refused,
-  cons_to,
-  rest_at,
-  parse,
-}
+use Rattle.batch.specs.Batch.{max_batch, head_bytes, field_bytes, command_at, is_record, next_at, read_at, Read, Next, Bad, End, Command, Cursor, Store, Load, Erase, Mark, Unmark, Find, Reserve, Parsed, cons_to, rest_at, parse}
 use Rattle.batch.proofs.BatchLaws.{skip_whole, read_end, read_next}
 use Rattle.batch.proofs.ParseLaws.{
   WasRead,

@@ -4,7 +4,7 @@ use Prim.Native.Nat.{ℕ, ◌≤◌, ◌<◌}
 use mathlib.Core.Path.{◌≡◌, refl}
 use mathlib.Core.List.{List, [], ◌∷◌}
 use lib.ListN.{length}
-use Rattle.batch.specs.Batch.{Store, Load, Erase, Mark, Unmark, Find, Reserve, Parsed, Parsed.commands, Parsed.refused, read_at, parse_from, rest_at, parse}
+use Rattle.batch.specs.Batch.{Store, Load, Erase, Mark, Unmark, Find, Reserve, Parsed, read_at, parse_from, rest_at, parse}
 use Rattle.batch.specs.Reply.{reply_bytes, encode}
 use Rattle.batch.proofs.ParseLaws.{parse_long, parse_rest}
 

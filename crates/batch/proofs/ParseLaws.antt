@@ -11,33 +11,7 @@ use borrow.Author.Tests.{leb-true, leb-false, eqb-true, eq-eqb, lt-ltb, le-ltb, 
 use Rattle.blocks.specs.Choice.{both}
 use Rattle.blocks.proofs.BoolLaws.{by_t, clash, both_l, both_r}
 use Rattle.words.specs.Bytes.{number_at}
-use Rattle.batch.specs.Batch.{
-  max_batch,
-  head_bytes,
-  field_bytes,
-  command_at,
-  is_record,
-  next_at,
-  read_at,
-  Read,
-  Next,
-  Bad,
-  End,
-  Command,
-  Cursor,
-  Parsed,
-  Parsed.commands,
-  Parsed.refused,
-  cons_to,
-  parse_read,
-  parse_from,
-  rest_at,
-  parse,
-  Counted,
-  Commands,
-  Refused,
-  counted,
-}
+use Rattle.batch.specs.Batch.{max_batch, head_bytes, field_bytes, command_at, is_record, next_at, read_at, Read, Next, Bad, End, Command, Cursor, Parsed, cons_to, parse_read, parse_from, rest_at, parse, Counted, Commands, Refused, counted}
 use Rattle.words.proofs.NumberLaws.{one_byte}
 
 -- a record that was read

@@ -8,29 +8,7 @@ use lib.Dec.{leb, ltb}
 use lib.ListN.{length, get_or}
 use borrow.Author.Tests.{leb-false, ltb-true, ltb-false}
 use Rattle.blocks.proofs.BoolLaws.{by_t}
-use Rattle.batch.specs.Batch.{
-  max_batch,
-  head_bytes,
-  field_bytes,
-  command_at,
-  is_record,
-  next_at,
-  read_at,
-  Read,
-  Next,
-  Bad,
-  End,
-  Command,
-  Cursor,
-  Parsed,
-  Parsed.commands,
-  Parsed.refused,
-  cons_to,
-  parse_read,
-  parse_from,
-  rest_at,
-  parse,
-}
+use Rattle.batch.specs.Batch.{max_batch, head_bytes, field_bytes, command_at, is_record, next_at, read_at, Read, Next, Bad, End, Command, Cursor, Parsed, cons_to, parse_read, parse_from, rest_at, parse}
 use Rattle.batch.specs.Records.{Begins, Begins.first, Begins.later, Refuses, Refuses.too_long, Refuses.bad_record}
 use Rattle.batch.proofs.BatchLaws.{read_no}
 use Rattle.batch.proofs.ParseLaws.{WasRead, was_read, rest_bad, rest_next, read_good, not_refused, parse_long, parse_rest}

@@ -100,7 +100,7 @@ pub fn init(pool: &mut [u64]) -> Result
 // Whether a pool is well-formed: whether some list of entries prescribes its words. Answers 0, 1 or 2; writes nothing.
 pub fn check(pool: &[u64]) -> Result
     ensures value { result ≡ check_result pool.now }
-    ensures pool_value { pool.now ≡ pool.now }
+    ensures pool_value { pool.exit.now ≡ pool.entry.now }
 {
     let answer = verify::check(pool);
     Result {
@@ -114,7 +114,7 @@ pub fn run(pool: &mut [u64], batch: &[u8], reply: &mut [u8]) -> Result
     ensures value { result ≡ (Calls.run pool.old batch.now reply.old).result }
     ensures pool_after { pool.new ≡ (Calls.run pool.old batch.now reply.old).words }
     ensures reply_after { reply.new ≡ (Calls.run pool.old batch.now reply.old).reply }
-    ensures batch_value { batch.now ≡ batch.now }
+    ensures batch_value { batch.exit.now ≡ batch.entry.now }
 {
     let mut map = [0u64; MAP_WORDS];
     let answer = verify::check_map(pool, &mut map);
@@ -138,7 +138,7 @@ pub fn run(pool: &mut [u64], batch: &[u8], reply: &mut [u8]) -> Result
 // place of its first bad record.
 pub fn count(batch: &[u8]) -> Result
     ensures value { result ≡ count_result batch.now }
-    ensures batch_value { batch.now ≡ batch.now }
+    ensures batch_value { batch.exit.now ≡ batch.entry.now }
 {
     let counted = reader::count_through(batch);
     match counted {
@@ -158,7 +158,7 @@ pub fn count(batch: &[u8]) -> Result
 pub fn list(pool: &[u64], first: u64, last: u64, buffer: &mut [u8]) -> Result
     ensures value { result ≡ (Calls.list pool.now first last buffer.old).result }
     ensures buffer_after { buffer.new ≡ (Calls.list pool.now first last buffer.old).buffer }
-    ensures pool_value { pool.now ≡ pool.now }
+    ensures pool_value { pool.exit.now ≡ pool.entry.now }
 {
     let checked = verify::check(pool);
     if checked != DONE {
@@ -245,8 +245,8 @@ fn prepare_read(
 pub fn prepare(pool: &[u64], bytes: &[u8], script: &mut [u64]) -> Result
     ensures value { result ≡ (Prepare.prepare pool.now bytes.now script.old).result }
     ensures script_after { script.new ≡ (Prepare.prepare pool.now bytes.now script.old).slice }
-    ensures pool_value { pool.now ≡ pool.now }
-    ensures bytes_value { bytes.now ≡ bytes.now }
+    ensures pool_value { pool.exit.now ≡ pool.entry.now }
+    ensures bytes_value { bytes.exit.now ≡ bytes.entry.now }
 {
     let mut map = [0u64; MAP_WORDS];
     let verdict = verify::check_map(pool, &mut map);

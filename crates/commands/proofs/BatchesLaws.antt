@@ -16,7 +16,7 @@ use Rattle.batch.specs.declared.Command.{Command}
 use Rattle.batch.specs.declared.Counted.TheVariants.{Commands, Refused}
 use Rattle.batch.specs.declared.Cursor.{Cursor}
 use Rattle.batch.specs.declared.Read.TheVariants.{Next}
-use Rattle.batch.specs.Batch.{max_batch, Parsed, Parsed.commands, Parsed.refused, cons_to, counted, is_record, read_at, rest_at, parse}
+use Rattle.batch.specs.Batch.{max_batch, Parsed, cons_to, counted, is_record, read_at, rest_at, parse}
 use Rattle.batch.specs.Reply.{reply_bytes, encode}
 use Rattle.batch.proofs.BatchLaws.{read_end, read_no}
 use Rattle.batch.proofs.ParseLaws.{rest_end, rest_bad, rest_next, not_refused, parse_long, parse_rest}

@@ -1,14 +1,31 @@
 // The digests of RFC 3720's published vectors (B.4) and of the digits 1 to 9, a line of hex each; then how many cuts of a region of 64 bytes
 // into two pieces give the digest of the whole. The file stdout has the published digests, and 65.
-// One hex digit, of the low four bits.
 #![tactic(auto)]
 
+use std::io::Write;
+
+// One hex digit, of the low four bits.
 fn digit(x: u32) -> u8 {
     let d = (x % 16) as u8;
     if d < 10 { b'0' + d } else { b'a' + (d - 10) }
 }
 
-fn put(x: u32) {
+// Writes all of `bytes`, or stops at the first write that takes nothing or fails.
+fn write_all<W: Write>(out: &mut W, bytes: &[u8]) {
+    let mut done = 0;
+    while done < bytes.len() {
+        let n = match out.write(&bytes[done..]) {
+            Ok(n) => n,
+            Err(_) => 0,
+        };
+        if n == 0 {
+            break;
+        }
+        done += n;
+    }
+}
+
+fn put<W: Write>(out: &mut W, x: u32) {
     let high = [
         digit(x / 268435456),
         digit(x / 16777216),
@@ -16,12 +33,12 @@ fn put(x: u32) {
         digit(x / 65536),
     ];
     let low = [digit(x / 4096), digit(x / 256), digit(x / 16), digit(x), 10];
-    io::write_all(1, &high);
-    io::write_all(1, &low);
+    write_all(out, &high);
+    write_all(out, &low);
 }
 
-fn put_digest(s: &[u8]) {
-    put(crc32c::crc32c(0, s));
+fn put_digest<W: Write>(out: &mut W, s: &[u8]) {
+    put(out, crc32c::crc32c(0, s));
 }
 
 // Bytes from `first` on, each `by` more than the last, wrapping at 256.
@@ -30,7 +47,7 @@ fn progression(s: &mut [u8], first: u8, by: u8) {
     let mut i: usize = 0;
     while i < s.len() {
         s[i] = b;
-        b = std::num::wrapping_add_u8(b, by);
+        b = b.wrapping_add(by);
         i += 1;
     }
 }
@@ -63,26 +80,27 @@ fn cuts(s: &[u8]) -> u32 {
     let mut cut: usize = 0;
     while cut <= 64 {
         if cut_at(s, cut) {
-            good = std::num::wrapping_add_u32(good, 1);
+            good = good.wrapping_add(1);
         }
         cut += 1;
     }
     good
 }
 
-fn main() {
+fn main(rt: HostRuntime) {
+    let mut out = rt.stdout();
     let mut s = [0u8; 32];
-    put_digest(&s);
+    put_digest(&mut out, &s);
     progression(&mut s, 255, 0);
-    put_digest(&s);
+    put_digest(&mut out, &s);
     progression(&mut s, 0, 1);
-    put_digest(&s);
+    put_digest(&mut out, &s);
     progression(&mut s, 31, 255);
-    put_digest(&s);
+    put_digest(&mut out, &s);
     let command = read10();
-    put_digest(&command);
-    put_digest(b"123456789");
+    put_digest(&mut out, &command);
+    put_digest(&mut out, b"123456789");
     let mut long = [0u8; 64];
     progression(&mut long, 7, 37);
-    put(cuts(&long));
+    put(&mut out, cuts(&long));
 }

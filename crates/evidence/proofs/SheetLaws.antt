@@ -9,7 +9,7 @@ use native.Mathlib.Omega.{arith}
 use lib.Dec.{leb, eqb}
 use lib.ListN.{length, get_or}
 use borrow.Author.Tests.{leb-true, leb-false, eqb-true, le-leb, lt-leb, eq-eqb}
-use Rattle.blocks.specs.Choice.{pick, both}
+use Rattle.blocks.specs.Choice.{both}
 use Rattle.blocks.proofs.BoolLaws.{by_t, is_false, both_l, both_r}
 use Rattle.evidence.specs.Sheets.{body_bytes, is_record, index_at, onto, records_from, rest_at, latest, sought_in, Sought}
 use Rattle.evidence.specs.Reading.{size_at, newer}

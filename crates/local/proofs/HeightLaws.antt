@@ -10,7 +10,7 @@ use lib.Dec.{eqb, ltb, lit≤}
 use borrow.Author.Tests.{eqb-true, eqb-false, eq-eqb, ltb-true, lt-ltb}
 use Rattle.blocks.proofs.BoolLaws.{by_t}
 use Rattle.model.specs.declared.Entry.{Entry}
-use Rattle.tree.specs.Tree.{height, tall, fits, tier_order, slots}
+use Rattle.tree.specs.Tree.{height, fits, tier_order, slots}
 use Rattle.tree.proofs.HeightLaws.{fits_i}
 use Rattle.layout.specs.declared.Slot.{Slot}
 use Rattle.layout.specs.declared.Slot.TheVariants.{Empty, Reserved, Held, Sibling, Child}

@@ -13,7 +13,7 @@ use Rattle.tree.proofs.HeightLaws.{fits_i, fits_tall}
 use Rattle.layout.specs.Pool.{Free, slot_of, Pool}
 use Rattle.layout.specs.declared.Slot.{Slot}
 use Rattle.layout.specs.declared.Slot.TheVariants.{Empty, Reserved, Held, Sibling, Child}
-use Rattle.layout.specs.Decode.{below, list_in, list_for, level_of}
+use Rattle.layout.specs.Decode.{list_in, list_for, level_of}
 use Rattle.decode.proofs.Restrict.{has_level, num_of, NodeIs, Prescribes}
 use Rattle.decode.proofs.KeepLaws.{no_both}
 use Rattle.layout.proofs.SaysLaws.{word_of_lem}

@@ -54,7 +54,7 @@ fn with_answer(answer: u64) -> Result
 pub fn apply(pool: &mut [u64], script: &[u64]) -> Result
     ensures r_value { result ≡ apply_result pool.old script.now }
     ensures pool_after { pool.new ≡ apply_words pool.old script.now }
-    ensures script_value { script.now ≡ script.now }
+    ensures script_value { script.exit.now ≡ script.entry.now }
 {
     if nodes_in(pool) == 0 {
         return with_answer(POOL_LENGTH);

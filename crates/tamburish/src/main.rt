@@ -3,10 +3,12 @@
 #![tactic(auto)]
 
 ghost use Rattle.std.specs.Prelude.{◌≤◌, ◌≡◌, length, take};
+ghost use Rattle.std.specs.Io.KnownBytes.{Consumes};
 ghost use Rattle.tamburish.specs.Program;
 ghost use Rattle.tamburish.specs.Program.{ran, refusal_size, refusal_over, input_bytes, output_bytes, written};
 
 use answers::{BAD_BATCH, DONE};
+use std::io::{Read, Write};
 
 // 4 + 70 * 40 words for 40 nodes.
 const POOL_WORDS: usize = 2804;
@@ -69,10 +71,45 @@ fn answer(input: &[u8], n: usize, output: &mut [u8]) -> usize
     respond(&mut pool, &input[..n], output)
 }
 
-fn main() {
+// Reads until `space` is full, the input ends or a read fails; how many bytes it put at the start of `space`.
+fn read_full<R: Read>(input: &mut R, space: &mut [u8]) -> usize
+    ensures upper_bound { result ≤ length space.new }
+    ensures bytes { Consumes (R.remaining input.old) (R.remaining input.new) (take result space.new) }
+{
+    let mut done = 0;
+    while done < space.len() {
+        match input.read(&mut space[done..]) {
+            Ok(n) => {
+                if n == 0 {
+                    return done;
+                }
+                done += n;
+            }
+            Err(_) => return done,
+        }
+    }
+    done
+}
+
+// Writes all of `bytes`, or stops at the first write that takes nothing or fails, which is told in no other way.
+fn write_all<W: Write>(output: &mut W, bytes: &[u8]) {
+    let mut done = 0;
+    while done < bytes.len() {
+        let n = match output.write(&bytes[done..]) {
+            Ok(n) => n,
+            Err(_) => 0,
+        };
+        if n == 0 {
+            break;
+        }
+        done += n;
+    }
+}
+
+fn main(rt: HostRuntime) {
     let mut input = [0u8; INPUT_BYTES];
     let mut output = [0u8; OUTPUT_BYTES];
-    let n = io::read_full(0, &mut input);
+    let n = read_full(&mut rt.stdin(), &mut input);
     let m = answer(&input, n, &mut output);
-    io::write_all(1, &output[0..m]);
+    write_all(&mut rt.stdout(), &output[..m]);
 }

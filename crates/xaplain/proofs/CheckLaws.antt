@@ -1,7 +1,7 @@
 -- The check says yes exactly where some list stands in the slices.
 use Prim.Native.Nat.{ℕ, zero, suc, ◌+◌, ◌-◌, ◌*◌, ◌%◌, ◌^◌, ◌≤◌, ◌<◌}
 use mathlib.Core.Path.{◌≡◌, refl, sym, ap, subst, ◌∙◌}
-use mathlib.Core.Bool.{Bool, true, false, not}
+use mathlib.Core.Bool.{Bool, true, not}
 use mathlib.Core.Logic.{◌≢◌}
 use mathlib.Core.List.{List, [], ◌∷◌}
 use native.Mathlib.Omega.{arith}
@@ -9,12 +9,12 @@ use native.Mathlib.Nat.{le_refl, zero-add, div-add-mod}
 use lib.Dec.{leb, ltb, eqb, T}
 use lib.ListN.{length, get_or, get_or-eq_default}
 use borrow.Author.Tests.{leb-true, ltb-true, ltb-false, eqb-true, eqb-false, le-leb, lt-ltb, eq-eqb, ne_eqb}
-use Rattle.blocks.specs.Choice.{pick, both, either}
+use Rattle.blocks.specs.Choice.{both, either}
 use Rattle.blocks.specs.Lists.{All, end, also}
 use Rattle.blocks.specs.Blocks.{block}
-use Rattle.blocks.proofs.BoolLaws.{by_t, clash, both_i, both_l, both_r, T_true}
+use Rattle.blocks.proofs.BoolLaws.{by_t, both_i, both_l, both_r, T_true}
 use Rattle.model.specs.declared.Entry.{Entry}
-use Rattle.model.specs.Model.{EntryOk, Sorted, more, done, Valid, max_order, mark_count, aligned, is_word_ok}
+use Rattle.model.specs.Model.{EntryOk, Sorted, more, done, Valid, max_order, aligned, is_word_ok}
 use Rattle.model.proofs.AlignedLaws.{base_aligned}
 use Rattle.xaplain.specs.Slices.{column, entry_at, entries_from, list_of, fits_entry, in_order, zeros_from, rest_zero, holds_list}
 use Rattle.xaplain.specs.Moves.{Columns}

@@ -1,22 +1,21 @@
 -- A list with one entry for a part of it, in a slice.
-use Prim.Native.Nat.{ℕ, zero, suc, ◌+◌, ◌-◌, ◌^◌, ◌≤◌, ◌<◌, min}
+use Prim.Native.Nat.{ℕ, zero, suc, ◌+◌, ◌-◌, ◌^◌, ◌≤◌, ◌<◌}
 use mathlib.Core.Path.{◌≡◌, refl, sym, ap, subst, ◌∙◌}
-use mathlib.Core.Bool.{Bool, true, false}
-use mathlib.Core.List.{List, [], ◌∷◌, ◌++◌}
+use mathlib.Core.Bool.{false}
+use mathlib.Core.List.{List, [], ◌∷◌}
 use native.Mathlib.Omega.{arith}
 use lib.Dec.{eqb, ltb, leb}
 use lib.ListN.{length, get_or, take, drop, length-take, get_or-append, get_or-eq_default}
 use lib.Seq.{get_or-append-add, get_or-take, get_or-drop}
 use borrow.Author.Tests.{eqb-true, eqb-false, ltb-true, ltb-false, lt-ltb, le-ltb, le-leb, lt-leb}
-use Rattle.blocks.specs.Choice.{pick}
 use Rattle.blocks.specs.Lists.{without, All, end, also}
 use Rattle.blocks.proofs.BoolLaws.{by_t, both_no}
 use Rattle.blocks.proofs.ListLaws.{without_none}
 use Rattle.blocks.proofs.BlockLaws.{pow_pos}
 use Rattle.model.specs.declared.Entry.{Entry}
-use Rattle.model.specs.Model.{EntryOk, Sorted, more, done, starts_in, clear, insert}
+use Rattle.model.specs.Model.{Sorted, more, done, starts_in, clear, insert}
 use Rattle.xaplain.specs.Slices.{column}
-use Rattle.xaplain.specs.Moves.{Holds, Columns, Splits, Spliced, replaced, below}
+use Rattle.xaplain.specs.Moves.{Holds, Columns, Spliced, replaced, below}
 use Rattle.xaplain.proofs.PlainLaws.{blank, nth, column_nth}
 
 -- two lists with the same numbers at each place

@@ -19,7 +19,7 @@ use Rattle.model.specs.Matches.{first_match}
 use Rattle.batch.specs.declared.Command.{Command}
 use Rattle.batch.specs.declared.Command.TheVariants.{Load, Erase, Find}
 use Rattle.batch.specs.declared.Reply.{Reply}
-use Rattle.commands.specs.Commands.{Executed, leave, refuse, reply_of, erasing, marking}
+use Rattle.commands.specs.Commands.{Executed, leave, refuse, erasing, marking}
 use Rattle.commands.specs.Replies.{covered_reply}
 use Rattle.xaplain.specs.Engine.{sighted, execute}
 use Rattle.xaplain.specs.Moves.{Holds, Columns, seen, found_reply, remarking}

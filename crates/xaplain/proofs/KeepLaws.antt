@@ -1,5 +1,5 @@
 -- A command keeps a list valid, and no longer than the room; so the slices hold a list again.
-use Prim.Native.Nat.{ℕ, zero, suc, ◌+◌, ◌-◌, ◌%◌, ◌^◌, ◌≤◌, ◌<◌}
+use Prim.Native.Nat.{ℕ, zero, suc, ◌%◌, ◌^◌, ◌≤◌, ◌<◌}
 use mathlib.Core.Path.{◌≡◌, refl, sym, ap, subst, ◌∙◌}
 use mathlib.Core.Bool.{Bool, true, false, not}
 use mathlib.Core.List.{List, [], ◌∷◌}
@@ -15,28 +15,7 @@ use Rattle.blocks.specs.Lists.{any, without}
 use Rattle.blocks.proofs.BoolLaws.{by_t, clash, both_l, not-false, T_true}
 use Rattle.blocks.proofs.ListLaws.{All-map, first_no, any_none}
 use Rattle.model.specs.declared.Entry.{Entry}
-use Rattle.model.specs.Model.{
-  Sorted,
-  more,
-  done,
-  Valid,
-  storable,
-  reserved,
-  reserved_word,
-  is_word_ok,
-  max_order,
-  aligned,
-  mark_count,
-  matched_mark,
-  covers,
-  covering,
-  over,
-  store,
-  erase,
-  takes_mark,
-  with_mark,
-  remark,
-}
+use Rattle.model.specs.Model.{Sorted, more, done, Valid, storable, reserved, reserved_word, is_word_ok, max_order, aligned, mark_count, matched_mark, covers, covering, over, store, takes_mark, with_mark, remark}
 use Rattle.model.proofs.WordLaws.{entry_storable}
 use Rattle.model.proofs.ValidLaws.{store_valid, store_at_valid, erase_valid}
 use Rattle.model.proofs.AlignedLaws.{store_is, bare_is}

@@ -1,24 +1,24 @@
 -- The loops of the check.
 use Prim.Native.Nat.{ℕ, zero, suc, ◌+◌, ◌-◌, ◌*◌, ◌%◌, ◌^◌, ◌≤◌, ◌<◌}
-use mathlib.Core.Path.{◌≡◌, refl, sym, ap, subst, ◌∙◌}
+use mathlib.Core.Path.{◌≡◌, refl, sym, ap, ◌∙◌}
 use mathlib.Core.Bool.{Bool, true, false}
 use mathlib.Core.Logic.{◌≢◌}
 use mathlib.Core.List.{List, [], ◌∷◌}
 use native.Mathlib.Omega.{arith}
 use native.Mathlib.Nat.{one-mul, mod-eq_of_lt, div-lt_iff_lt-mul, mul-le-mul_right}
-use lib.Dec.{leb, ltb, eqb}
+use lib.Dec.{leb, eqb}
 use lib.ListN.{length, get_or}
 use lib.Pow.{pow-lt, pow-add}
 use borrow.Author.Tests.{eq-eqb, ne_eqb, eqb-true}
-use Rattle.blocks.specs.Choice.{pick, both}
+use Rattle.blocks.specs.Choice.{both}
 use Rattle.blocks.specs.Blocks.{block}
 use Rattle.blocks.proofs.BoolLaws.{both_l, both_r, both_no}
 use Rattle.blocks.proofs.BlockLaws.{pow_pos}
 use Rattle.model.specs.declared.Entry.{Entry}
-use Rattle.model.specs.Model.{EntryOk, aligned}
+use Rattle.model.specs.Model.{EntryOk}
 use Rattle.xaplain.specs.Slices.{entry_at, entries_from, list_of, fits_entry, in_order, zeros_from, rest_zero, sized_as}
 use Rattle.xaplain.specs.Moves.{Counts, low_of}
-use Rattle.xaplain.proofs.CheckLaws.{aligned_base, entry_ok}
+use Rattle.xaplain.proofs.CheckLaws.{entry_ok}
 
 -- 1 << o
 pub shl_one : (o : ℕ) → o ≤ 63 → 1 * 2 ^ o % 18446744073709551616 ≡ 2 ^ o

@@ -17,7 +17,7 @@ use Rattle.blocks.proofs.ListLaws.{look, each, any_none, in_any}
 use Rattle.blocks.proofs.BlockLaws.{pow_pos}
 use Rattle.blocks.proofs.PlacingLaws.{none_some}
 use Rattle.model.specs.declared.Entry.{Entry}
-use Rattle.model.specs.Model.{EntryOk, covers, covering, over, with_word, store, matched_mark}
+use Rattle.model.specs.Model.{EntryOk, covers, covering, over, with_word, matched_mark}
 use Rattle.model.proofs.ValidLaws.{covers_i, covers_lo, covers_hi, sorted_ok, sole}
 use Rattle.xaplain.specs.Slices.{column}
 use Rattle.xaplain.specs.Moves.{Holds, Columns, Splits}

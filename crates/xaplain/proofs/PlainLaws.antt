@@ -1,22 +1,21 @@
 -- The slices of the plain engine and the list that they hold.
 use Prim.Native.Nat.{ℕ, zero, suc, ◌+◌, ◌-◌, ◌*◌, ◌/◌, ◌^◌, ◌≤◌, ◌<◌}
 use mathlib.Core.Path.{◌≡◌, refl, sym, ap, subst, ◌∙◌}
-use mathlib.Core.Bool.{Bool, true, false}
+use mathlib.Core.Bool.{true}
 use mathlib.Core.List.{List, [], ◌∷◌}
-use mathlib.Core.Option.{Option, none, some}
+use mathlib.Core.Option.{none, some}
 use native.Mathlib.Omega.{arith}
 use mathlib.Core.Logic.{◌≢◌}
 use native.Mathlib.Nat.{le_refl, div-lt_iff_lt-mul, div-eq_of_lt}
-use lib.Dec.{leb, ltb, eqb}
+use lib.Dec.{ltb}
 use lib.ListN.{length, get_or}
-use borrow.Author.Tests.{ltb-true, ltb-false, leb-true, leb-false}
-use Rattle.blocks.specs.Lists.{All, end, also, In, here, there}
-use Rattle.blocks.proofs.BoolLaws.{by_t, clash}
+use borrow.Author.Tests.{ltb-true, ltb-false}
+use Rattle.blocks.specs.Lists.{In, here, there}
+use Rattle.blocks.proofs.BoolLaws.{by_t}
 use Rattle.blocks.proofs.ListLaws.{look, each, first_none}
 use Rattle.blocks.proofs.BlockLaws.{pow_pos}
 use Rattle.model.specs.declared.Entry.{Entry}
-use Rattle.model.specs.Model.{EntryOk, Sorted, more, done, Valid, covers, covering, covered}
-use Rattle.model.specs.declared.Covered.TheVariants.{Nothing, By}
+use Rattle.model.specs.Model.{EntryOk, Sorted, more, done, covers, covering}
 use Rattle.model.proofs.ValidLaws.{covers_i, covers_lo, covers_hi, sorted_ok, sole}
 use Rattle.xaplain.specs.Slices.{column}
 use Rattle.xaplain.specs.Moves.{Holds, Rising, Splits}

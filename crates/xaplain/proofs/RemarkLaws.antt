@@ -1,17 +1,17 @@
 -- A list with a mark of one entry changed, in the slices: one word of the marks.
-use Prim.Native.Nat.{ℕ, zero, suc, ◌+◌, ◌-◌, ◌*◌, ◌/◌, ◌^◌, ◌≤◌, ◌<◌}
-use mathlib.Core.Path.{◌≡◌, refl, sym, ap, ap₂, subst, ◌∙◌}
-use mathlib.Core.Bool.{Bool, true, false, not}
+use Prim.Native.Nat.{ℕ, ◌+◌, ◌-◌, ◌/◌, ◌^◌, ◌≤◌, ◌<◌}
+use mathlib.Core.Path.{◌≡◌, refl, sym, ap, ap₂, ◌∙◌}
+use mathlib.Core.Bool.{Bool, true, false}
 use mathlib.Core.Logic.{◌≢◌}
 use mathlib.Core.List.{List, [], ◌∷◌, map}
 use mathlib.Core.Option.{Option, none, some}
 use native.Mathlib.Omega.{arith}
 use native.Mathlib.Nat.{div-eq_of_lt}
 use lib.Dec.{ltb}
-use lib.ListN.{length, get_or, set, length-map}
+use lib.ListN.{length, set, length-map}
 use borrow.Author.Tests.{ltb-true, ltb-false, ne_eqb}
 use Rattle.answers.specs.Answers.{absent, bad_mark}
-use Rattle.blocks.specs.Choice.{pick, both}
+use Rattle.blocks.specs.Choice.{pick}
 use Rattle.blocks.specs.Blocks.{bit, set_bit}
 use Rattle.blocks.specs.Lists.{All, end, also}
 use Rattle.blocks.proofs.BoolLaws.{by_t, clash}
@@ -19,9 +19,9 @@ use Rattle.blocks.proofs.ListLaws.{All-map}
 use Rattle.model.specs.declared.Entry.{Entry}
 use Rattle.model.specs.Model.{Valid, reserved, reserved_word, mark_count, covers, covering, present, takes_mark, with_mark, remark}
 use Rattle.model.proofs.ValidLaws.{sole}
-use Rattle.batch.specs.Reply.{answered, answered_by}
-use Rattle.commands.specs.Commands.{Executed, leave, reply_of, marking}
-use Rattle.xaplain.specs.Slices.{column, entry_at}
+use Rattle.batch.specs.Reply.{answered_by}
+use Rattle.commands.specs.Commands.{leave, reply_of, marking}
+use Rattle.xaplain.specs.Slices.{entry_at}
 use Rattle.xaplain.specs.Moves.{Holds, Columns, remarking}
 use Rattle.xaplain.specs.Engine.{execute}
 use Rattle.xaplain.specs.Stores.{refused_by}

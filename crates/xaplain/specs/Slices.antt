@@ -1,5 +1,5 @@
 -- A list in four slices (R300 to R304): each entry's fields stand at its number in the list, and zeros after the last.
-use Rattle.std.specs.Prelude.{ℕ, zero, suc, ◌+◌, ◌-◌, ◌^◌, ◌≤◌, ◌<◌, ◌≡◌, Bool, true, false, List, [], ◌∷◌, leb, eqb, ltb, length, get_or}
+use Rattle.std.specs.Prelude.{ℕ, zero, suc, ◌+◌, ◌-◌, ◌^◌, ◌≤◌, ◌≡◌, Bool, true, List, [], ◌∷◌, leb, eqb, ltb, length, get_or}
 use Rattle.blocks.specs.Choice.{pick, both}
 use Rattle.answers.specs.Answers.{done, pool_length, not_well_formed}
 use Rattle.model.specs.declared.Entry.{Entry}

@@ -15,7 +15,7 @@ use Rattle.model.specs.declared.Entry.{Entry}
 use Rattle.model.specs.Model as M
 use Rattle.batch.specs.declared.Command.{Command}
 use Rattle.batch.specs.Fits.{Fits}
-use Rattle.batch.specs.Batch.{Parsed, Parsed.commands, Parsed.refused, parse}
+use Rattle.batch.specs.Batch.{Parsed, parse}
 use Rattle.batch.specs.Reply.{reply_bytes}
 use Rattle.batch.proofs.BoundLaws.{AllFit, parse_fits}
 use Rattle.batch.proofs.CutLaws.{cut}
@@ -25,26 +25,7 @@ use Rattle.xaplain.specs.Engine.{execute}
 use Rattle.xaplain.proofs.KeepLaws.{Keeps, execute_keeps}
 use Rattle.xaplain_calls.specs.Calls.{Called, run, run_parsed}
 use Rattle.xaplain_calls.specs.Refusal.{Sized}
-use Rattle.xaplain_calls.specs.Demand.{
-  Call,
-  Call.init,
-  Call.check,
-  Call.batch,
-  slices_after,
-  slices_after_all,
-  list_after,
-  list_after_all,
-  Bytewise,
-  Commanded,
-  AtCommand,
-  Ran,
-  AtBatch,
-  AtCall,
-  Demand3,
-  Starts,
-  Starts.fresh,
-  Starts.checked,
-}
+use Rattle.xaplain_calls.specs.Demand.{Call, slices_after, slices_after_all, list_after, list_after_all, Bytewise, Commanded, AtCommand, AtBatch, AtCall, Demand3, Starts, Starts.fresh, Starts.checked}
 use Rattle.xaplain_calls.proofs.CheckedLaws.{is_sized_lem, sized_is, read_is, prescribed_0, accepted, room_is, sized_of, by_room}
 use Rattle.xaplain_calls.proofs.LeaveLaws.{refused_leaves, short_exact, reserve_exact}
 

@@ -13,26 +13,7 @@ use Rattle.blocks.proofs.BoolLaws.{by_t, clash, both_l, not-false}
 use Rattle.blocks.proofs.ListLaws.{any_in_lem, first_no, look}
 use Rattle.answers.specs.Answers.{too_few_nodes}
 use Rattle.model.specs.declared.Entry.{Entry}
-use Rattle.model.specs.Model.{
-  Valid,
-  storable,
-  reserved,
-  reserved_word,
-  max_order,
-  aligned,
-  mark_count,
-  covers,
-  covering,
-  present,
-  clear,
-  insert,
-  new_entry,
-  over,
-  with_word,
-  store,
-  with_mark,
-  remark,
-}
+use Rattle.model.specs.Model.{Valid, storable, reserved, reserved_word, max_order, aligned, mark_count, covers, covering, present, clear, insert, new_entry, over, with_word, store, remark}
 use Rattle.model.proofs.ValidLaws.{covers_self, erase_none}
 use Rattle.batch.specs.declared.Command.{Command}
 use Rattle.batch.specs.declared.Command.TheVariants.{Store, Load, Erase, Mark, Unmark, Find, Reserve}

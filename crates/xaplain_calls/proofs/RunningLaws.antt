@@ -1,6 +1,6 @@
 -- The loop over a batch's commands: where it starts, one turn, and where it ends.
-use Prim.Native.Nat.{ℕ, ◌+◌, ◌*◌, ◌≤◌, ◌<◌}
-use mathlib.Core.Path.{◌≡◌, refl, sym, ap, ap₂, subst, ◌∙◌}
+use Prim.Native.Nat.{ℕ, ◌+◌, ◌≤◌}
+use mathlib.Core.Path.{◌≡◌, refl, sym, ap, subst, ◌∙◌}
 use mathlib.Core.List.{List, ◌∷◌}
 use lib.ListN.{length}
 use Rattle.words.specs.Bytes.{write_from, overwrite}
@@ -10,11 +10,11 @@ use Rattle.batch.specs.declared.Command.{Command}
 use Rattle.batch.specs.declared.Cursor.{Cursor}
 use Rattle.batch.specs.declared.Read.TheVariants.{Next}
 use Rattle.batch.specs.declared.Reply.{Reply}
-use Rattle.batch.specs.Batch.{Parsed, Parsed.commands, read_at, rest_at}
+use Rattle.batch.specs.Batch.{Parsed, read_at, rest_at}
 use Rattle.batch.specs.Reply.{reply_bytes, encode}
 use Rattle.commands.specs.Batches.{Ahead}
 use Rattle.commands.proofs.BatchesLaws.{same_commands, After, turn, ahead_on, none_left, reply_then}
-use Rattle.xaplain.specs.Moves.{Holds, Columns}
+use Rattle.xaplain.specs.Moves.{Holds}
 use Rattle.xaplain.specs.Engine.{execute}
 use Rattle.xaplain.specs.declared.Turned.{Turned}
 use Rattle.xaplain.specs.Executes.{Executes}

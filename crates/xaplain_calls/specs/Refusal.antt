@@ -3,7 +3,7 @@ use Rattle.std.specs.Prelude.{ℕ, ◌*◌, ◌≤◌, ◌<◌, ◌≡◌, List,
 use Rattle.answers.specs.Answers.{result_of}
 use Rattle.model.specs.declared.Entry.{Entry}
 use Rattle.batch.specs.declared.Command.{Command}
-use Rattle.batch.specs.Batch.{Parsed, Parsed.commands, parse}
+use Rattle.batch.specs.Batch.{Parsed, parse}
 use Rattle.batch.specs.Records.{Refuses}
 use Rattle.batch.specs.Reply.{reply_bytes}
 use Rattle.commands.specs.Batches.{replies_by, list_by}

@@ -3,7 +3,7 @@ use Rattle.std.specs.Prelude.{ℕ, ◌≡◌, List, length}
 use Rattle.words.specs.Bytes.{overwrite}
 use Rattle.model.specs.declared.Entry.{Entry}
 use Rattle.batch.specs.declared.Command.{Command}
-use Rattle.batch.specs.Batch.{Parsed, Parsed.commands, rest_at}
+use Rattle.batch.specs.Batch.{Parsed, rest_at}
 use Rattle.batch.specs.Reply.{encode}
 use Rattle.commands.specs.Batches.{replies_by, list_by, Ahead}
 use Rattle.xaplain.specs.Moves.{Holds, Columns}

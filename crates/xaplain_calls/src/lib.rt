@@ -124,8 +124,8 @@ pub fn init(index: &mut [u64], order: &mut [u64], word: &mut [u64], marks: &mut 
 // Whether the slices hold a list and then zeros. Answers 0, 1 or 2; writes nothing.
 pub fn check(index: &[u64], order: &[u64], word: &[u64], marks: &[u64]) -> Result
     ensures value { result ≡ check_result (slices index.now order.now word.now marks.now) }
-    ensures marks_value { slices index.now order.now word.now marks.now ≡
-        slices index.now order.now word.now marks.now }
+    ensures marks_value { slices index.exit.now order.exit.now word.exit.now marks.exit.now ≡
+        slices index.entry.now order.entry.now word.entry.now marks.entry.now }
 {
     let answer = xaplain::check(index, order, word, marks);
     Result {
@@ -150,7 +150,7 @@ pub fn run(
         batch.now reply.old).slices }
     ensures reply_after { reply.new ≡ (Calls.run (slices index.old order.old word.old marks.old)
         batch.now reply.old).reply }
-    ensures batch_value { batch.now ≡ batch.now }
+    ensures batch_value { batch.exit.now ≡ batch.entry.now }
 {
     let answer = xaplain::check(index, order, word, marks);
     if answer != DONE {

@@ -22,7 +22,7 @@ pub extern "C" fn assoc_clear(pool: &mut [u64]) -> Result
 #[unsafe(no_mangle)]
 pub extern "C" fn assoc_check(pool: &[u64]) -> Result
     ensures r_value { result ≡ result_of (check_answer pool.now) 0 }
-    ensures pool_value { pool.now ≡ pool.now }
+    ensures pool_value { pool.exit.now ≡ pool.entry.now }
 {
     assoc_calls::check(pool)
 }
@@ -31,8 +31,8 @@ pub extern "C" fn assoc_check(pool: &[u64]) -> Result
 #[unsafe(no_mangle)]
 pub extern "C" fn assoc_lookup(pool: &[u64], key: &[u8]) -> Result
     ensures r_value { result ≡ lookup pool.now key.now }
-    ensures pool_value { pool.now ≡ pool.now }
-    ensures key_value { key.now ≡ key.now }
+    ensures pool_value { pool.exit.now ≡ pool.entry.now }
+    ensures key_value { key.exit.now ≡ key.entry.now }
 {
     assoc_calls::lookup(pool, key)
 }

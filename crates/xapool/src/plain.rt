@@ -29,8 +29,8 @@ pub extern "C" fn xaplain_init(
 #[unsafe(no_mangle)]
 pub extern "C" fn xaplain_check(index: &[u64], order: &[u64], word: &[u64], marks: &[u64]) -> Result
     ensures value { result ≡ check_result (slices index.now order.now word.now marks.now) }
-    ensures marks_value { slices index.now order.now word.now marks.now ≡
-        slices index.now order.now word.now marks.now }
+    ensures marks_value { slices index.exit.now order.exit.now word.exit.now marks.exit.now ≡
+        slices index.entry.now order.entry.now word.entry.now marks.entry.now }
 {
     xaplain_calls::check(index, order, word, marks)
 }
@@ -52,7 +52,7 @@ pub extern "C" fn xaplain_run(
         batch.now reply.old).slices }
     ensures reply_after { reply.new ≡ (Calls.run (slices index.old order.old word.old marks.old)
         batch.now reply.old).reply }
-    ensures batch_value { batch.now ≡ batch.now }
+    ensures batch_value { batch.exit.now ≡ batch.entry.now }
 {
     xaplain_calls::run(index, order, word, marks, batch, reply)
 }

@@ -22,7 +22,7 @@ pub extern "C" fn xapool_init(pool: &mut [u64]) -> Result
 #[unsafe(no_mangle)]
 pub extern "C" fn xapool_check(pool: &[u64]) -> Result
     ensures value { result ≡ check_result pool.now }
-    ensures pool_value { pool.now ≡ pool.now }
+    ensures pool_value { pool.exit.now ≡ pool.entry.now }
 {
     calls::check(pool)
 }
@@ -33,7 +33,7 @@ pub extern "C" fn xapool_run(pool: &mut [u64], batch: &[u8], reply: &mut [u8]) -
     ensures value { result ≡ (Calls.run pool.old batch.now reply.old).result }
     ensures pool_after { pool.new ≡ (Calls.run pool.old batch.now reply.old).words }
     ensures reply_after { reply.new ≡ (Calls.run pool.old batch.now reply.old).reply }
-    ensures batch_value { batch.now ≡ batch.now }
+    ensures batch_value { batch.exit.now ≡ batch.entry.now }
 {
     calls::run(pool, batch, reply)
 }
@@ -43,7 +43,7 @@ pub extern "C" fn xapool_run(pool: &mut [u64], batch: &[u8], reply: &mut [u8]) -
 #[unsafe(no_mangle)]
 pub extern "C" fn xapool_count(batch: &[u8]) -> Result
     ensures value { result ≡ count_result batch.now }
-    ensures batch_value { batch.now ≡ batch.now }
+    ensures batch_value { batch.exit.now ≡ batch.entry.now }
 {
     calls::count(batch)
 }
@@ -54,7 +54,7 @@ pub extern "C" fn xapool_count(batch: &[u8]) -> Result
 pub extern "C" fn xapool_list(pool: &[u64], first: u64, last: u64, buffer: &mut [u8]) -> Result
     ensures value { result ≡ (Calls.list pool.now first last buffer.old).result }
     ensures buffer_after { buffer.new ≡ (Calls.list pool.now first last buffer.old).buffer }
-    ensures pool_value { pool.now ≡ pool.now }
+    ensures pool_value { pool.exit.now ≡ pool.entry.now }
 {
     calls::list(pool, first, last, buffer)
 }

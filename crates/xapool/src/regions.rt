@@ -16,7 +16,7 @@ pub struct Comparison {
 #[unsafe(no_mangle)]
 pub extern "C" fn xapool_crc32c(crc: u32, region: &[u8]) -> u32
     ensures value { result ≡ crc32c crc region.now }
-    ensures region_value { region.now ≡ region.now }
+    ensures region_value { region.exit.now ≡ region.entry.now }
 {
     crc32c::crc32c(crc, region)
 }
@@ -25,8 +25,8 @@ pub extern "C" fn xapool_crc32c(crc: u32, region: &[u8]) -> u32
 #[unsafe(no_mangle)]
 pub extern "C" fn xapool_compare(old: &[u8], new: &[u8]) -> Comparison
     ensures value { result ≡ compare_result old.now new.now }
-    ensures value_2 { old.now ≡ old.now }
-    ensures value_3 { new.now ≡ new.now }
+    ensures old_value { old.exit.now ≡ old.entry.now }
+    ensures new_value { new.exit.now ≡ new.entry.now }
 {
     let c = region::compare_digests(old, new);
     let verdict = c.verdict;

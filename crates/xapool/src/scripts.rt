@@ -12,8 +12,8 @@ use answers::Result;
 pub extern "C" fn xapool_prepare(pool: &[u64], record: &[u8], script: &mut [u64]) -> Result
     ensures value { result ≡ (prepare pool.now «record».now script.old).result }
     ensures script_after { script.new ≡ (prepare pool.now «record».now script.old).slice }
-    ensures pool_value { pool.now ≡ pool.now }
-    ensures record_value { «record».now ≡ «record».now }
+    ensures pool_value { pool.exit.now ≡ pool.entry.now }
+    ensures record_value { «record».exit.now ≡ «record».entry.now }
 {
     calls::prepare(pool, record, script)
 }
@@ -24,7 +24,7 @@ pub extern "C" fn xapool_prepare(pool: &[u64], record: &[u8], script: &mut [u64]
 pub extern "C" fn xapool_apply(pool: &mut [u64], script: &[u64]) -> Result
     ensures value { result ≡ apply_result pool.old script.now }
     ensures pool_after { pool.new ≡ apply_words pool.old script.now }
-    ensures script_value { script.now ≡ script.now }
+    ensures script_value { script.exit.now ≡ script.entry.now }
 {
     script::apply(pool, script)
 }

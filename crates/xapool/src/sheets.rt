@@ -20,8 +20,8 @@ pub struct Part {
 #[unsafe(no_mangle)]
 pub extern "C" fn xapool_evidence(base: &[u8], supplement: &[u8], index: u64) -> Part
     ensures value { result ≡ part_result (look base.now supplement.now index) }
-    ensures base_value { base.now ≡ base.now }
-    ensures supplement_value { supplement.now ≡ supplement.now }
+    ensures base_value { base.exit.now ≡ base.entry.now }
+    ensures supplement_value { supplement.exit.now ≡ supplement.entry.now }
 {
     let f = evidence::look(base, supplement, index);
     match f {

@@ -6,7 +6,7 @@ use crate::names::command::{execute, result, Call, Done};
 use crate::names::pool::{block_count, State};
 use crate::names::recover::recover;
 
-/// How many blocks there are in word 0, and 0 in all others, whatever stood there.
+/// The number of blocks in word 0 and all other words 0, whatever stood there.
 pub fn clear(pool: &mut [u64]) -> Outcome {
     let Some(count) = block_count(pool.len()) else {
         return result(POOL_LENGTH, 0);

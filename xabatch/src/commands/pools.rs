@@ -86,8 +86,8 @@ fn listing_of(file: &OsStr, first: u64, last: u64) -> Result<Listing, Failure> {
     Listing::read(bytes).map_err(|bad| of_file(file, bad))
 }
 
-/// The walk of `Pool::find`, over the pauses of any budget: it misses no entry (`no-index-missed` and
-/// `budgets-agree` of crates/walks). The file is read once, so nothing changes in between.
+/// The walk of `Pool::find`, over the pauses of any budget: it misses no entry (`no_index_missed` and
+/// `budgets_agree` of crates/walks). The file is read once, so nothing changes in between.
 pub fn find(arguments: Arguments) -> Result<(), Failure> {
     let named = arguments.between(1, 2)?;
     let (first, last) = range_of("", named.get(1).map(OsString::as_os_str))?;

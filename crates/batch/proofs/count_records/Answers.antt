@@ -1,4 +1,3 @@
-use Prim.Native.Nat.{◌-◌}
 use mathlib.Core.Path.{refl, sym}
 use native.Mathlib.Omega.{arith}
 use Rattle.batch.proofs.BatchLaws.{read_end, read_bad, read_next}
@@ -16,8 +15,7 @@ returns-then-next-eq0 c =
     (read_bad _ _ c.loop-at-test.true _ c.skip_at-next.ensures c.if-next-eq0.true)
 
 pub loop-at-preserved : goal.loop-at-preserved
-loop-at-preserved c =
-    (
+loop-at-preserved c = (
   omega (arith, onward c),
   (onward c).within,
   count_next _ _ _ c.loop-at.invariant.2

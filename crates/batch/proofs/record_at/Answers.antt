@@ -15,7 +15,7 @@ tag_is c = one_byte c.args.batch.now c.args.at c.number1-tag.ensures.0
 
 pub returns : goal.returns
 returns c =
-    let d = c in let n = d in let z =  n in
+    let d = c in let n = d in let z = n in
     let s = z.args.batch.now in let at = z.args.at in
     read_good s at z.requires (d.command_at-command.ensures ∙ ap (λ (x : ℕ). command_at s x (at + head_bytes)) (tag_is n))
     (ap (λ (x : ℕ). at + head_bytes + x) (c.number2.ensures.0 ∙ (whole_of n).length_is))

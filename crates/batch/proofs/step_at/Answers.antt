@@ -21,7 +21,7 @@ tag_is_3 c = one_byte c.args.batch.now c.args.at c.number1-tag.ensures.0
 
 pub returns-then-tag-eq1 : goal.returns-then-tag-eq1
 returns-then-tag-eq1 c =
-    let n8 = c in let t =  c in let n = t in let z =  n in
+    let n8 = c in let t = c in let n = t in let z = n in
     let s = z.args.batch.now in let at = z.args.at in
     let tag : 1 ≡ get_or s at 0 = sym t.if-tag-eq1.true ∙ tag_is n in
     read_good s at z.requires
@@ -31,7 +31,7 @@ returns-then-tag-eq1 c =
 
 pub returns-then-tag-eq6 : goal.returns-then-tag-eq6
 returns-then-tag-eq6 c =
-    let n84 = c in let t =  c in let n =  t in let z =  n in
+    let n84 = c in let t = c in let n = t in let z = n in
     let s = z.args.batch.now in let at = z.args.at in
     let tag : 6 ≡ get_or s at 0 = sym t.if-tag-eq6.true ∙ tag_is_2 n in
     read_good s at z.requires
@@ -41,7 +41,7 @@ returns-then-tag-eq6 c =
 
 pub returns : goal.returns
 returns c =
-    let d = c in let n =  d in let z =  n in
+    let d = c in let n = d in let z = n in
     let s = z.args.batch.now in let at = z.args.at in
     read_good s at z.requires (d.rest_at.ensures ∙ ap (λ (x : ℕ). command_at s x (at + head_bytes)) (tag_is_3 n))
     (ap (λ (x : ℕ). at + head_bytes + x) (c.number2-2.ensures.0 ∙ (whole_of n).length_is))

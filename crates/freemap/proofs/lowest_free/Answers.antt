@@ -1,4 +1,3 @@
-use Prim.Native.Nat.{◌-◌}
 use native.Mathlib.Omega.{arith}
 use Rattle.freemap.proofs.MapLaws.{pass_words, lowest_is}
 use Rattle.freemap.proofs.lowest_free.Goals as goal
@@ -12,7 +11,7 @@ returns-then-t-lt-WORD_BITS c =
 pub loop-j-preserved : goal.loop-j-preserved
 loop-j-preserved c =
     let m = c in let t = m in let w = t in (
-  omega (arith, t.loop-j-test.true),
-  pass_words w.requires.is w.loop-j.j m.next_bit-t.result (omega (arith, t.loop-j-test.true)) m.next_bit-t.ensures
-      (omega (arith, c.if-t-lt-WORD_BITS.false)) w.loop-j.invariant.1,
-)
+      omega (arith, t.loop-j-test.true),
+      pass_words w.requires.is w.loop-j.j m.next_bit-t.result (omega (arith, t.loop-j-test.true)) m.next_bit-t.ensures
+          (omega (arith, c.if-t-lt-WORD_BITS.false)) w.loop-j.invariant.1,
+    )

@@ -22,26 +22,26 @@ pub returns-then-holds : goal.returns-then-holds
 unfolding judge
 returns-then-holds c =
     rw (
-  ← c.bad_limits.ensures,
-  c.if-bad_limits.false,
-  ne_eqb _ _ c.if-total-eq0.false,
-  le-ltb _ _
-      c.if-total-part.false,
-  ← c.share.ensures,
-  ← c.holds.ensures,
-  c.if-holds.true,
-)
+      ← c.bad_limits.ensures,
+      c.if-bad_limits.false,
+      ne_eqb _ _ c.if-total-eq0.false,
+      le-ltb _ _
+          c.if-total-part.false,
+      ← c.share.ensures,
+      ← c.holds.ensures,
+      c.if-holds.true,
+    )
 
 pub returns : goal.returns
 unfolding judge
 returns c =
     rw (
-  ← c.bad_limits.ensures,
-  c.if-bad_limits.false,
-  ne_eqb _ _ c.if-total-eq0.false,
-  le-ltb _ _
-      c.if-total-part.false,
-  ← c.share.ensures,
-  ← c.holds.ensures,
-  c.if-holds.false,
-)
+      ← c.bad_limits.ensures,
+      c.if-bad_limits.false,
+      ne_eqb _ _ c.if-total-eq0.false,
+      le-ltb _ _
+          c.if-total-part.false,
+      ← c.share.ensures,
+      ← c.holds.ensures,
+      c.if-holds.false,
+    )

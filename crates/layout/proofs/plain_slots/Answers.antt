@@ -1,11 +1,9 @@
-use Prim.Native.Nat.{◌-◌}
 use native.Mathlib.Omega.{arith}
 use Rattle.layout.proofs.PassLaws.{tested_next}
 use Rattle.layout.proofs.plain_slots.Goals as goal
 
 pub loop-o-preserved : goal.loop-o-preserved
-loop-o-preserved c =
-    (
+loop-o-preserved c = (
   omega arith,
   omega arith,
   tested_next _ _ _ _ _ _ _ c.loop-o.invariant.2 (omega arith) c.slot_word.ensures

@@ -60,8 +60,7 @@ loop-m-smaller c =
     omega (arith, (down c c.requires.well_formed).0)
 
 pub loop-m-preserved : goal.loop-m-preserved
-loop-m-preserved c =
-    (
+loop-m-preserved c = (
   omega (arith, c.loop-m.invariant.0),
   λ s. let r = down c s in
       (r.1, r.2 ∙ (c.loop-m.invariant.1 s).1),

@@ -1,5 +1,5 @@
 -- `ending_under`: the way down to index i from the head node first on, whose slots are of tier top: each node on
-use Prim.Native.Nat.{suc, ◌-◌, ◌<◌}
+use Prim.Native.Nat.{suc, ◌<◌}
 use mathlib.Core.Path.{◌≡◌}
 use Rattle.blocks.specs.Blocks.{block}
 use Rattle.tree.specs.Tree.{tier_order, top_tier}

@@ -9,22 +9,18 @@ use Rattle.lookup.proofs.HeadLaws.{at_spot}
 use Rattle.lookup.proofs.locate.Goals as goal
 
 gap : (c : goal.In-Vacant) (s : WellFormed c.args.pool.now) →
-    
     Stops s.list (num s) c.args.i (Vacant c.in-Vacant.n c.in-Vacant.v c.in-Vacant.top)
 gap c s = subst (Stops s.list (num s) _) c.in-Vacant.is (c.ending-k.ensures s)
 
 within : (c : goal.In-Within) (s : WellFormed c.args.pool.now) →
-    
     Covers s.list (num s) c.args.i c.in-Within.n c.in-Within.v c.in-Within.c c.in-Within.top
 within c s = subst (Stops s.list (num s) _) c.in-Within.is (c.ending-k.ensures s)
 
 within_2 : (c : goal.After-entry_at-e) (s : WellFormed c.args.pool.now) →
-    
     Covers s.list (num s) c.args.i c.in-Within.n c.in-Within.v c.in-Within.c c.in-Within.top
 within_2 c s = subst (Stops s.list (num s) _) c.in-Within.is (c.ending-k.ensures s)
 
 within_3 : (c : goal.After-spot_of-at) (s : WellFormed c.args.pool.now) →
-    
     Covers s.list (num s) c.args.i c.in-Within.n c.in-Within.v c.in-Within.c c.in-Within.top
 within_3 c s = subst (Stops s.list (num s) _) c.in-Within.is (c.ending-k.ensures s)
 

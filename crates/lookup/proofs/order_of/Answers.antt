@@ -1,4 +1,4 @@
-use Prim.Native.Nat.{ℕ, ◌+◌, ◌*◌, ◌-◌, ◌/◌, ◌%◌, ◌^◌}
+use Prim.Native.Nat.{ℕ, ◌+◌, ◌*◌, ◌/◌, ◌%◌, ◌^◌}
 use mathlib.Core.Path.{◌≡◌, sym, ap, ◌∙◌}
 use native.Mathlib.Omega.{arith}
 use native.Mathlib.Nat.{pow-succ'}
@@ -34,12 +34,11 @@ read_2 c s v d a q =
 pub returns-then-slot_word-sibling_word-clause-order_value : goal.returns-then-slot_word-sibling_word-clause-order_value
 returns-then-slot_word-sibling_word-clause-order_value c =
     λ s v d e a q st.
-      order_done s.valid st (num s) a.there _ (c.loop-t.invariant.3 s v d e a q st)
-      (λ k. c.if-slot_word-sibling_word.true (read c s v d a q ∙ (k ∙ sym (c.sibling_word.ensures ∙ ap sibling_word q))))
+    order_done s.valid st (num s) a.there _ (c.loop-t.invariant.3 s v d e a q st)
+    (λ k. c.if-slot_word-sibling_word.true (read c s v d a q ∙ (k ∙ sym (c.sibling_word.ensures ∙ ap sibling_word q))))
 
 pub loop-t-preserved : goal.loop-t-preserved
-loop-t-preserved c =
-    (
+loop-t-preserved c = (
   rw add-one (omega (arith, pow-succ' 2 c.loop-t.r)),
   omega arith,
   omega arith,
@@ -51,4 +50,4 @@ loop-t-preserved c =
 pub returns-clause-order_value : goal.returns-clause-order_value
 returns-clause-order_value c =
     λ s v d e a q st.
-      order_end s.valid st (num s) a.there _ (c.loop-t.invariant.3 s v d e a q st) (omega arith)
+    order_end s.valid st (num s) a.there _ (c.loop-t.invariant.3 s v d e a q st) (omega arith)

@@ -15,6 +15,6 @@ slot_word-requires c =
 pub returns-clause-view : goal.returns-clause-view
 returns-clause-view c =
     λ s. seen s c.args.p
-      (c.requires.at_node s)
-      (ap (λ (x : ℕ). x % slots) c.block_of-c.ensures) c.slot_word.ensures
-      c.read_slot-k.ensures
+    (c.requires.at_node s)
+    (ap (λ (x : ℕ). x % slots) c.block_of-c.ensures) c.slot_word.ensures
+    c.read_slot-k.ensures

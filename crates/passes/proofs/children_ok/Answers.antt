@@ -1,5 +1,4 @@
 use native.Mathlib.Omega.{arith}
-use Prim.Native.Nat.{◌-◌}
 use Rattle.steps.proofs.DecideLaws.{below_next}
 use Rattle.passes.proofs.children_ok.Goals as goal
 

@@ -1,6 +1,5 @@
 use mathlib.Core.Path.{refl}
 use native.Mathlib.Omega.{arith}
-use Prim.Native.Nat.{◌-◌}
 use Rattle.passes.specs.Bytes.{byte_of, not_leaf}
 use Rattle.passes.proofs.ByteLaws.{short_byte, short_not_leaf, read_on, read_all}
 use Rattle.passes.proofs.leaf_bytes.Goals as goal

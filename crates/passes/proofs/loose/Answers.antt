@@ -1,5 +1,4 @@
 use native.Mathlib.Omega.{arith}
-use Prim.Native.Nat.{◌-◌}
 use Rattle.passes.proofs.ByteLaws.{off_next, off_all}
 use Rattle.passes.proofs.loose.Goals as goal
 

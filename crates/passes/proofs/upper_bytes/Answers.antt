@@ -1,6 +1,5 @@
 use mathlib.Core.Path.{refl}
 use native.Mathlib.Omega.{arith}
-use Prim.Native.Nat.{◌-◌}
 use Rattle.passes.specs.Bytes.{upper_byte_of, not_upper}
 use Rattle.passes.proofs.ByteLaws.{short_byte, short_not_upper, read_on, read_all}
 use Rattle.passes.proofs.upper_bytes.Goals as goal

@@ -1,7 +1,7 @@
 -- `is_power`: whether p is a power of two up to 32.
 use native.Mathlib.Omega.{arith}
 use Rattle.blocks.proofs.BoolLaws.{decide_eqb}
-use Rattle.steps.proofs.DecideLaws.{yes!}
+use Rattle.steps.proofs.DecideLaws.{yes! }
 use Rattle.steps.proofs.RunLaws.{no_power}
 use Rattle.steps.proofs.is_power.Goals as goal
 

@@ -1,6 +1,5 @@
 -- `rest_clear`: whether the p - 1 bits of m after bit j are 0.
 use native.Mathlib.Omega.{arith}
-use Prim.Native.Nat.{◌-◌}
 use Rattle.steps.proofs.WordLaws.{rest_decides}
 use Rattle.steps.proofs.rest_clear.Goals as goal
 

@@ -1,7 +1,7 @@
 -- `run_fits`: whether an entry may take p slots from slot j on.
 use mathlib.Core.Path.{sym, ◌∙◌}
 use native.Mathlib.Omega.{arith}
-use Rattle.steps.proofs.DecideLaws.{yes!, no!}
+use Rattle.steps.proofs.DecideLaws.{yes!, no! }
 use Rattle.steps.proofs.WordLaws.{mask_mod}
 use Rattle.steps.proofs.run_fits.Goals as goal
 

@@ -9,7 +9,7 @@ use Rattle.steps.proofs.run_ok.Goals as goal
 
 pub returns-then-not-run_fits : goal.returns-then-not-run_fits
 returns-then-not-run_fits c =
-    let s =  c in
+    let s = c in
     let P = pool_of s.args.pool.now in
     let q = subst (λ (w : ℕ). SameSlots P s.args.n s.args.j w c.same_slots-p.result)
     c.sibling_word.ensures c.same_slots-p.ensures in
@@ -19,7 +19,7 @@ returns-then-not-run_fits c =
 
 pub returns-then-not-rest_clear : goal.returns-then-not-rest_clear
 returns-then-not-rest_clear c =
-    let s =  c in
+    let s = c in
     let P = pool_of s.args.pool.now in
     let q = subst (λ (w : ℕ). SameSlots P s.args.n s.args.j w c.same_slots-p.result)
     c.sibling_word.ensures c.same_slots-p.ensures in
@@ -31,7 +31,7 @@ returns-then-not-rest_clear c =
 
 pub returns : goal.returns
 returns c =
-    let s =  c in
+    let s = c in
     let P = pool_of s.args.pool.now in
     let q = subst (λ (w : ℕ). SameSlots P s.args.n s.args.j w c.same_slots-p.result)
     c.sibling_word.ensures c.same_slots-p.ensures in

@@ -1,4 +1,3 @@
-use Prim.Native.Nat.{◌-◌}
 use mathlib.Core.Path.{sym, ◌∙◌}
 use native.Mathlib.Omega.{arith}
 use Rattle.xaplain.proofs.StoreLaws.{any_on, any_hit, any_end}
@@ -11,8 +10,7 @@ returns-then-marks-k-eq1 c =
     c.loop-k-test.true c.if-marks-k-eq1.true)
 
 pub loop-k-preserved : goal.loop-k-preserved
-loop-k-preserved c =
-    (
+loop-k-preserved c = (
   omega arith,
   omega arith,
   c.loop-k.invariant.2 ∙ any_on c.args.marks.now

@@ -1,4 +1,3 @@
-use Prim.Native.Nat.{◌-◌}
 use mathlib.Core.Path.{◌≡◌, sym, ◌∙◌}
 use mathlib.Core.Bool.{false}
 use native.Mathlib.Omega.{arith}
@@ -13,8 +12,7 @@ begin-k-requires-clause-rising c =
     holds_rises c.requires.holds
 
 pub loop-k-init : goal.loop-k-init
-loop-k-init c =
-    (
+loop-k-init c = (
   c.begin-k.ensures.within,
   (λ h j g. not_before h c.args.f
       c.args.a c.args.z c.begin-k.result c.begin-k.ensures j g),
@@ -45,8 +43,7 @@ returns-then-hits c =
     (sym c.hits.ensures ∙ c.if-hits.true)
 
 pub loop-k-preserved : goal.loop-k-preserved
-loop-k-preserved c =
-    (
+loop-k-preserved c = (
   omega arith,
   (λ h. below_more (λ j. meets c.args.f c.args.a
       c.args.z

@@ -1,6 +1,6 @@
 use mathlib.Core.Path.{◌≡◌, sym, ◌∙◌}
 use lib.ListN.{length}
-use Rattle.xaplain.specs.Slices.{in_order, list_of, all_zero}
+use Rattle.xaplain.specs.Slices.{list_of}
 use Rattle.xaplain.proofs.LoopLaws.{count_is}
 use Rattle.xaplain.proofs.holds.Goals as goal
 

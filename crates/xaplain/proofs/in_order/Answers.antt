@@ -1,10 +1,9 @@
 use mathlib.Core.Bool.{true}
 use Rattle.xaplain.specs.Slices.{fits_entry, entry_at}
-use Prim.Native.Nat.{ℕ, ◌+◌, ◌-◌, ◌^◌, ◌<◌}
+use Prim.Native.Nat.{ℕ, ◌+◌, ◌^◌, ◌<◌}
 use mathlib.Core.Path.{◌≡◌, sym, ap, ◌∙◌}
 use native.Mathlib.Omega.{arith}
 use lib.ListN.{get_or}
-use Rattle.blocks.proofs.BoolLaws.{not-false}
 use Rattle.xaplain.specs.Slices.{in_order}
 use Rattle.xaplain.specs.Moves.{low_of}
 use Rattle.xaplain.proofs.LoopLaws.{rest_list, list_start, order_low, order_bad, order_on, order_end, last_fits, next_low}
@@ -37,8 +36,7 @@ pub overflow_add-last : goal.overflow_add-last
 overflow_add-last c =
     let a = c.args in
     let k = c.loop-k.k in
-    let t : fits_entry (entry_at a.index.now a.order.now a.word.now a.marks.now k) ≡ true = sym c.fits.ensures ∙ not-false _
-    c.if-not-fits.false in
+    let t : fits_entry (entry_at a.index.now a.order.now a.word.now a.marks.now k) ≡ true = sym c.fits.ensures ∙ c.if-not-fits.false in
     let lt : get_or a.index.now k 0 < 2 ^ 64 = omega (
       arith,
       c.shared_slice_known-1.given k,
@@ -54,8 +52,7 @@ loop-k-preserved c =
     let a = c.args in
     let v = c.loop-k in
     let k = c.loop-k.k in
-    let t : fits_entry (entry_at a.index.now a.order.now a.word.now a.marks.now k) ≡ true = sym c.fits.ensures ∙ not-false _
-    c.if-not-fits.false in
+    let t : fits_entry (entry_at a.index.now a.order.now a.word.now a.marks.now k) ≡ true = sym c.fits.ensures ∙ c.if-not-fits.false in
     let lt : get_or a.index.now k 0 < 2 ^ 64 = omega (
       arith,
       c.shared_slice_known-1.given k,

@@ -1,4 +1,4 @@
-use Prim.Native.Nat.{◌-◌, ◌≤◌}
+use Prim.Native.Nat.{◌≤◌}
 use Rattle.xaplain.specs.Moves.{Opened}
 use Rattle.xaplain.proofs.open.Given as goal
 

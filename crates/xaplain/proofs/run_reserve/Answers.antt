@@ -7,7 +7,7 @@ use Rattle.xaplain.proofs.run_reserve.Goals as goal
 
 pub returns-in-Nothing : goal.returns-in-Nothing
 returns-in-Nothing c =
-    let s =  c in let m =  s in let x = m in let i = x.args.i in
+    let s = c in let m = s in let x = m in let i = x.args.i in
     λ h. turns h (Reserve i) 135 i (store h.list i 0 reserved_word)
     (reserve_none h i (sym m.in-Nothing.is ∙ x.covering.ensures h)) (s.store-s.ensures h) c.stored_turn.ensures
 

@@ -12,21 +12,21 @@ returns-then-k-gt-MAX_ORDER c =
 
 pub returns-then-not-is_aligned : goal.returns-then-not-is_aligned
 returns-then-not-is_aligned c =
-    let x = c in let o =  x in let z =  o in let a = z.args in
+    let x = c in let o = x in let z = o in let a = z.args in
     λ h. leaves h (Store a.i a.k a.w)
     (store_index h a.i a.k a.w o.if-k-gt-MAX_ORDER.false (sym x.is_aligned.ensures ∙ c.if-not-is_aligned.true)) c.refused-then-not-is_aligned.ensures
 
 pub returns-then-not-is_storable : goal.returns-then-not-is_storable
 returns-then-not-is_storable c =
-    let y = c in let d =  y in let x = d in let o =  x in let z =  o in let a = z.args in
+    let y = c in let d = y in let x = d in let o = x in let z = o in let a = z.args in
     λ h. leaves h (Store a.i a.k a.w)
     (store_word h a.i a.k a.w o.if-k-gt-MAX_ORDER.false (sym x.is_aligned.ensures ∙ d.if-not-is_aligned.false)
     (sym y.is_storable.ensures ∙ c.if-not-is_storable.true)) c.refused-then-not-is_storable.ensures
 
 pub returns : goal.returns
 returns c =
-    let s =  c in let e =  s in let y = e in let d =  y in let x = d in let o =  x in
-    let z =  o in let a = z.args in
+    let s = c in let e = s in let y = e in let d = y in let x = d in let o = x in
+    let z = o in let a = z.args in
     λ h. turns h (Store a.i a.k a.w) 129 a.i (store h.list a.i a.k a.w)
     (store_new_lem h a.i a.k a.w o.if-k-gt-MAX_ORDER.false (sym x.is_aligned.ensures ∙ d.if-not-is_aligned.false)
     (sym y.is_storable.ensures ∙ e.if-not-is_storable.false))

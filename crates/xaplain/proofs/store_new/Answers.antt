@@ -14,7 +14,7 @@ starts_below-p-requires-clause-rising c =
 
 pub overflow_add-last : goal.overflow_add-last
 overflow_add-last c =
-    let z =  c in let k≤ = z.requires.k_le_max_order.0 in
+    let z = c in let k≤ = z.requires.k_le_max_order.0 in
     rw (shl_one z.args.k k≤)
     (omega (arith, pow_pos z.args.k, end_fits z.args.k z.args.i k≤ z.ranges.i.fits (whole z.args.i z.args.k z.requires.k_le_max_order.1)))
 
@@ -25,11 +25,11 @@ position-q-requires-clause-rising c =
 
 pub returns-then-index-count : goal.returns-then-index-count
 returns-then-index-count c =
-    let y = c in let x =  y in let z =  x in
+    let y = c in let x = y in let z = x in
     λ h. new_short h z.args.i z.args.k z.args.w _ _ z.requires.k_le_max_order.0 x.starts_below-p.ensures y.position-q.ensures c.if-index-count.true
 
 pub returns : goal.returns
 returns c =
-    let d =  c in let g =  d in let r =  g in let y = r in let x =  y in let z =  x in
+    let d = c in let g = d in let r = g in let y = r in let x = y in let z = x in
     λ h. new_done h z.args.i z.args.k z.args.w _ _ z.requires.k_le_max_order.0 x.starts_below-p.ensures y.position-q.ensures _
     z.requires.k_le_max_order.1 (z.requires.list_value h) r.if-index-count.false g.kept-m.ensures (d.put.ensures h)

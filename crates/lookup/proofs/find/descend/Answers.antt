@@ -26,11 +26,11 @@ down c s =
 pub returns-in-Here-clause-stopped : goal.returns-in-Here-clause-stopped
 returns-in-Here-clause-stopped c =
     λ s. let r = c.loop-m.invariant.1 s in
-      record {
-        at_node_lem = r.0;
-        tier_is = stop_here s.list (num s) _ _ _
-            (sym (c.below-d.ensures s) ∙ c.in-Here.is) ∙ r.1;
-      }
+    record {
+      at_node_lem = r.0;
+      tier_is = stop_here s.list (num s) _ _ _
+          (sym (c.below-d.ensures s) ∙ c.in-Here.is) ∙ r.1;
+    }
 
 pub overflow_sub-v : goal.overflow_sub-v
 overflow_sub-v c =
@@ -41,8 +41,7 @@ loop-m-smaller c =
     omega (arith, (down c c.requires.well_formed).0)
 
 pub loop-m-preserved : goal.loop-m-preserved
-loop-m-preserved c =
-    (
+loop-m-preserved c = (
   omega (arith, c.loop-m.invariant.0),
   λ s. let r = down c s in
       (r.1, r.2 ∙ (c.loop-m.invariant.1 s).1),

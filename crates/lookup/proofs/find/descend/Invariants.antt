@@ -1,5 +1,5 @@
 -- `descend`: the way down to p, from node first, whose slots are of tier top.
-use Prim.Native.Nat.{suc, ◌-◌, ◌<◌}
+use Prim.Native.Nat.{suc, ◌<◌}
 use mathlib.Core.Path.{◌≡◌}
 use Rattle.blocks.specs.Blocks.{block}
 use Rattle.tree.specs.Tree.{tier_order, top_tier}

@@ -11,4 +11,4 @@ pub returns-then-filter-eq-ANY_MARK-clause-leaps : goal.returns-then-filter-eq-A
 returns-then-filter-eq-ANY_MARK-clause-leaps c =
     let r = c.next_filled-to.ensures in
     λ s v d b q pos. subst (λ (f : ℕ). Leaps s.list (num s) f v d (d - c.args.o + c.next_filled-to.result) (c.next_filled-to.result - c.args.o))
-          (sym c.if-filter-eq-ANY_MARK.true) (leaps_empty s d _ b q _ r.to (omega arith) r.empty)
+    (sym c.if-filter-eq-ANY_MARK.true) (leaps_empty s d _ b q _ r.to (omega arith) r.empty)

@@ -31,12 +31,12 @@ returns-clause-leaps c =
     let le : sibling_count (λ i. get_or a.pool.now (slot_place a.n i) 0) a.o (to - a.o) ≤ to - a.o = count_le
     (λ i. get_or a.pool.now (slot_place a.n i) 0) a.o (to - a.o) in
     λ s v d b q pos.
-          leaps_marked s d a.o b q a.m to _ c.requires.m_lt_mark_count
-          (subst (λ (w : ℕ). NextBit slots w a.o to) c.mark_word-w.ensures x)
-          (let z : sibling_bit c.slot_word.result ≡ 0 = omega (
-            arith,
-            c.if-sibling_bit-eq1.false,
-            c.sibling_bit.ensures,
-            sibling_bit_le c.slot_word.result,
-          ) in
-          ap sibling_bit (sym c.slot_word.ensures) ∙ z) (omega (arith, c.siblings-k.ensures)) pos
+    leaps_marked s d a.o b q a.m to _ c.requires.m_lt_mark_count
+    (subst (λ (w : ℕ). NextBit slots w a.o to) c.mark_word-w.ensures x)
+    (let z : sibling_bit c.slot_word.result ≡ 0 = omega (
+      arith,
+      c.if-sibling_bit-eq1.false,
+      c.sibling_bit.ensures,
+      sibling_bit_le c.slot_word.result,
+    ) in
+    ap sibling_bit (sym c.slot_word.ensures) ∙ z) (omega (arith, c.siblings-k.ensures)) pos

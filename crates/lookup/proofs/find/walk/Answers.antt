@@ -28,7 +28,7 @@ pub walk_under-requires-clause-on_way : goal.walk_under-requires-clause-on_way
 walk_under-requires-clause-on_way c =
     let t = c.requires in
     λ s. let (z, le, h, a) = entered_under (c.enter-k.ensures s) _ _ c.in-Under.is in
-                record { at_node_lem = a; through = through_head s.list _ _ _ z h }
+    record { at_node_lem = a; through = through_head s.list _ _ _ z h }
 
 pub returns-in-Outside : goal.returns-in-Outside
 returns-in-Outside c =
