@@ -12,10 +12,10 @@ entry_script-requires-clause-entry_there c =
 pub entry_script-requires-clause-after_there : goal.entry_script-requires-clause-after_there
 entry_script-requires-clause-after_there c =
     record {
-          formed = c.requires.edited.formed;
-          words = render c.requires.edited.list c.requires.edited.formed.places c.requires.edited.formed.n;
-          after = edited c.requires.edited.option c.requires.edited.list c.requires.edited.stays;
-        }
+      formed = c.requires.edited.formed;
+      words = render c.requires.edited.list c.requires.edited.formed.places c.requires.edited.formed.n;
+      after = edited c.requires.edited.option c.requires.edited.list c.requires.edited.stays;
+    }
 
 pub returns-clause-fact : goal.returns-clause-fact
 returns-clause-fact c =

@@ -8,7 +8,6 @@ use Rattle.prepare.proofs.entry_rows.Goals as goal
 pub returns-then-top-eq0 : goal.returns-then-top-eq0
 returns-then-top-eq0 c =
     let e : c.args.top ≡ 0 = omega arith in
-
     λ s o l st. head_table s (subst (EntryThere s c.args.at.base c.args.at.order) e (c.requires.entry_there s)) refl st
     c.head_rows.ensures.count_is c.head_rows.ensures.word_is c.head_rows.ensures.marks_is c.head_rows.ensures.spare_is c.head_rows.ensures.no_node
 

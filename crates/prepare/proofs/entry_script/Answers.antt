@@ -4,10 +4,10 @@ use Rattle.prepare.proofs.entry_script.Goals as goal
 pub yield_table-requires-clause-tabled : goal.yield_table-requires-clause-tabled
 yield_table-requires-clause-tabled c =
     record {
-          formed = c.requires.after_there.formed;
-          words = c.requires.after_there.words;
-          tables = c.after_rows.ensures c.requires.after_there.formed c.requires.after_there.words c.requires.after_there.after;
-        }
+      formed = c.requires.after_there.formed;
+      words = c.requires.after_there.words;
+      tables = c.after_rows.ensures c.requires.after_there.formed c.requires.after_there.words c.requires.after_there.after;
+    }
 
 pub returns-clause-fact : goal.returns-clause-fact
 returns-clause-fact c =

@@ -18,23 +18,23 @@ pub entry_script-requires-clause-after_there : goal.entry_script-requires-clause
 entry_script-requires-clause-after_there c =
     let s = c.requires.well_formed in
     record {
-          formed = s;
-          words = render (erase s.list c.args.i) (new_places s.list (erase s.list c.args.i) s.places) s.n;
-          after = erased (erase s.list c.args.i) (erase_becomes s c.args.out.now c.args.i (c.requires.i_value s).0) (erase_valid c.args.i s.valid);
-        }
+      formed = s;
+      words = render (erase s.list c.args.i) (new_places s.list (erase s.list c.args.i) s.places) s.n;
+      after = erased (erase s.list c.args.i) (erase_becomes s c.args.out.now c.args.i (c.requires.i_value s).0) (erase_valid c.args.i s.valid);
+    }
 
 pub returns-clause-fact : goal.returns-clause-fact
 returns-clause-fact c =
     λ s. let a = erased (erase s.list c.args.i) (erase_becomes s c.args.out.now c.args.i (c.requires.i_value s).0) (erase_valid c.args.i s.valid) in
-          (gives_same (erase_done s c.args.out.now c.args.i (c.requires.i_value s).0) (record {
-            result_is = c.entry_script.ensures.fact s _ a;
-            slice_is = c.entry_script.ensures.fact_2 s _ a;
-          })).result_is
+    (gives_same (erase_done s c.args.out.now c.args.i (c.requires.i_value s).0) (record {
+      result_is = c.entry_script.ensures.fact s _ a;
+      slice_is = c.entry_script.ensures.fact_2 s _ a;
+    })).result_is
 
 pub returns-clause-fact_2 : goal.returns-clause-fact_2
 returns-clause-fact_2 c =
     λ s. let a = erased (erase s.list c.args.i) (erase_becomes s c.args.out.now c.args.i (c.requires.i_value s).0) (erase_valid c.args.i s.valid) in
-          (gives_same (erase_done s c.args.out.now c.args.i (c.requires.i_value s).0) (record {
-            result_is = c.entry_script.ensures.fact s _ a;
-            slice_is = c.entry_script.ensures.fact_2 s _ a;
-          })).slice_is
+    (gives_same (erase_done s c.args.out.now c.args.i (c.requires.i_value s).0) (record {
+      result_is = c.entry_script.ensures.fact s _ a;
+      slice_is = c.entry_script.ensures.fact_2 s _ a;
+    })).slice_is

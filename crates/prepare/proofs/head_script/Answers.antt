@@ -5,10 +5,10 @@ use Rattle.prepare.proofs.head_script.Goals as goal
 pub yield_table-requires-clause-tabled : goal.yield_table-requires-clause-tabled
 yield_table-requires-clause-tabled c =
     record {
-          formed = c.requires;
-          words = set c.args.pool.now 1 c.args.word;
-          tables = word_table c.requires c.args.word c.head_rows.ensures;
-        }
+      formed = c.requires;
+      words = set c.args.pool.now 1 c.args.word;
+      tables = word_table c.requires c.args.word c.head_rows.ensures;
+    }
 
 pub returns-clause-fact : goal.returns-clause-fact
 returns-clause-fact c =

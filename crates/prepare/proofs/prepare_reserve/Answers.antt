@@ -15,19 +15,19 @@ reserve_free-requires-in-Vacant-clause-i_value c =
 pub returns-in-AtHead-clause-fact : goal.returns-in-AtHead-clause-fact
 returns-in-AtHead-clause-fact c =
     λ s. let (h, q) = at_head _ (c.locate-k.ensures s) c.in-AtHead.is in
-      (gives_refused is_covered c.refusal.ensures (reserve_refused s c.args.out.now c.args.i q)).result_is
+    (gives_refused is_covered c.refusal.ensures (reserve_refused s c.args.out.now c.args.i q)).result_is
 
 pub returns-in-AtHead-clause-fact_2 : goal.returns-in-AtHead-clause-fact_2
 returns-in-AtHead-clause-fact_2 c =
     λ s. let (h, q) = at_head _ (c.locate-k.ensures s) c.in-AtHead.is in
-      (gives_refused is_covered c.refusal.ensures (reserve_refused s c.args.out.now c.args.i q)).slice_is
+    (gives_refused is_covered c.refusal.ensures (reserve_refused s c.args.out.now c.args.i q)).slice_is
 
 pub returns-in-InNode-clause-fact : goal.returns-in-InNode-clause-fact
 returns-in-InNode-clause-fact c =
     λ s. let (q, h, y, le, d) = at_spot _ _ _ (c.locate-k.ensures s) c.in-InNode.is in
-      (gives_refused is_covered c.refusal-in-InNode.ensures (reserve_refused s c.args.out.now c.args.i q)).result_is
+    (gives_refused is_covered c.refusal-in-InNode.ensures (reserve_refused s c.args.out.now c.args.i q)).result_is
 
 pub returns-in-InNode-clause-fact_2 : goal.returns-in-InNode-clause-fact_2
 returns-in-InNode-clause-fact_2 c =
     λ s. let (q, h, y, le, d) = at_spot _ _ _ (c.locate-k.ensures s) c.in-InNode.is in
-      (gives_refused is_covered c.refusal-in-InNode.ensures (reserve_refused s c.args.out.now c.args.i q)).slice_is
+    (gives_refused is_covered c.refusal-in-InNode.ensures (reserve_refused s c.args.out.now c.args.i q)).slice_is

@@ -7,4 +7,4 @@ use Rattle.prepare.proofs.store_over.Goals as goal
 pub prepare_new-requires-clause-list_value : goal.prepare_new-requires-clause-list_value
 prepare_new-requires-clause-list_value c =
     λ s. over_some s.list c.args.target.index c.args.target.order c.args.e s.valid (c.requires.index_value s).0
-          ∙ lt-leb c.args.target.order c.args.e.order (omega arith)
+    ∙ lt-leb c.args.target.order c.args.e.order (omega arith)
