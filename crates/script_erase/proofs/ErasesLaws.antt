@@ -1,28 +1,27 @@
 -- An entry leaves the list: what is left was there, no node is new, and the nodes that stay keep their numbers.
-use Prim.Native.Nat.{ℕ, zero, suc, ◌+◌, ◌*◌, ◌-◌, ◌/◌, ◌%◌, ◌≤◌, ◌<◌}
+use Prim.Native.Nat.{ℕ, suc, ◌+◌, ◌*◌, ◌-◌, ◌/◌, ◌≤◌, ◌<◌}
 use mathlib.Core.Path.{◌≡◌, refl, sym, ap, subst, ◌∙◌}
 use mathlib.Core.Bool.{Bool, true, false}
 use mathlib.Core.List.{List}
-use mathlib.Core.Option.{Option, none, some}
+use mathlib.Core.Option.{none, some}
 use native.Mathlib.Omega.{arith}
 use native.Mathlib.Nat.{le_refl}
 use lib.Dec.{eqb, leb}
 use lib.ListN.{get_or}
 use borrow.Author.Tests.{eqb-false}
-use Rattle.blocks.specs.Choice.{pick, both}
+use Rattle.blocks.specs.Choice.{both}
 use Rattle.blocks.specs.Lists.{any, In}
 use Rattle.blocks.specs.Blocks.{block}
-use Rattle.blocks.proofs.BoolLaws.{by_t, clash, is_false}
+use Rattle.blocks.proofs.BoolLaws.{by_t, clash}
 use Rattle.blocks.proofs.ListLaws.{any_in_lem, in_any, look, each, first_yes, without_all}
 use Rattle.blocks.proofs.PlacingLaws.{none_some}
 use Rattle.model.specs.declared.Entry.{Entry}
 use Rattle.model.specs.Model.{covers, covering, within}
 use Rattle.model.proofs.RangeLaws.{Inside}
 use Rattle.model.proofs.ValidLaws.{sole, covers_self}
-use Rattle.tree.specs.Tree.{slots, slot_bits, tier_order, height, has, nodes, Node}
-use Rattle.tree.specs.Slots.{Numbering}
+use Rattle.tree.specs.Tree.{slots, slot_bits, tier_order, height, has, nodes}
 use Rattle.tree.proofs.HeightLaws.{height_le, height_fits, fits_base}
-use Rattle.tree.proofs.NodeListLaws.{has_in, has_le, has_within, has_tier, nodes_in_lem}
+use Rattle.tree.proofs.NodeListLaws.{has_in, has_le, has_within, nodes_in_lem}
 use Rattle.tree.proofs.SlotLaws.{slot_num}
 use Rattle.tree.proofs.StoreLaws.{within_only}
 use Rattle.layout.specs.Words.{IsField, shift_word, owner, mark_word, slot_word, field, field_under, field_at}

@@ -1,39 +1,37 @@
 -- The head's row tells whether the head goes, and what is the head then.
-use Prim.Native.Nat.{ℕ, zero, suc, ◌+◌, ◌*◌, ◌-◌, ◌/◌, ◌≤◌, ◌<◌}
+use Prim.Native.Nat.{ℕ, suc, ◌/◌, ◌≤◌, ◌<◌}
 use mathlib.Core.Path.{◌≡◌, refl, sym, ap, subst, ◌∙◌}
-use mathlib.Core.Bool.{Bool, true, false}
+use mathlib.Core.Bool.{true, false}
 use mathlib.Core.Logic.{◌⊎◌, inl, inr}
-use mathlib.Core.List.{List, []}
+use mathlib.Core.List.{List}
 use native.Mathlib.Omega.{arith}
-use native.Mathlib.Nat.{le_refl}
 use lib.Dec.{eqb, leb}
 use lib.ListN.{length, get_or}
 use borrow.Author.Tests.{eqb-true, eqb-false, leb-true, leb-false}
 use Rattle.blocks.specs.Lists.{any}
-use Rattle.blocks.specs.Blocks.{block}
 use Rattle.blocks.proofs.BoolLaws.{by_t, clash}
 use Rattle.model.specs.declared.Entry.{Entry}
 use Rattle.model.specs.Model.{within}
 use Rattle.model.proofs.ValidLaws.{sorted_ok}
-use Rattle.tree.specs.Tree.{slots, slot_bits, top_tier, tier_order, height, has}
+use Rattle.tree.specs.Tree.{slot_bits, top_tier, tier_order, height, has}
 use Rattle.tree.specs.Slots.{slot, node_word}
 use Rattle.tree.proofs.EraseLaws.{shrunk}
-use Rattle.tree.proofs.ReadLaws.{Seen, see, seen_node}
-use Rattle.tree.proofs.NodeListLaws.{has_in, has_within}
+use Rattle.tree.proofs.ReadLaws.{see, seen_node}
+use Rattle.tree.proofs.NodeListLaws.{has_in}
 use Rattle.tree.proofs.SlotLaws.{node_empty}
-use Rattle.layout.specs.Words.{place, filled_place, slot_place, last_place, filled_of, IsField}
+use Rattle.layout.specs.Words.{filled_place, slot_place, last_place, filled_of}
 use Rattle.layout.specs.Fill.{cleared}
 use Rattle.layout.specs.Pool.{slot_of, child_of}
 use Rattle.layout.specs.Reading.{is_node}
 use Rattle.layout.specs.WellFormed.{WellFormed, num}
 use Rattle.layout.proofs.NodeLaws.{get_filled, get_slot}
-use Rattle.layout.proofs.RenderWordLaws.{slot_node, pool_head, pool_length_lem, node_of}
+use Rattle.layout.proofs.RenderWordLaws.{slot_node, pool_head}
 use Rattle.layout.proofs.SaysLaws.{node_word_of, is_node_word, child_is}
 use Rattle.erase.proofs.FilledLaws.{filled_none, filled_zero}
-use Rattle.script_rows.proofs.HeadLaws.{CanHead, head_drops, head_stays, lows}
-use Rattle.script_erase.specs.Erased.{Erases, HeadRow, Lowered, Drops, Taken, Headed, Landed}
+use Rattle.script_rows.proofs.HeadLaws.{head_drops, head_stays, lows}
+use Rattle.script_erase.specs.Erased.{Erases, Lowered, Drops, Taken, Headed, Landed}
 use Rattle.script_erase.proofs.ErasesLaws.{top_zero, within_left}
-use Rattle.script_erase.proofs.LoweredLaws.{head_has, head_words}
+use Rattle.script_erase.proofs.LoweredLaws.{head_words}
 use Rattle.script_erase.proofs.StepLaws.{lowered_flat, lowered_taken}
 
 -- THE OLD HEAD

@@ -1,32 +1,31 @@
 -- An erase from its rows to its table: where the rows begin, and where they end.
-use Prim.Native.Nat.{ℕ, zero, suc, ◌+◌, ◌*◌, ◌-◌, ◌/◌, ◌≤◌, ◌<◌}
+use Prim.Native.Nat.{ℕ, zero, suc, ◌+◌, ◌-◌, ◌/◌, ◌≤◌, ◌<◌}
 use mathlib.Core.Path.{◌≡◌, refl, sym, ap, subst, ◌∙◌}
-use mathlib.Core.Bool.{Bool, true, false, not}
+use mathlib.Core.Bool.{true, false, not}
 use mathlib.Core.Logic.{◌⊎◌, inl, inr}
 use mathlib.Core.List.{List, [], ◌∷◌}
 use mathlib.Core.Option.{none, some}
 use native.Mathlib.Omega.{arith}
 use native.Mathlib.Nat.{le_refl}
-use lib.Dec.{eqb, leb}
+use lib.Dec.{eqb}
 use lib.ListN.{length, get_or, set}
 use lib.Seq.{get_or-set_same, get_or-set_other}
 use borrow.Author.Tests.{eqb-true, eq-eqb, lt-ltb}
-use Rattle.blocks.specs.Choice.{pick}
 use Rattle.blocks.specs.Lists.{any, In, here}
 use Rattle.blocks.specs.Blocks.{block}
-use Rattle.blocks.proofs.BoolLaws.{by_t, clash, is_false, not-true, not-false}
+use Rattle.blocks.proofs.BoolLaws.{by_t, clash, not-true, not-false}
 use Rattle.blocks.proofs.ListLaws.{first_yes, each, look, in_any}
 use Rattle.blocks.proofs.PlacingLaws.{none_some}
 use Rattle.model.specs.declared.Entry.{Entry}
 use Rattle.model.specs.Model.{covers, covering, within, marks_of, erase}
 use Rattle.model.proofs.ValidLaws.{sole, covers_self, erase_valid}
-use Rattle.tree.specs.Tree.{slots, slot_bits, top_tier, tier_order, height, has}
+use Rattle.tree.specs.Tree.{slot_bits, top_tier, tier_order, height, has}
 use Rattle.tree.specs.Slots.{slot}
 use Rattle.tree.proofs.HeightLaws.{height_fits, fits_order, fits_base}
 use Rattle.tree.proofs.NodeListLaws.{has_in, has_tier, has_within}
 use Rattle.tree.proofs.SlotLaws.{slot_num}
-use Rattle.layout.specs.Words.{anchor_words, place, pool_words, filled_place, filled_field, filled_of, IsField}
-use Rattle.layout.specs.Places.{Places, number_in, new_places, render}
+use Rattle.layout.specs.Words.{anchor_words, place, filled_place, filled_field, IsField}
+use Rattle.layout.specs.Places.{number_in, new_places, render}
 use Rattle.layout.specs.WellFormed.{WellFormed, num}
 use Rattle.layout.proofs.NodeLaws.{get_filled}
 use Rattle.layout.proofs.RenderWordLaws.{render_anchor, pool_anchor}

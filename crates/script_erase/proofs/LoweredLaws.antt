@@ -1,50 +1,31 @@
 -- The head comes down: what the rows hold under a head of one tier less.
 use Prim.Native.Nat.{ℕ, zero, suc, ◌+◌, ◌*◌, ◌-◌, ◌/◌, ◌≤◌, ◌<◌}
-use mathlib.Core.Path.{◌≡◌, refl, sym, ap, subst, ◌∙◌}
-use mathlib.Core.Bool.{Bool, true, false}
-use mathlib.Core.Logic.{◌⊎◌, inl, inr}
-use mathlib.Core.List.{List, []}
-use mathlib.Core.Option.{Option, none, some}
+use mathlib.Core.Path.{◌≡◌, refl, sym, ap, ◌∙◌}
+use mathlib.Core.Bool.{true, false}
+use mathlib.Core.List.{List}
 use native.Mathlib.Omega.{arith}
 use native.Mathlib.Nat.{le_refl}
 use lib.Dec.{eqb, leb, ltb}
-use lib.ListN.{length, get_or}
+use lib.ListN.{get_or}
 use borrow.Author.Tests.{eqb-true, eqb-false, leb-true, leb-false, le-leb, lt-leb, ltb-true, ltb-false, eq-eqb, ne_eqb}
-use Rattle.blocks.specs.Choice.{pick, both}
 use Rattle.blocks.specs.Lists.{any}
 use Rattle.blocks.specs.Blocks.{block}
 use Rattle.blocks.proofs.BitLaws.{bits_same}
-use Rattle.blocks.proofs.BoolLaws.{by_t, clash, both_no}
+use Rattle.blocks.proofs.BoolLaws.{by_t, both_no}
 use Rattle.model.specs.declared.Entry.{Entry}
-use Rattle.model.specs.Model.{Valid, within}
+use Rattle.model.specs.Model.{within}
 use Rattle.model.proofs.RangeLaws.{Apart}
-use Rattle.tree.specs.Tree.{slots, slot_bits, top_tier, tier_order, height, has, slot_mark}
-use Rattle.tree.specs.Slots.{Numbering, slot}
-use Rattle.tree.proofs.NodeListLaws.{has_in, has_within, has_le, has_tier}
-use Rattle.layout.specs.Words.{
-  place,
-  pool_words,
-  node_end,
-  IsField,
-  owner_field,
-  owner_place,
-  filled_of,
-  field_of,
-  shift_word,
-  owner_under,
-  mark_word,
-  slot_word,
-  field,
-  field_under,
-}
+use Rattle.tree.specs.Tree.{slots, slot_bits, tier_order, height, has, slot_mark}
+use Rattle.tree.specs.Slots.{slot}
+use Rattle.tree.proofs.NodeListLaws.{has_in, has_within, has_tier}
+use Rattle.layout.specs.Words.{place, IsField, owner_field, field_of, shift_word, mark_word, slot_word, field, field_under}
 use Rattle.layout.specs.WellFormed.{WellFormed, num}
 use Rattle.layout.proofs.FieldLaws.{fields_same, at_owner}
 use Rattle.layout.proofs.FreshLaws.{apart_slot}
 use Rattle.layout.proofs.RenderWordLaws.{field_of_lem}
 use Rattle.plan.proofs.AfterStoreLaws.{Lies, lies, on_path_lem, in_run_lem, off}
-use Rattle.script_rows.proofs.BecomesLaws.{within_inside, within_apart, slot_apart, mark_apart}
-use Rattle.script_table.specs.Table.{row_count}
-use Rattle.script_erase.specs.Erased.{Erases, Off, HeadRow, chain_row, tall_field, InChain, Lowered, Taken}
+use Rattle.script_rows.proofs.BecomesLaws.{within_apart, slot_apart, mark_apart}
+use Rattle.script_erase.specs.Erased.{Erases, Off, HeadRow, chain_row, tall_field, Lowered}
 use Rattle.script_erase.proofs.ErasesLaws.{first_only, none_inside, within_left}
 
 -- the row of block 0, case by case

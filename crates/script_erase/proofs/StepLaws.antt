@@ -1,22 +1,20 @@
 -- The head goes, and the node below it, or an entry, becomes the head.
-use Prim.Native.Nat.{ℕ, zero, suc, ◌+◌, ◌*◌, ◌-◌, ◌/◌, ◌≤◌, ◌<◌}
-use mathlib.Core.Path.{◌≡◌, refl, sym, ap, subst, ◌∙◌}
-use mathlib.Core.Bool.{Bool, true, false}
+use Prim.Native.Nat.{ℕ, suc, ◌/◌, ◌≤◌, ◌<◌}
+use mathlib.Core.Path.{◌≡◌, sym, ap, subst, ◌∙◌}
+use mathlib.Core.Bool.{true}
 use mathlib.Core.Logic.{◌⊎◌, inl, inr}
-use mathlib.Core.List.{List, []}
+use mathlib.Core.List.{List}
 use native.Mathlib.Omega.{arith}
 use native.Mathlib.Nat.{le_refl}
 use lib.Dec.{eqb, leb}
 use lib.ListN.{length, get_or}
 use borrow.Author.Tests.{eqb-true, eqb-false, leb-true, leb-false}
-use Rattle.blocks.specs.Lists.{any}
 use Rattle.blocks.specs.Blocks.{block}
-use Rattle.blocks.proofs.BoolLaws.{by_t, clash}
+use Rattle.blocks.proofs.BoolLaws.{by_t}
 use Rattle.model.specs.declared.Entry.{Entry}
-use Rattle.model.specs.Model.{within}
 use Rattle.tree.proofs.NodeListLaws.{has_tier}
 use Rattle.tree.specs.Tree.{slot_bits, top_tier, tier_order, height, has}
-use Rattle.layout.specs.Words.{place, pool_words, node_end, last_place, IsField, owner_field}
+use Rattle.layout.specs.Words.{place, last_place, IsField, owner_field}
 use Rattle.layout.specs.Fill.{cleared}
 use Rattle.layout.specs.WellFormed.{WellFormed, num}
 use Rattle.layout.proofs.FillLaws.{cleared_before, cleared_after, cleared_in}

@@ -1,23 +1,21 @@
 -- The rows of the path and of the nodes of block 0 are a table of the words after an erase.
-use Prim.Native.Nat.{ℕ, zero, suc, ◌+◌, ◌/◌, ◌≤◌, ◌<◌}
+use Prim.Native.Nat.{ℕ, zero, suc, ◌/◌, ◌≤◌, ◌<◌}
 use mathlib.Core.Path.{◌≡◌, refl, sym, ap, subst, ◌∙◌}
-use mathlib.Core.Bool.{Bool, true, false}
+use mathlib.Core.Bool.{true}
 use mathlib.Core.Logic.{◌⊎◌, inl, inr}
 use mathlib.Core.List.{List}
 use mathlib.Core.Option.{Option, none, some}
 use native.Mathlib.Omega.{arith}
-use native.Mathlib.Nat.{le_refl}
-use lib.Dec.{eqb, leb}
-use lib.ListN.{length, get_or}
-use borrow.Author.Tests.{eqb-true, eqb-false, leb-true, leb-false, eq-eqb}
-use Rattle.blocks.specs.Choice.{pick}
+use lib.Dec.{leb}
+use lib.ListN.{get_or}
+use borrow.Author.Tests.{leb-true, leb-false}
 use Rattle.blocks.specs.Lists.{any}
 use Rattle.blocks.specs.Blocks.{block}
-use Rattle.blocks.proofs.BoolLaws.{by_t, clash}
+use Rattle.blocks.proofs.BoolLaws.{by_t}
 use Rattle.model.specs.declared.Entry.{Entry}
 use Rattle.model.specs.Model.{within}
 use Rattle.model.proofs.RangeLaws.{Apart}
-use Rattle.tree.specs.Tree.{slot_bits, top_tier, tier_order, height, has, Node}
+use Rattle.tree.specs.Tree.{slot_bits, tier_order, height, has, Node}
 use Rattle.tree.proofs.HeightLaws.{height_most}
 use Rattle.tree.proofs.NodeListLaws.{has_in, has_within, has_le, has_tier}
 use Rattle.layout.specs.Words.{anchor_words, place, IsField, field, field_at}
@@ -29,8 +27,8 @@ use Rattle.plan.proofs.AfterStoreLaws.{Lies, lies, on_path_lem, in_run_lem, off}
 use Rattle.execute.proofs.LocalLaws.{field_agree}
 use Rattle.script_rows.proofs.BecomesLaws.{within_apart}
 use Rattle.script_table.specs.Table.{row_count, Tables}
-use Rattle.script_erase.specs.Erased.{Erases, Off, chain_row, tall_field, InChain, Lowered}
-use Rattle.script_erase.proofs.ErasesLaws.{height_left, place_left, first_only, top_only, top_zero, none_inside, tall_left}
+use Rattle.script_erase.specs.Erased.{Erases, chain_row, tall_field, InChain, Lowered}
+use Rattle.script_erase.proofs.ErasesLaws.{height_left, place_left, first_only, top_only, none_inside, tall_left}
 
 module _ {ws : List ℕ} (s : WellFormed ws) {i k top : ℕ} {l' : List Entry} (E : Erases s i k top l') where
   abbrev l : List Entry

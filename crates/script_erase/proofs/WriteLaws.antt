@@ -2,7 +2,7 @@
 use Prim.Native.Nat.{ℕ, ◌+◌, ◌≤◌, ◌<◌}
 use mathlib.Core.Path.{◌≡◌, refl, sym, ap, subst, ◌∙◌}
 use mathlib.Core.Bool.{Bool, true, false}
-use mathlib.Core.Logic.{◌⊎◌, inl, inr}
+use mathlib.Core.Logic.{inl, inr}
 use mathlib.Core.List.{List, [], ◌∷◌}
 use native.Mathlib.Omega.{arith}
 use lib.Dec.{eqb, leb}
@@ -11,7 +11,7 @@ use lib.Seq.{get_or-set_same, get_or-set_other}
 use borrow.Author.Tests.{eqb-true, eqb-false, leb-true, leb-false}
 use Rattle.blocks.specs.Choice.{pick}
 use Rattle.blocks.proofs.BoolLaws.{by_t, clash}
-use Rattle.layout.specs.Words.{place, pool_words, node_end, last_place, owner_field, owner_place, filled_place, slot_place, IsField}
+use Rattle.layout.specs.Words.{place, pool_words, node_end, last_place, owner_place, filled_place, slot_place, IsField}
 use Rattle.layout.specs.Fill.{cleared}
 use Rattle.layout.specs.Reading.{is_node}
 use Rattle.layout.proofs.FillLaws.{length_cleared, cleared_before, cleared_after, cleared_in}
