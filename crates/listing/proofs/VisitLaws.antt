@@ -10,7 +10,7 @@ use lib.Dec.{leb, ltb}
 use lib.ListN.{length}
 use borrow.Author.Tests.{ltb-true, ltb-false, lt-ltb, eq-eqb, le-leb}
 use Rattle.blocks.specs.Choice.{both}
-use Rattle.blocks.specs.Lists.{In, there, any}
+use Rattle.blocks.specs.Lists.{In, any}
 use Rattle.blocks.specs.Blocks.{block}
 use Rattle.blocks.proofs.BoolLaws.{by_t, clash, both_l}
 use Rattle.blocks.proofs.BlockLaws.{pow-add, pow_pos, block_at, block_hi}

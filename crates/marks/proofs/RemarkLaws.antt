@@ -11,7 +11,7 @@ use borrow.Author.Tests.{eq-eqb, ne_eqb}
 use Rattle.blocks.specs.Choice.{pick, either, both}
 use Rattle.blocks.specs.Blocks.{block, bit, bits_to, set_bit}
 use Rattle.blocks.proofs.BoolLaws.{by_t, clash, both_l}
-use Rattle.blocks.specs.Lists.{All, there, end, also}
+use Rattle.blocks.specs.Lists.{All, end, also}
 use Rattle.blocks.proofs.ListLaws.{All-map, first_yes, each}
 use Rattle.blocks.proofs.BitLaws.{bits_lt}
 use Rattle.model.specs.declared.Entry.{Entry}

@@ -38,19 +38,19 @@ tall_2 c s h un z =
 pub prune_up-requires-clause-cutting : goal.prune_up-requires-clause-cutting
 prune_up-requires-clause-cutting c =
     record {
-        before = c.args.pool.now;
-        formed = c.requires.leaves.formed;
-        state = c.cut_run.ensures.cut c.requires.leaves.formed c.requires.leaves.holds c.requires.leaves.unmarked;
-      }
+      before = c.args.pool.now;
+      formed = c.requires.leaves.formed;
+      state = c.cut_run.ensures.cut c.requires.leaves.formed c.requires.leaves.holds c.requires.leaves.unmarked;
+    }
 
 pub shrink-requires-clause-tower : goal.shrink-requires-clause-tower
 shrink-requires-clause-tower c =
     record {
-    n = c.requires.leaves.formed.n;
-    list = erase c.requires.leaves.formed.list c.args.i;
-    places = c.requires.leaves.formed.places;
-    tall = tall c c.requires.leaves.formed c.requires.leaves.holds c.requires.leaves.unmarked c.requires.leaves.height_is;
-      }
+      n = c.requires.leaves.formed.n;
+      list = erase c.requires.leaves.formed.list c.args.i;
+      places = c.requires.leaves.formed.places;
+      tall = tall c c.requires.leaves.formed c.requires.leaves.holds c.requires.leaves.unmarked c.requires.leaves.height_is;
+    }
 
 pub returns-clause-pool_after : goal.returns-clause-pool_after
 returns-clause-pool_after c =

@@ -96,14 +96,13 @@ returns-clause-cut c =
     let d = run_counted_lem c.requires.formed c.requires.holds c.requires.unmarked _
     (order_4 c c.requires.formed c.requires.holds c.requires.unmarked) in
     let f = run_fits c.requires.formed c.requires.holds c.requires.unmarked in
-
     let a = c.args in
     let t = taken {ws = a.pool.now} a.at.node a.at.slot c.pow2-c.result _
     c.uncount.ensures c.empty_slots.ensures f.0 (omega arith)
     (omega arith) in
     (λ s h un. cut_start s h un _ (order_4 c s h un)
-          (c.empty_slots.auto.pool ∙ c.uncount.auto.pool)
-          (omega (arith, t.counted)) (λ j a b. t.emptied j a (omega arith)) t.before (λ j a. t.after j (omega arith)))
+    (c.empty_slots.auto.pool ∙ c.uncount.auto.pool)
+    (omega (arith, t.counted)) (λ j a b. t.emptied j a (omega arith)) t.before (λ j a. t.after j (omega arith)))
 
 pub returns-clause-by_index : goal.returns-clause-by_index
 returns-clause-by_index c =
@@ -112,7 +111,6 @@ returns-clause-by_index c =
     let d = run_counted_lem c.requires.formed c.requires.holds c.requires.unmarked _
     (order_4 c c.requires.formed c.requires.holds c.requires.unmarked) in
     let f = run_fits c.requires.formed c.requires.holds c.requires.unmarked in
-
     let a = c.args in
     let t = taken {ws = a.pool.now} a.at.node a.at.slot c.pow2-c.result _
     c.uncount.ensures c.empty_slots.ensures f.0 (omega arith)

@@ -13,83 +13,83 @@ filled_of-requires c =
 pub returns-then-filled_of-ne1-clause-by_index : goal.returns-then-filled_of-ne1-clause-by_index
 returns-then-filled_of-ne1-clause-by_index c =
     (λ k l os w t q. record {
-    yes = λ e. absurd (clash e refl);
-    no = λ _. stay_filled w c.requires.le_h t q (λ z. c.if-filled_of-ne1.true (c.filled_of.ensures ∙ z));
-      })
+      yes = λ e. absurd (clash e refl);
+      no = λ _. stay_filled w c.requires.le_h t q (λ z. c.if-filled_of-ne1.true (c.filled_of.ensures ∙ z));
+    })
 
 pub raise-requires-clause-m_bound : goal.raise-requires-clause-m_bound
 raise-requires-clause-m_bound c =
     (under_child c.requires.headed.tower.tall c.requires.le_h c.requires.headed.there c.requires.headed.number
-      c.slot_word-x.ensures
-      c.read_slot-k.ensures
-      _ c.in-Child.is).2
+    c.slot_word-x.ensures
+    c.read_slot-k.ensures
+    _ c.in-Child.is).2
 
 pub returns-then-h-ne1-clause-by_index : goal.returns-then-h-ne1-clause-by_index
 returns-then-h-ne1-clause-by_index c =
     (λ k l os w t q. record {
-    yes = λ e. absurd (clash e refl);
-    no = λ _. stay_held w c.requires.le_h
-        t q c.slot_word-x.ensures c.read_slot-k.ensures
-        (inl c.in-Held.is)
-        (λ z. omega (arith, c.if-h-ne1.true, z));
-      })
+      yes = λ e. absurd (clash e refl);
+      no = λ _. stay_held w c.requires.le_h
+          t q c.slot_word-x.ensures c.read_slot-k.ensures
+          (inl c.in-Held.is)
+          (λ z. omega (arith, c.if-h-ne1.true, z));
+    })
 
 pub returns-then-h-gt1-clause-by_index : goal.returns-then-h-gt1-clause-by_index
 returns-then-h-gt1-clause-by_index c =
     (λ k l os w t q. record {
-    yes = λ e. absurd (clash e refl);
-    no = λ _. stay_held w c.requires.le_h
-        t q c.slot_word-x.ensures c.read_slot-k.ensures
-        (inr c.in-Reserved.is)
-        (λ z. omega (arith, c.if-h-gt1.true, z));
-      })
+      yes = λ e. absurd (clash e refl);
+      no = λ _. stay_held w c.requires.le_h
+          t q c.slot_word-x.ensures c.read_slot-k.ensures
+          (inr c.in-Reserved.is)
+          (λ z. omega (arith, c.if-h-gt1.true, z));
+    })
 
 pub returns-in-Child-clause-by_index : goal.returns-in-Child-clause-by_index
 returns-in-Child-clause-by_index c =
     (λ k l os w t q. record {
-    yes = λ _. drop_child w c.requires.le_h t q c.slot_word-x.ensures c.read_slot-k.ensures
-        (sym c.filled_of.ensures ∙
-        c.if-filled_of-ne1.false) _ c.in-Child.is c.raise.auto.pool
-        c.raise.ensures.gone c.raise.ensures.own c.raise.ensures.head c.raise.ensures.rest;
-    no = λ e. absurd (clash refl e);
-      })
+      yes = λ _. drop_child w c.requires.le_h t q c.slot_word-x.ensures c.read_slot-k.ensures
+          (sym c.filled_of.ensures ∙
+          c.if-filled_of-ne1.false) _ c.in-Child.is c.raise.auto.pool
+          c.raise.ensures.gone c.raise.ensures.own c.raise.ensures.head c.raise.ensures.rest;
+      no = λ e. absurd (clash refl e);
+    })
 
 pub returns-else-h-ne1-clause-by_index : goal.returns-else-h-ne1-clause-by_index
 returns-else-h-ne1-clause-by_index c =
     (λ k l os w t q. record {
-    yes = λ _. drop_held w c.requires.le_h t q c.slot_word-x.ensures c.read_slot-k.ensures
-        (sym c.filled_of.ensures ∙
-        c.if-filled_of-ne1.false) (inl c.in-Held.is)
-        (omega (arith, c.if-h-ne1.false))
-        c.free_head.auto.pool c.free_head.ensures.gone c.free_head.ensures.head c.free_head.ensures.rest;
-    no = λ e. absurd (clash refl e);
-      })
+      yes = λ _. drop_held w c.requires.le_h t q c.slot_word-x.ensures c.read_slot-k.ensures
+          (sym c.filled_of.ensures ∙
+          c.if-filled_of-ne1.false) (inl c.in-Held.is)
+          (omega (arith, c.if-h-ne1.false))
+          c.free_head.auto.pool c.free_head.ensures.gone c.free_head.ensures.head c.free_head.ensures.rest;
+      no = λ e. absurd (clash refl e);
+    })
 
 pub returns-in-Empty-clause-by_index : goal.returns-in-Empty-clause-by_index
 returns-in-Empty-clause-by_index c =
     (λ k l os w t q. record {
-    yes = λ e. absurd (clash e refl);
-    no = λ _. stay_empty w c.requires.le_h
-        t q c.slot_word-x.ensures c.read_slot-k.ensures
-        c.in-Empty.is (sym c.filled_of.ensures ∙
-        c.if-filled_of-ne1.false);
-      })
+      yes = λ e. absurd (clash e refl);
+      no = λ _. stay_empty w c.requires.le_h
+          t q c.slot_word-x.ensures c.read_slot-k.ensures
+          c.in-Empty.is (sym c.filled_of.ensures ∙
+          c.if-filled_of-ne1.false);
+    })
 
 pub returns-in-Sibling-clause-by_index : goal.returns-in-Sibling-clause-by_index
 returns-in-Sibling-clause-by_index c =
     (λ k l os w t q. record {
-    yes = λ e. absurd (clash e refl);
-    no = λ _. absurd (not_sibling w c.requires.le_h t q c.slot_word-x.ensures c.read_slot-k.ensures _
-        c.in-Sibling.is);
-      })
+      yes = λ e. absurd (clash e refl);
+      no = λ _. absurd (not_sibling w c.requires.le_h t q c.slot_word-x.ensures c.read_slot-k.ensures _
+          c.in-Sibling.is);
+    })
 
 pub returns-else-h-gt1-clause-by_index : goal.returns-else-h-gt1-clause-by_index
 returns-else-h-gt1-clause-by_index c =
     (λ k l os w t q. record {
-    yes = λ _. drop_held w c.requires.le_h t q c.slot_word-x.ensures c.read_slot-k.ensures
-        (sym c.filled_of.ensures ∙
-        c.if-filled_of-ne1.false) (inr c.in-Reserved.is)
-        (omega (arith, c.if-h-gt1.false, c.requires.le_h))
-        c.free_head-in-Reserved.auto.pool c.free_head-in-Reserved.ensures.gone c.free_head-in-Reserved.ensures.head c.free_head-in-Reserved.ensures.rest;
-    no = λ e. absurd (clash refl e);
-      })
+      yes = λ _. drop_held w c.requires.le_h t q c.slot_word-x.ensures c.read_slot-k.ensures
+          (sym c.filled_of.ensures ∙
+          c.if-filled_of-ne1.false) (inr c.in-Reserved.is)
+          (omega (arith, c.if-h-gt1.false, c.requires.le_h))
+          c.free_head-in-Reserved.auto.pool c.free_head-in-Reserved.ensures.gone c.free_head-in-Reserved.ensures.head c.free_head-in-Reserved.ensures.rest;
+      no = λ e. absurd (clash refl e);
+    })

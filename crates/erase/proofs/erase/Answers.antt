@@ -14,39 +14,39 @@ remove-requires-clause-erasing c =
 pub returns-in-Apart-clause-value : goal.returns-in-Apart-clause-value
 returns-in-Apart-clause-value c =
     (λ s. let (q, d) = at_apart (c.locate-k.ensures s) c.in-Apart.is in
-      ap covered (sym q))
+    ap covered (sym q))
 
 pub returns-in-Apart-clause-pool_after : goal.returns-in-Apart-clause-pool_after
 returns-in-Apart-clause-pool_after c =
     (λ s. let (q, d) = at_apart (c.locate-k.ensures s) c.in-Apart.is in
-        words_gap s _ q)
+    words_gap s _ q)
 
 pub returns-in-Vacant-clause-value : goal.returns-in-Vacant-clause-value
 returns-in-Vacant-clause-value c =
     (λ s. let (t, q, b, le, d) = at_vacant _ _ _ (c.locate-k.ensures s) c.in-Vacant.is in
-      ap covered (sym q))
+    ap covered (sym q))
 
 pub returns-in-Vacant-clause-pool_after : goal.returns-in-Vacant-clause-pool_after
 returns-in-Vacant-clause-pool_after c =
     (λ s. let (t, q, b, le, d) = at_vacant _ _ _ (c.locate-k.ensures s) c.in-Vacant.is in
-        words_gap s _ q)
+    words_gap s _ q)
 
 pub returns-in-AtHead-clause-value : goal.returns-in-AtHead-clause-value
 returns-in-AtHead-clause-value c =
     (λ s. let (z, q) = at_head _ (c.locate-k.ensures s) c.in-AtHead.is in
-      ap covered (sym q))
+    ap covered (sym q))
 
 pub returns-in-AtHead-clause-pool_after : goal.returns-in-AtHead-clause-pool_after
 returns-in-AtHead-clause-pool_after c =
     (λ s. let (z, q) = at_head _ (c.locate-k.ensures s) c.in-AtHead.is in
-        words_head s _ _ q z)
+    words_head s _ _ q z)
 
 pub returns-in-InNode-clause-value : goal.returns-in-InNode-clause-value
 returns-in-InNode-clause-value c =
     (λ s. let (q, h, t, le, d) = at_spot _ _ _ (c.locate-k.ensures s)
-          c.in-InNode.is in ap covered (sym q))
+    c.in-InNode.is in ap covered (sym q))
 
 pub returns-in-InNode-clause-pool_after : goal.returns-in-InNode-clause-pool_after
 returns-in-InNode-clause-pool_after c =
     (λ s. let (q, h, t, le, d) = at_spot _ _ _ (c.locate-k.ensures s)
-            c.in-InNode.is in c.remove.ensures.pool_after s h t)
+    c.in-InNode.is in c.remove.ensures.pool_after s h t)

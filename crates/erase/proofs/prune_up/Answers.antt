@@ -25,12 +25,7 @@ step_cut : (c : goal.After-slice_known-in-loop-i-2-1) (ws : List ℕ) (s : WellF
     Cut s c.args.i (suc c.loop-i.v) (upper c)
     c.unlink.new.pool
 step_cut c ws s k =
-
-
     let g = cut_empty s k (sym c.filled_of.ensures ∙ c.if-filled_of-ne0.false) in
-
-
-
     cut_next s k g c.owner_of-p.result c.owner_of-p.ensures c.if-p-eq0.false c.unlink.auto.pool c.unlink.ensures.gone (c.unlink.ensures.cleared (over_fits s k g c.owner_of-p.result c.owner_of-p.ensures c.if-p-eq0.false).1)
     (c.unlink.ensures.counted (over_fits s k g c.owner_of-p.result c.owner_of-p.ensures c.if-p-eq0.false).1) c.unlink.ensures.rest
 
@@ -39,12 +34,9 @@ next : (c : goal.After-slice_known-in-loop-i-2-1) →
     c.give.new.map (upper c)
     (suc c.loop-i.v)
 next c =
-
-
     let k' : Cutting c.args.i (suc c.loop-i.v) (upper c)
     c.unlink.new.pool =
-    record { before = c.loop-i.invariant.1.before; formed = c.loop-i.invariant.1.formed; state = step_cut c c.loop-i.invariant.1.before c.loop-i.invariant.1.formed c.loop-i.invariant.1.state } in
-    (
+    record { before = c.loop-i.invariant.1.before; formed = c.loop-i.invariant.1.formed; state = step_cut c c.loop-i.invariant.1.before c.loop-i.invariant.1.formed c.loop-i.invariant.1.state } in (
       bounds k' (c.unlink.auto.pool ∙ c.loop-i.invariant.0.same),
       k',
       c.give.auto.map ∙ c.loop-i.invariant.2,
@@ -60,7 +52,7 @@ loop-i-init c =
 pub returns-then-filled_of-ne0-clause-by_index : goal.returns-then-filled_of-ne0-clause-by_index
 returns-then-filled_of-ne0-clause-by_index c =
     λ ws s k. let k' = c.loop-i.invariant.4 ws s k in
-      cut_done s k' (cut_filled s k' (λ z. c.if-filled_of-ne0.true (c.filled_of.ensures ∙ z)))
+    cut_done s k' (cut_filled s k' (λ z. c.if-filled_of-ne0.true (c.filled_of.ensures ∙ z)))
 
 pub returns-then-p-eq0-clause-free_map_2 : goal.returns-then-p-eq0-clause-free_map_2
 returns-then-p-eq0-clause-free_map_2 c =
@@ -69,9 +61,9 @@ returns-then-p-eq0-clause-free_map_2 c =
 pub returns-then-p-eq0-clause-by_index : goal.returns-then-p-eq0-clause-by_index
 returns-then-p-eq0-clause-by_index c =
     λ ws s k. let k' = c.loop-i.invariant.4 ws s k in
-          cut_top s k' (cut_empty s k' (sym c.filled_of.ensures ∙
-          c.if-filled_of-ne0.false)) (sym c.owner_of-p.ensures ∙ c.if-p-eq0.true)
-          c.free_head.auto.pool c.free_head.ensures.gone c.free_head.ensures.head c.free_head.ensures.rest
+    cut_top s k' (cut_empty s k' (sym c.filled_of.ensures ∙
+    c.if-filled_of-ne0.false)) (sym c.owner_of-p.ensures ∙ c.if-p-eq0.true)
+    c.free_head.auto.pool c.free_head.ensures.gone c.free_head.ensures.head c.free_head.ensures.rest
 
 pub unlink-requires-clause-m_bound : goal.unlink-requires-clause-m_bound
 unlink-requires-clause-m_bound c =

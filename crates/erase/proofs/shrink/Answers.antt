@@ -11,7 +11,6 @@ use Rattle.erase.proofs.shrink.Goals as goal
 head_fits : (c : goal.After-give-arg-1) → (c.in-Child.n < max_nodes) ×
     (c.in-Child.n < get_or c.loop-h.pool count_word 0)
 head_fits c =
-
     let h = top_child c.loop-h.invariant.0.tall c.loop-h-test.true refl c.read_slot-k.ensures _
     c.in-Child.is in
     let f = under_fits c.loop-h.invariant.0.tall c.loop-h-test.true h.0 h.1 in (f.1, f.2)
@@ -19,7 +18,6 @@ head_fits c =
 head_fits_2 : (c : goal.After-slice_known-in-Child-2-1) → (c.in-Child.n < max_nodes) ×
     (c.in-Child.n < get_or c.loop-h.pool count_word 0)
 head_fits_2 c =
-
     let h = top_child c.loop-h.invariant.0.tall c.loop-h-test.true refl c.read_slot-k.ensures _
     c.in-Child.is in
     let f = under_fits c.loop-h.invariant.0.tall c.loop-h-test.true h.0 h.1 in (f.1, f.2)
@@ -39,9 +37,9 @@ pub returns-then-not-drop_head-clause-by_index : goal.returns-then-not-drop_head
 returns-then-not-drop_head-clause-by_index c =
     let f = c.if-not-drop_head.true in
     λ k l os t.
-          let t' = c.loop-h.invariant.4 k l os t in
-          let h = top_child t' c.loop-h-test.true refl c.read_slot-k.ensures _ c.in-Child.is in
-          (c.drop_head.ensures.by_index k l os t' h.0 h.1).no f
+    let t' = c.loop-h.invariant.4 k l os t in
+    let h = top_child t' c.loop-h-test.true refl c.read_slot-k.ensures _ c.in-Child.is in
+    (c.drop_head.ensures.by_index k l os t' h.0 h.1).no f
 
 pub give-requires-clause-m_lt_map_nodes : goal.give-requires-clause-m_lt_map_nodes
 give-requires-clause-m_lt_map_nodes c =
@@ -50,12 +48,7 @@ give-requires-clause-m_lt_map_nodes c =
 pub loop-h-preserved : goal.loop-h-preserved
 loop-h-preserved c =
     let f = c.if-not-drop_head.false in
-
-
-
-
-    let t₀ = top_child c.loop-h.invariant.0.tall c.loop-h-test.true refl c.read_slot-k.ensures _ c.in-Child.is in
-    (
+    let t₀ = top_child c.loop-h.invariant.0.tall c.loop-h-test.true refl c.read_slot-k.ensures _ c.in-Child.is in (
       record {
         n = c.loop-h.invariant.0.n;
         list = c.loop-h.invariant.0.list;
@@ -74,27 +67,27 @@ loop-h-preserved c =
 pub returns-in-Held-clause-by_index : goal.returns-in-Held-clause-by_index
 returns-in-Held-clause-by_index c =
     λ k l os t.
-      absurd (top_held (c.loop-h.invariant.4 k l os t) c.loop-h-test.true refl
-      c.read_slot-k.ensures (inl c.in-Held.is))
+    absurd (top_held (c.loop-h.invariant.4 k l os t) c.loop-h-test.true refl
+    c.read_slot-k.ensures (inl c.in-Held.is))
 
 pub returns-in-Empty-clause-by_index : goal.returns-in-Empty-clause-by_index
 returns-in-Empty-clause-by_index c =
     λ k l os t.
-      top_empty (c.loop-h.invariant.4 k l os t) c.loop-h-test.true refl
-      c.read_slot-k.ensures c.in-Empty.is
+    top_empty (c.loop-h.invariant.4 k l os t) c.loop-h-test.true refl
+    c.read_slot-k.ensures c.in-Empty.is
 
 pub returns-in-Sibling-clause-by_index : goal.returns-in-Sibling-clause-by_index
 returns-in-Sibling-clause-by_index c =
     λ k l os t.
-      absurd (top_sibling (c.loop-h.invariant.4 k l os t) c.loop-h-test.true refl
-      c.read_slot-k.ensures _
-      c.in-Sibling.is)
+    absurd (top_sibling (c.loop-h.invariant.4 k l os t) c.loop-h-test.true refl
+    c.read_slot-k.ensures _
+    c.in-Sibling.is)
 
 pub returns-in-Reserved-clause-by_index : goal.returns-in-Reserved-clause-by_index
 returns-in-Reserved-clause-by_index c =
     λ k l os t.
-      absurd (top_held (c.loop-h.invariant.4 k l os t) c.loop-h-test.true refl
-      c.read_slot-k.ensures (inr c.in-Reserved.is))
+    absurd (top_held (c.loop-h.invariant.4 k l os t) c.loop-h-test.true refl
+    c.read_slot-k.ensures (inr c.in-Reserved.is))
 
 pub returns-clause-by_index : goal.returns-clause-by_index
 returns-clause-by_index c =

@@ -8,4 +8,4 @@ use Rattle.execute.proofs.run_erase.Goals as goal
 pub returns-clause-executes : goal.returns-clause-executes
 returns-clause-executes c =
     (λ s. erases s _ (c.covered_reply.ensures ∙ ap (covered_reply erase_reply)
-      (c.erase-c.ensures.value s)) (c.erase-c.ensures.pool_after s))
+    (c.erase-c.ensures.value s)) (c.erase-c.ensures.pool_after s))

@@ -6,7 +6,7 @@ use Rattle.execute.proofs.run_other.Goals as goal
 pub returns-in-Load-clause-executes : goal.returns-in-Load-clause-executes
 returns-in-Load-clause-executes c =
     (λ s. by_command s c.in-Load.is
-      (leaves_words s _ (load_list s.n s.list _) (c.run_load.ensures s)))
+    (leaves_words s _ (load_list s.n s.list _) (c.run_load.ensures s)))
 
 pub returns-in-Erase-clause-executes : goal.returns-in-Erase-clause-executes
 returns-in-Erase-clause-executes c =
@@ -23,4 +23,4 @@ returns-in-Unmark-clause-executes c =
 pub returns-in-Find-clause-executes : goal.returns-in-Find-clause-executes
 returns-in-Find-clause-executes c =
     (λ s. by_command s c.in-Find.is
-      (leaves_words s _ (find_list s.n s.list _ _ _ _) (c.run_find.ensures s)))
+    (leaves_words s _ (find_list s.n s.list _ _ _ _) (c.run_find.ensures s)))

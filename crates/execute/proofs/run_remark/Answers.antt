@@ -12,14 +12,14 @@ use Rattle.execute.proofs.run_remark.Goals as goal
 pub returns-then-mark-ge-MARKS-clause-executes : goal.returns-then-mark-ge-MARKS-clause-executes
 returns-then-mark-ge-MARKS-clause-executes c =
     (λ s. leaves s (remarking c.args.index c.args.mark c.args.on)
-      (remark_above s.n s.list c.args.index c.args.mark c.args.on c.if-mark-ge-MARKS.true)
-      (c.answered.ensures ∙ ap (λ (t : ℕ). answered t bad_mark 0 0) c.remarked_tag-tag.ensures))
+    (remark_above s.n s.list c.args.index c.args.mark c.args.on c.if-mark-ge-MARKS.true)
+    (c.answered.ensures ∙ ap (λ (t : ℕ). answered t bad_mark 0 0) c.remarked_tag-tag.ensures))
 
 pub returns-clause-executes : goal.returns-clause-executes
 returns-clause-executes c =
     (λ s. remarks s (remarking c.args.index c.args.mark c.args.on) _ _ _ c.args.on
-          (remark_runs s.n s.list c.args.index c.args.mark c.args.on c.if-mark-ge-MARKS.false)
-          (c.covered_reply.ensures ∙ ap₂ covered_reply c.remarked_tag-tag.ensures (c.set_mark-c.ensures.value s)) (c.set_mark-c.ensures.pool_after s))
+    (remark_runs s.n s.list c.args.index c.args.mark c.args.on c.if-mark-ge-MARKS.false)
+    (c.covered_reply.ensures ∙ ap₂ covered_reply c.remarked_tag-tag.ensures (c.set_mark-c.ensures.value s)) (c.set_mark-c.ensures.pool_after s))
 
 pub returns-clause-by_index : goal.returns-clause-by_index
 returns-clause-by_index c =

@@ -18,7 +18,7 @@ pub returns-then-e-eq1-clause-value : goal.returns-then-e-eq1-clause-value
 returns-then-e-eq1-clause-value c =
     let z : bit matched_mark c.args.e.marks ≡ 1 = omega arith in
     (λ s q. c.as_stored.ensures ∙ unmarked_reply s _ matched_mark (omega arith)
-          (present_cleared s.list s.valid c.args.index matched_mark q z) (c.run_remark-r.ensures.executes s))
+    (present_cleared s.list s.valid c.args.index matched_mark q z) (c.run_remark-r.ensures.executes s))
 
 pub returns-then-e-eq1-clause-pool_after : goal.returns-then-e-eq1-clause-pool_after
 returns-then-e-eq1-clause-pool_after c =
@@ -29,11 +29,11 @@ pub returns-clause-value : goal.returns-clause-value
 returns-clause-value c =
     let z : bit matched_mark c.args.e.marks ≡ 0 = omega arith in
     (λ s q. c.answered_by.ensures
-          ∙ sym (ap (λ (l : List Entry). covered_reply store_reply (covered (covering l c.args.index)))
-          (remark_clear c.args.index matched_mark s.valid q z) ∙ ap (λ (o : Option Entry). covered_reply store_reply (covered o)) q))
+    ∙ sym (ap (λ (l : List Entry). covered_reply store_reply (covered (covering l c.args.index)))
+    (remark_clear c.args.index matched_mark s.valid q z) ∙ ap (λ (o : Option Entry). covered_reply store_reply (covered o)) q))
 
 pub returns-clause-pool_after : goal.returns-clause-pool_after
 returns-clause-pool_after c =
     let z : bit matched_mark c.args.e.marks ≡ 0 = omega arith in
     λ s q. s.words_are
-          ∙ ap (λ (l : List Entry). render l s.places s.n) (sym (remark_clear c.args.index matched_mark s.valid q z))
+    ∙ ap (λ (l : List Entry). render l s.places s.n) (sym (remark_clear c.args.index matched_mark s.valid q z))

@@ -2,12 +2,11 @@ use Prim.Native.Nat.{ℕ, suc, ◌+◌, ◌*◌, ◌-◌, ◌^◌, ◌≤◌, �
 use mathlib.Core.Path.{◌≡◌, refl, sym, ap, subst, ◌∙◌}
 use mathlib.Core.List.{List, [], ◌∷◌}
 use native.Mathlib.Omega.{arith}
-use native.Mathlib.Nat.{div-le_self}
 use Rattle.blocks.specs.Blocks.{block}
 use Rattle.blocks.proofs.BlockLaws.{pow_pos, block_at}
 use Rattle.model.specs.declared.Entry.{Entry}
 use Rattle.tree.specs.Tree.{slots, tier_order, top_tier}
-use Rattle.layout.specs.WellFormed.{WellFormed, num}
+use Rattle.layout.specs.WellFormed.{num}
 use Rattle.lookup.proofs.WordLaws.{node_fits_lem}
 use Rattle.lookup.proofs.WalkLaws.{end_le}
 use Rattle.lookup.proofs.StandLaws.{end_fits}

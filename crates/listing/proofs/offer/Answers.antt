@@ -12,7 +12,6 @@ use Rattle.listing.proofs.offer.Goals as goal
 met : (c : goal.Then-range-k) → meets c.args.range.first c.args.range.last
     c.args.e ≡ true
 met c =
-
     let lo : c.args.e.base ≤ c.args.range.last = omega (arith, c.if-range-base.false) in
     let hi : c.args.range.first < c.args.e.base + 2 ^ c.args.e.order = omega (
       arith,
@@ -25,7 +24,6 @@ met c =
 met_2 : (c : goal.After-slice_known-2-1) → meets c.args.range.first c.args.range.last
     c.args.e ≡ true
 met_2 c =
-
     let lo : c.args.e.base ≤ c.args.range.last = omega (arith, c.if-range-base.false) in
     let hi : c.args.range.first < c.args.e.base + 2 ^ c.args.e.order = omega (
       arith,
@@ -38,7 +36,6 @@ met_2 c =
 ended : (c : goal.Then-base-pow2) → meets c.args.range.first c.args.range.last
     c.args.e ≡ false
 ended c =
-
     let le : c.args.e.base + 2 ^ c.args.e.order ≤ c.args.range.first = omega (
       arith,
       c.pow2.ensures,

@@ -27,19 +27,17 @@ pub visit_node-requires-clause-ready : goal.visit_node-requires-clause-ready
 visit_node-requires-clause-ready c =
     let s = c.requires.well_formed in
     λ s. head_ready s
-                (c.enter-head.ensures s) _ _ c.in-Under.is
+    (c.enter-head.ensures s) _ _ c.in-Under.is
 
 pub returns-in-Outside : goal.returns-in-Outside
 returns-in-Outside c =
     λ s.
-
     emits_nothing c.args.range.room _ 0 (ap (λ (es : List Entry). listed es c.args.range.first c.args.range.last)
     (head_none s (c.enter-head.ensures s) c.in-Outside.is))
 
 pub returns-in-HeadEntry : goal.returns-in-HeadEntry
 returns-in-HeadEntry c =
     λ s.
-
     subst (λ (es : List Entry). Emits c.args.range.room (listed es c.args.range.first c.args.range.last) c.args.buffer.now 0
     c.offer.new.buffer c.offer.result) (sym (head_lone s
     (c.enter-head.ensures s) _
@@ -49,7 +47,6 @@ returns-in-HeadEntry c =
 pub returns-in-Under : goal.returns-in-Under
 returns-in-Under c =
     λ s.
-
     subst (λ (es : List Entry). Emits c.args.range.room (listed es c.args.range.first c.args.range.last) c.args.buffer.now 0
     c.visit_node.new.buffer c.visit_node.result) (head_all s
     (c.enter-head.ensures s) _ _

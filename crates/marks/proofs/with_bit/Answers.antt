@@ -1,5 +1,4 @@
 -- `with_bit`: w with bit j set or cleared.
-use mathlib.Core.Bool.{false}
 use native.Mathlib.Omega.{arith}
 use Rattle.marks.proofs.BitSetLaws.{bit_fits}
 use Rattle.marks.proofs.with_bit.Goals as goal

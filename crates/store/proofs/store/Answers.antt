@@ -34,22 +34,18 @@ fit_2 z = record {
 }
 
 covers : (c : goal.Then-word-eq-RESERVED-2) (s : WellFormed c.args.pool.now) →
-
     Covers s.list (num s) c.args.index c.in-Within.n c.in-Within.v c.in-Within.c c.in-Within.top
 covers c s = subst (Stops s.list (num s) _) c.in-Within.is (c.ending-found.ensures s)
 
 covers_2 : (c : goal.Else-word-eq-RESERVED-2) (s : WellFormed c.args.pool.now) →
-
     Covers s.list (num s) c.args.index c.in-Within.n c.in-Within.v c.in-Within.c c.in-Within.top
 covers_2 c s = subst (Stops s.list (num s) _) c.in-Within.is (c.ending-found.ensures s)
 
 covers_3 : (c : goal.After-entry_at-e) (s : WellFormed c.args.pool.now) →
-
     Covers s.list (num s) c.args.index c.in-Within.n c.in-Within.v c.in-Within.c c.in-Within.top
 covers_3 c s = subst (Stops s.list (num s) _) c.in-Within.is (c.ending-found.ensures s)
 
 covers_4 : (c : goal.After-store_in_node-arg-in-Within-1) (s : WellFormed c.args.pool.now) →
-
     Covers s.list (num s) c.args.index c.in-Within.n c.in-Within.v c.in-Within.c c.in-Within.top
 covers_4 c s = subst (Stops s.list (num s) _) c.in-Within.is (c.ending-found.ensures s)
 
@@ -67,12 +63,12 @@ store_at_gap-requires-clause-u_lt_top_tier c =
 pub store_at_gap-requires-clause-at_gap : goal.store_at_gap-requires-clause-at_gap
 store_at_gap-requires-clause-at_gap c =
     λ s. let (t, q, a, le, d) = at_vacant _ _ _ (subst (Stops s.list (num s) _) c.in-Vacant.is (c.ending-found.ensures s)).2 refl in
-          record { new = new_store s.valid (fit_2 c) (over_none s.list _ _ q); at_node_lem = a; nothing = t }
+    record { new = new_store s.valid (fit_2 c) (over_none s.list _ _ q); at_node_lem = a; nothing = t }
 
 pub returns-then-word-eq-RESERVED-clause-puts : goal.returns-then-word-eq-RESERVED-clause-puts
 returns-then-word-eq-RESERVED-clause-puts c =
     λ s. let (h, q) = at_head _ (subst (Stops s.list (num s) _) c.in-AtHead.is (c.ending-found.ensures s)) refl in
-      puts_none s c.args.index c.args.order c.args.word c.if-word-eq-RESERVED.true q refl refl
+    puts_none s c.args.index c.args.order c.args.word c.if-word-eq-RESERVED.true q refl refl
 
 pub store_at_head-requires-clause-list_value : goal.store_at_head-requires-clause-list_value
 store_at_head-requires-clause-list_value c =
@@ -81,7 +77,7 @@ store_at_head-requires-clause-list_value c =
 pub returns-then-word-eq-RESERVED-2-clause-puts : goal.returns-then-word-eq-RESERVED-2-clause-puts
 returns-then-word-eq-RESERVED-2-clause-puts c =
     λ s. let (q, h, t, le, d) = at_spot _ _ _ (covers c s).located refl in
-      puts_none s c.args.index c.args.order c.args.word c.if-word-eq-RESERVED-2.true q refl refl
+    puts_none s c.args.index c.args.order c.args.word c.if-word-eq-RESERVED-2.true q refl refl
 
 pub entry_at-e-requires-clause-n_in_bounds : goal.entry_at-e-requires-clause-n_in_bounds
 entry_at-e-requires-clause-n_in_bounds c =
@@ -104,7 +100,7 @@ spot_of-at-requires c =
 
 pub store_in_node-requires-clause-index_value : goal.store_in_node-requires-clause-index_value
 store_in_node-requires-clause-index_value c =
-    let z =  c in
+    let z = c in
     λ s. let w = covers_4 c s in let (q, h, t, le, d) = at_spot _ _ _ w.located refl in (
       q ∙ ap some (sym (c.entry_at-e.ensures s w.entry w.at_node_lem w.stands)),
       subst (λ (p : Spot). Holds s.list (num s) z.args.index p.node p.tier p.slot) (sym c.spot_of-at.ensures) h,
@@ -113,14 +109,14 @@ store_in_node-requires-clause-index_value c =
 pub returns-in-Apart-clause-puts : goal.returns-in-Apart-clause-puts
 returns-in-Apart-clause-puts c =
     λ s. puts_new s c.args.index c.args.order c.args.word c.requires.t
-      (at_apart (subst (Stops s.list (num s) _) c.in-Apart.is (c.ending-found.ensures s)) refl).0
-      (c.store_new.ensures.stores_new s)
+    (at_apart (subst (Stops s.list (num s) _) c.in-Apart.is (c.ending-found.ensures s)) refl).0
+    (c.store_new.ensures.stores_new s)
 
 pub returns-in-Vacant-clause-puts : goal.returns-in-Vacant-clause-puts
 returns-in-Vacant-clause-puts c =
     λ s. let (t, q, b, le, d) = at_vacant _ _ _
-      (subst (Stops s.list (num s) _) c.in-Vacant.is (c.ending-found.ensures s)).2 refl in
-      puts_new s c.args.index c.args.order c.args.word c.requires.t q (c.store_at_gap.ensures.stores_new s)
+    (subst (Stops s.list (num s) _) c.in-Vacant.is (c.ending-found.ensures s)).2 refl in
+    puts_new s c.args.index c.args.order c.args.word c.requires.t q (c.store_at_gap.ensures.stores_new s)
 
 pub returns-else-word-eq-RESERVED-2-clause-puts : goal.returns-else-word-eq-RESERVED-2-clause-puts
 returns-else-word-eq-RESERVED-2-clause-puts c =

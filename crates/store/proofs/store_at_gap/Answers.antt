@@ -62,7 +62,7 @@ returns-clause-stores_new c =
     let words = c.settle.ensures ∙ ap (λ (e : Seat). settled c.args.pool.now e.node e.slot e.count
     c.args.target.word) c.seat_of-seat.ensures.value in
     λ s. slots_done s (c.requires.at_gap s) tier_is
-          none c.requires.storable.0.is_entry_lem c.entry_of.ensures words
+    none c.requires.storable.0.is_entry_lem c.entry_of.ensures words
 
 pub returns-clause-free_map : goal.returns-clause-free_map
 returns-clause-free_map c =
@@ -73,4 +73,4 @@ returns-clause-free_map c =
     let words = c.settle.ensures ∙ ap (λ (e : Seat). settled c.args.pool.now e.node e.slot e.count
     c.args.target.word) c.seat_of-seat.ensures.value in
     slots_map c.requires.well_formed (c.requires.at_gap c.requires.well_formed)
-          tier_is none c.requires.storable.0.is_entry_lem c.requires.storable.0.word_fits c.requires.storable.1 words
+    tier_is none c.requires.storable.0.is_entry_lem c.requires.storable.0.word_fits c.requires.storable.1 words

@@ -12,7 +12,7 @@ top_of-top-requires-clause-h_le_top_tier c =
 
 pub returns-then-top-eq0-clause-stores_new : goal.returns-then-top-eq0-clause-stores_new
 returns-then-top-eq0-clause-stores_new c =
-    let z =  c in
+    let z = c in
     λ s. stores_flat s (new_store s.valid z.requires.storable.0 (z.requires.list_value s).0)
-      (sym (c.top_of-top.ensures s.list z.args.target.word s.valid (z.requires.list_value s).0 (c.height_of-h.ensures s)) ∙
-      c.if-top-eq0.true)
+    (sym (c.top_of-top.ensures s.list z.args.target.word s.valid (z.requires.list_value s).0 (c.height_of-h.ensures s)) ∙
+    c.if-top-eq0.true)

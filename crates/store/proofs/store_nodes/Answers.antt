@@ -11,9 +11,9 @@ pub returns-then-not-enough-clause-stores_new : goal.returns-then-not-enough-cla
 returns-then-not-enough-clause-stores_new c =
     let no = c.if-not-enough.true in
     λ s. record {
-    done = λ e. absurd (omega (arith, (c.plan-enough.ensures s).short no));
-    short = λ e. (refl, refl);
-      }
+      done = λ e. absurd (omega (arith, (c.plan-enough.ensures s).short no));
+      short = λ e. (refl, refl);
+    }
 
 pub returns-then-not-enough-clause-free_map : goal.returns-then-not-enough-clause-free_map
 returns-then-not-enough-clause-free_map c =

@@ -60,13 +60,13 @@ pub returns-then-grows_beside-clause-stores_new : goal.returns-then-grows_beside
 returns-then-grows_beside-clause-stores_new c =
     let beside = sym (way_2 c) ∙ c.if-grows_beside.true in
     λ s. beside_done s (c.requires.prepared s) c.requires.word_value.0 c.requires.word_value.1 beside
-          c.requires.storable.is_entry_lem c.entry_of.ensures c.extend.ensures
+    c.requires.storable.is_entry_lem c.entry_of.ensures c.extend.ensures
 
 pub returns-then-grows_beside-clause-free_map : goal.returns-then-grows_beside-clause-free_map
 returns-then-grows_beside-clause-free_map c =
     let beside = sym (way_2 c) ∙ c.if-grows_beside.true in
     beside_map c.requires.well_formed (c.requires.prepared c.requires.well_formed) c.requires.word_value.0 c.requires.word_value.1 beside
-          c.requires.storable.is_entry_lem c.requires.storable.word_fits c.extend.ensures
+    c.requires.storable.is_entry_lem c.requires.storable.word_fits c.extend.ensures
 
 pub rebuild-requires-clause-pool_len : goal.rebuild-requires-clause-pool_len
 rebuild-requires-clause-pool_len c =
@@ -92,22 +92,22 @@ pub new_entry-requires-clause-a_in_bounds : goal.new_entry-requires-clause-a_in_
 new_entry-requires-clause-a_in_bounds c =
     let p = c.requires in
     omega (
-    arith,
-    node_lt p.well_formed (p.prepared p.well_formed),
-    c.rebuild.auto.pool,
-    pool_length_lem p.well_formed,
-      )
+      arith,
+      node_lt p.well_formed (p.prepared p.well_formed),
+      c.rebuild.auto.pool,
+      pool_length_lem p.well_formed,
+    )
 
 pub returns-clause-stores_new : goal.returns-clause-stores_new
 returns-clause-stores_new c =
     let no = sym (way_3 c) ∙ c.if-grows_beside.false in
     λ s. stores_new_lem s (c.requires.prepared s) c.requires.storable.is_entry_lem c.requires.storable.word_fits
-          (c.rebuild.ensures.pool_after ∙ rebuild_is s (c.requires.prepared s) c.requires.word_value.0 c.requires.word_value.1 no (size_word s)
-          c.requires.storable.is_entry_lem) c.new_entry.result c.new_entry.ensures
+    (c.rebuild.ensures.pool_after ∙ rebuild_is s (c.requires.prepared s) c.requires.word_value.0 c.requires.word_value.1 no (size_word s)
+    c.requires.storable.is_entry_lem) c.new_entry.result c.new_entry.ensures
 
 pub returns-clause-free_map : goal.returns-clause-free_map
 returns-clause-free_map c =
     let no = sym (way_3 c) ∙ c.if-grows_beside.false in
     map_way c.requires.well_formed (c.requires.prepared c.requires.well_formed) c.requires.word_value.0 c.requires.word_value.1 no (size_word c.requires.well_formed)
-          c.requires.storable.is_entry_lem c.requires.storable.word_fits (c.rebuild.ensures.pool_after ∙ rebuild_is c.requires.well_formed (c.requires.prepared c.requires.well_formed) c.requires.word_value.0
-          c.requires.word_value.1 no (size_word c.requires.well_formed) c.requires.storable.is_entry_lem) c.rebuild.ensures.follows
+    c.requires.storable.is_entry_lem c.requires.storable.word_fits (c.rebuild.ensures.pool_after ∙ rebuild_is c.requires.well_formed (c.requires.prepared c.requires.well_formed) c.requires.word_value.0
+    c.requires.word_value.1 no (size_word c.requires.well_formed) c.requires.storable.is_entry_lem) c.rebuild.ensures.follows
