@@ -1,18 +1,17 @@
 -- An entry that is there becomes another: its range, the way to it, and the table where it is the head.
-use Prim.Native.Nat.{ℕ, zero, suc, ◌+◌, ◌*◌, ◌/◌, ◌^◌, ◌≤◌, ◌<◌}
+use Prim.Native.Nat.{ℕ, zero, suc, ◌/◌, ◌≤◌, ◌<◌}
 use mathlib.Core.Path.{◌≡◌, refl, sym, ap, subst, ◌∙◌}
-use mathlib.Core.Bool.{Bool, true, false}
+use mathlib.Core.Bool.{true}
 use mathlib.Core.List.{List, [], ◌∷◌}
 use mathlib.Core.Option.{Option, none, some}
 use native.Mathlib.Omega.{arith}
-use native.Mathlib.Nat.{le_refl, zero-div}
-use lib.Dec.{eqb}
+use native.Mathlib.Nat.{le_refl}
 use lib.ListN.{length, get_or, set, length-set}
 use lib.Seq.{get_or-set_same, get_or-set_other}
 use borrow.Author.Tests.{lt-ltb, eq-eqb}
-use Rattle.blocks.specs.Choice.{pick, both}
+use Rattle.blocks.specs.Choice.{both}
 use Rattle.blocks.specs.Lists.{any, All}
-use Rattle.blocks.specs.Blocks.{block, bits_to}
+use Rattle.blocks.specs.Blocks.{block}
 use Rattle.blocks.proofs.BitLaws.{bits_same}
 use Rattle.blocks.proofs.BoolLaws.{by_t}
 use Rattle.blocks.proofs.ListLaws.{look, in_any}
@@ -22,16 +21,16 @@ use Rattle.model.proofs.AlignedLaws.{base_aligned}
 use Rattle.model.proofs.MarkLaws.{marks_of_bits, marks_one}
 use Rattle.model.proofs.RangeLaws.{Inside}
 use Rattle.model.proofs.ValidLaws.{sorted_ok}
-use Rattle.tree.specs.Tree.{slot_bits, top_tier, tier_order, height, has, fits, slot_mark, Node}
+use Rattle.tree.specs.Tree.{slot_bits, top_tier, tier_order, height, fits, Node}
 use Rattle.tree.specs.Slots.{slot, entry_word}
 use Rattle.tree.proofs.GrowLaws.{grow_mark}
 use Rattle.tree.proofs.HeightLaws.{height_fits, height_most, fits_order, fits_base}
 use Rattle.tree.proofs.NodeListLaws.{has_in, has_tier}
-use Rattle.layout.specs.Words.{anchor_words, place, IsField, field_at}
+use Rattle.layout.specs.Words.{anchor_words, field_at}
 use Rattle.layout.specs.Places.{render}
 use Rattle.layout.specs.WellFormed.{WellFormed, num}
 use Rattle.layout.proofs.RenderWordLaws.{render_anchor, render_node, pool_node, pool_length_lem, pool_anchor, place_of}
-use Rattle.script_rows.specs.Becomes.{any_in, word_in, marks_in, Seated, Becomes}
+use Rattle.script_rows.specs.Becomes.{any_in, word_in, marks_in, Seated}
 use Rattle.script_rows.proofs.BecomesLaws.{slot_inside, mark_inside, seated_in}
 use Rattle.script_rows.proofs.HeadLaws.{lows}
 use Rattle.script_same.specs.Same.{PathThere}

@@ -1,13 +1,11 @@
 -- An erase: what it answers, and the list that it leaves.
 use Prim.Native.Nat.{ℕ}
 use mathlib.Core.Path.{◌≡◌, refl, sym, ap, subst, ◌∙◌}
-use mathlib.Core.Bool.{true}
 use mathlib.Core.List.{List}
 use mathlib.Core.Option.{Option, none, some}
 use native.Mathlib.Omega.{arith}
 use borrow.Author.Tests.{eqb-true}
 use Rattle.answers.specs.Answers.{absent}
-use Rattle.blocks.specs.Lists.{In}
 use Rattle.blocks.proofs.ListLaws.{first_yes, each, look}
 use Rattle.model.specs.declared.Entry.{Entry}
 use Rattle.model.specs.Model.{covers, covering, erase}

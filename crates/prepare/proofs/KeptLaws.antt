@@ -1,6 +1,6 @@
 -- The marks of what a new entry replaces: where the head stays, in the mark words of the entry's node; where it grows, all of
 -- the anchor's or none.
-use Prim.Native.Nat.{ℕ, suc, ◌+◌, ◌*◌, ◌-◌, ◌/◌, ◌^◌, ◌≤◌, ◌<◌, max}
+use Prim.Native.Nat.{ℕ, suc, ◌+◌, ◌*◌, ◌-◌, ◌/◌, ◌^◌, ◌≤◌, ◌<◌}
 use mathlib.Core.Path.{◌≡◌, refl, sym, ap, subst, ◌∙◌}
 use mathlib.Core.Bool.{Bool, true, false}
 use mathlib.Core.List.{List}
@@ -21,11 +21,11 @@ use Rattle.blocks.proofs.ListLaws.{All-map, any_same, any_none, any_in_lem, in_a
 use Rattle.model.specs.declared.Entry.{Entry}
 use Rattle.model.specs.Model.{starts, within, has_mark, marks_of, matched_mark, mark_count}
 use Rattle.model.specs.ByBlock.{inside, new_entry, store_new}
-use Rattle.tree.specs.Tree.{slots, slot_bits, tier_order, slot_mark, has, height, tall, fits, needed, Node}
+use Rattle.tree.specs.Tree.{slots, slot_bits, tier_order, slot_mark, has, height, needed, Node}
 use Rattle.tree.proofs.HeightLaws.{height_fits, fits_i, fits_order, fits_base, fits_tall}
 use Rattle.tree.proofs.NodeListLaws.{has_in}
 use Rattle.tree.proofs.SlotLaws.{tier_up, empty_marks}
-use Rattle.layout.specs.Words.{place, mark_place, mark_field, field_at}
+use Rattle.layout.specs.Words.{mark_place, mark_field, field_at}
 use Rattle.layout.specs.Places.{number_in, new_places, free_count}
 use Rattle.layout.specs.WellFormed.{WellFormed, num}
 use Rattle.layout.proofs.FieldLaws.{level_mark_lem}

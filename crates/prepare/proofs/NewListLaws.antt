@@ -1,18 +1,17 @@
 -- The list after a store of a new entry, or a reservation: its nodes are those of the list before mark 2 is cleared.
-use Prim.Native.Nat.{ℕ, ◌*◌, ◌^◌, ◌≤◌, ◌<◌}
+use Prim.Native.Nat.{ℕ, ◌*◌, ◌^◌, ◌<◌}
 use mathlib.Core.Path.{◌≡◌, refl, sym, ap, subst, ◌∙◌}
 use mathlib.Core.Bool.{Bool, true, false}
 use mathlib.Core.List.{List}
-use mathlib.Core.Option.{Option, some}
+use mathlib.Core.Option.{some}
 use native.Mathlib.Omega.{arith}
 use lib.Dec.{T, lit<}
 use borrow.Author.Tests.{eq-eqb, ne_eqb}
 use Rattle.blocks.specs.Blocks.{block, set_bit}
-use Rattle.blocks.specs.Lists.{any}
 use Rattle.blocks.proofs.BoolLaws.{by_t}
 use Rattle.blocks.proofs.BlockLaws.{block_at}
 use Rattle.model.specs.declared.Entry.{Entry}
-use Rattle.model.specs.Model.{Valid, storable, reserved_word, aligned, matched_mark, marks_of, over, store, with_mark, remark}
+use Rattle.model.specs.Model.{Valid, storable, reserved_word, aligned, matched_mark, marks_of, store, with_mark, remark}
 use Rattle.model.specs.ByBlock.{inside, new_entry, store_new}
 use Rattle.model.proofs.AlignedLaws.{store_is, bare_is}
 use Rattle.model.proofs.ValidLaws.{bare, store_valid}
@@ -24,7 +23,7 @@ use Rattle.layout.proofs.StayLaws.{places_alike}
 use Rattle.marks.proofs.RemarkLaws.{sorted_remark}
 use Rattle.plan.specs.Plan.{NewStore}
 use Rattle.plan.proofs.AfterStoreLaws.{new_valid}
-use Rattle.script_rows.specs.Becomes.{Becomes, marks_in}
+use Rattle.script_rows.specs.Becomes.{marks_in}
 use Rattle.script_rows.proofs.CommandLaws.{becomes_new, becomes_reserve}
 use Rattle.script_new.specs.New.{NewList}
 use Rattle.prepare.specs.Put.{Puttable, NewMade}

@@ -5,22 +5,20 @@ use mathlib.Core.Bool.{Bool, true, false}
 use mathlib.Core.List.{List}
 use mathlib.Core.Option.{Option, none, some}
 use native.Mathlib.Omega.{arith}
-use lib.Dec.{eqb}
 use lib.ListN.{length, get_or}
-use borrow.Author.Tests.{eq-eqb, ne_eqb, lt-ltb, le-ltb}
+use borrow.Author.Tests.{ne_eqb, lt-ltb, le-ltb}
 use Rattle.blocks.specs.Choice.{pick}
 use Rattle.answers.specs.declared.Result.{Result}
 use Rattle.answers.specs.Answers.{result_of, done, reply_space, bad_mark, absent}
 use Rattle.model.specs.declared.Entry.{Entry}
 use Rattle.model.specs.Model.{reserved, covering, present, remark, mark_count}
 use Rattle.layout.specs.Words.{pool_words, max_nodes}
-use Rattle.layout.specs.Places.{Places, new_places, render}
+use Rattle.layout.specs.Places.{Places, render}
 use Rattle.layout.specs.WellFormed.{WellFormed}
 use Rattle.layout.proofs.RenderWordLaws.{pool_length_lem, pool_anchor}
 use Rattle.batch.specs.declared.Command.{Command}
 use Rattle.commands.specs.Commands.{Executed, reply_of}
 use Rattle.marks.proofs.RemarkLaws.{places_remark, remark_absent}
-use Rattle.execute.specs.Execute.{execute}
 use Rattle.execute.specs.Promised.{remarking, reply_to, words_to}
 use Rattle.execute.proofs.ReplyLaws.{remark_above, remark_runs, words_after_lem}
 use Rattle.execute.proofs.TableLaws.{present_marked}

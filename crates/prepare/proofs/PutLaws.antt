@@ -5,7 +5,7 @@ use mathlib.Core.Bool.{Bool, true, false}
 use mathlib.Core.List.{List}
 use mathlib.Core.Option.{Option, none, some}
 use native.Mathlib.Omega.{arith}
-use lib.ListN.{length, get_or, set, length-set}
+use lib.ListN.{length, get_or, set}
 use lib.Seq.{get_or-set_same, get_or-set_other}
 use borrow.Author.Tests.{le-leb}
 use Rattle.answers.specs.Answers.{too_few_nodes}
@@ -19,8 +19,8 @@ use Rattle.model.proofs.AlignedLaws.{bare_is}
 use Rattle.tree.specs.Tree.{nodes, needed, height}
 use Rattle.tree.proofs.HeightLaws.{fits_order}
 use Rattle.tree.proofs.ReadLaws.{over_some}
-use Rattle.layout.specs.Words.{anchor_words, pool_words}
-use Rattle.layout.specs.Places.{Places, new_places, free_count, render}
+use Rattle.layout.specs.Words.{anchor_words}
+use Rattle.layout.specs.Places.{new_places, free_count, render}
 use Rattle.layout.specs.WellFormed.{WellFormed}
 use Rattle.layout.proofs.PlacesLaws.{free_places}
 use Rattle.layout.proofs.RenderWordLaws.{pool_length_lem, pool_anchor}
@@ -38,7 +38,7 @@ use Rattle.execute.proofs.ExecuteLaws.{short_11, enough_0, reserve_11, reserve_0
 use Rattle.execute.proofs.ReplyLaws.{words_after_lem}
 use Rattle.execute.proofs.TableLaws.{covered_0}
 use Rattle.script.specs.Script.{script}
-use Rattle.script_table.specs.Table.{row_count, Tables}
+use Rattle.script_table.specs.Table.{Tables}
 use Rattle.script_wide.specs.Wide.{Wide}
 use Rattle.script_new.specs.New.{NewList, NewPlanned, NewRows}
 use Rattle.script_new.proofs.WideLaws.{wide_new}

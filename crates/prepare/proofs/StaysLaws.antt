@@ -1,12 +1,12 @@
 -- The commands that leave the nodes: an entry gets other marks, or another word.
-use Prim.Native.Nat.{ℕ, ◌≤◌, ◌<◌, ◌^◌}
-use mathlib.Core.Path.{◌≡◌, refl, sym, ap, subst, ◌∙◌}
+use Prim.Native.Nat.{ℕ, ◌<◌}
+use mathlib.Core.Path.{◌≡◌, refl, sym, subst, ◌∙◌}
 use mathlib.Core.Bool.{Bool, true, false}
 use mathlib.Core.List.{List, map}
-use mathlib.Core.Option.{Option, none, some}
+use mathlib.Core.Option.{some}
 use borrow.Author.Tests.{eqb-true}
 use Rattle.blocks.specs.Lists.{In}
-use Rattle.blocks.specs.Blocks.{block, set_bit}
+use Rattle.blocks.specs.Blocks.{set_bit}
 use Rattle.blocks.proofs.ListLaws.{first_yes, each}
 use Rattle.model.specs.declared.Entry.{Entry}
 use Rattle.model.specs.Model.{Valid, reserved, covers, covering, with_mark, remark, mark_count}

@@ -1,9 +1,9 @@
 -- A store, test by test; and onto an entry of its order or more, which takes the word.
 use Prim.Native.Nat.{ℕ, ◌-◌, ◌^◌, ◌≤◌, ◌<◌}
 use mathlib.Core.Path.{◌≡◌, refl, sym, ap, subst, ◌∙◌}
-use mathlib.Core.Bool.{Bool, true, false}
-use mathlib.Core.List.{List, [], map}
-use mathlib.Core.Option.{Option, none, some}
+use mathlib.Core.Bool.{true, false}
+use mathlib.Core.List.{List, map}
+use mathlib.Core.Option.{some}
 use native.Mathlib.Omega.{arith}
 use lib.Dec.{T}
 use lib.ListN.{length}
@@ -16,13 +16,13 @@ use Rattle.model.specs.declared.Entry.{Entry}
 use Rattle.model.specs.Model.{max_order, aligned, storable, matched_mark, covers, covering, over, with_word, store, Valid}
 use Rattle.model.proofs.AlignedLaws.{store_is}
 use Rattle.model.proofs.ValidLaws.{store_valid}
-use Rattle.tree.specs.Tree.{nodes, needed, new_nodes}
+use Rattle.tree.specs.Tree.{nodes, needed}
 use Rattle.tree.proofs.ReadLaws.{over_some}
 use Rattle.tree.proofs.RelabelLaws.{map_o, covering_map, new_nodes_map}
-use Rattle.layout.specs.Places.{Places, new_places, render}
+use Rattle.layout.specs.Places.{Places, render}
 use Rattle.layout.specs.WellFormed.{WellFormed}
 use Rattle.batch.specs.declared.Command.TheVariants.{Store, Reserve}
-use Rattle.commands.specs.Commands.{Executed, storing, refuse, reply_of}
+use Rattle.commands.specs.Commands.{Executed, storing, reply_of}
 use Rattle.marks.proofs.RemarkLaws.{sorted_remark}
 use Rattle.execute.specs.Execute.{execute, tree, short}
 use Rattle.execute.proofs.ExecuteLaws.{taken_15}

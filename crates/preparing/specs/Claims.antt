@@ -5,7 +5,7 @@ use Rattle.model.specs.declared.Entry.{Entry}
 use Rattle.layout.specs.Places.{Places}
 use Rattle.layout.specs.WellFormed.{WellFormed, Sized, Prescribed}
 use Rattle.batch.specs.declared.Command.{Command}
-use Rattle.batch.specs.Batch.{Parsed, Parsed.commands, parse}
+use Rattle.batch.specs.Batch.{Parsed, parse}
 use Rattle.commands.specs.Commands.{Executed}
 use Rattle.execute.specs.Part.{changing}
 use Rattle.execute.specs.Table.{CommandRow}
