@@ -35,15 +35,13 @@ returns-then-is_reserved-clause-pool_after c =
 
 pub returns-then-is_reserved-2-clause-value : goal.returns-then-is_reserved-2-clause-value
 returns-then-is_reserved-2-clause-value c =
-    let r = sym c.is_reserved-in-InNode.ensures ∙ c.if-is_reserved-2.true in
     (λ s. let (q, h, t, le, d) = at_spot _ _ _ (c.locate-k.ensures s) c.in-InNode.is in
-    answer_none s.list c.args.i c.args.m c.args.on s.valid (absent_at s.list c.args.i q r))
+    answer_none s.list c.args.i c.args.m c.args.on s.valid (absent_at s.list c.args.i q (sym c.is_reserved-in-InNode.ensures ∙ c.if-is_reserved-2.true)))
 
 pub returns-then-is_reserved-2-clause-pool_after : goal.returns-then-is_reserved-2-clause-pool_after
 returns-then-is_reserved-2-clause-pool_after c =
-    let r = sym c.is_reserved-in-InNode.ensures ∙ c.if-is_reserved-2.true in
     λ s. let (q, h, t, le, d) = at_spot _ _ _ (c.locate-k.ensures s) c.in-InNode.is in
-    words_absent s c.args.i c.args.m c.args.on (absent_at s.list c.args.i q r)
+    words_absent s c.args.i c.args.m c.args.on (absent_at s.list c.args.i q (sym c.is_reserved-in-InNode.ensures ∙ c.if-is_reserved-2.true))
 
 pub climb-requires-clause-stands_at : goal.climb-requires-clause-stands_at
 climb-requires-clause-stands_at c =
