@@ -1,16 +1,14 @@
 -- What looking a key up gives, by what is decided on the way.
 use Prim.Native.Nat.{ℕ, ◌≤◌, ◌<◌}
 use mathlib.Core.Path.{◌≡◌, refl, sym, ap, ◌∙◌}
-use mathlib.Core.Bool.{Bool, true, false}
+use mathlib.Core.Bool.{true}
 use mathlib.Core.List.{List}
 use mathlib.Core.Option.{Option, none, some}
 use native.Mathlib.Omega.{arith}
-use lib.Dec.{eqb, leb}
+use lib.Dec.{leb}
 use lib.ListN.{length}
-use borrow.Author.Tests.{eq-eqb, ne_eqb, le-leb, lt-leb}
-use Rattle.blocks.specs.Choice.{pick, both}
+use borrow.Author.Tests.{ne_eqb, le-leb, lt-leb}
 use Rattle.blocks.proofs.BoolLaws.{by_t, both_no}
-use Rattle.answers.specs.declared.Result.{Result}
 use Rattle.answers.specs.Answers.{result_of, done, absent, bad_key}
 use Rattle.assoc_tree.specs.Keys.{Item, find, key_number, max_key}
 use Rattle.assoc_layout.specs.Decode.{block_count, list_of, is_sized, is_well_formed}

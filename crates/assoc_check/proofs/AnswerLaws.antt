@@ -13,14 +13,13 @@ use Rattle.words.proofs.FillLaws.{length_filled, filled_in_lem}
 use Rattle.freemap.specs.FreeMap.{MapOf}
 use Rattle.freemap.proofs.BitOneLaws.{bit_zero}
 use Rattle.assoc_keys.specs.Number.{Words}
-use Rattle.assoc_layout.specs.Words.{pool_words, max_blocks}
-use Rattle.assoc_layout.specs.Decode.{block_count, is_sized, is_well_formed}
+use Rattle.assoc_layout.specs.Words.{pool_words}
+use Rattle.assoc_layout.specs.Decode.{block_count, is_well_formed}
 use Rattle.assoc_local.specs.Local.{PoolOk}
 use Rattle.assoc_local.proofs.ExactLaws.{check_yes, check_no}
 use Rattle.assoc_check.specs.Checking.{Sized, free_to}
 use Rattle.assoc_check.specs.Seen.{SetOf, seen_words}
 use Rattle.assoc_check.specs.Answers.{Counts, check_answer, clear_answer, empty_pool, clear_words}
-use Rattle.assoc_check.proofs.NamedLaws.{is_sized_lem}
 
 -- an array of zeros
 zero_words : (n j : ℕ) → get_or {A = ℕ} (replicate n 0) j 0 ≡ 0

@@ -1,13 +1,10 @@
 -- What the tests of a block decide: leaves, heads, shortcuts.
-use Prim.Native.Nat.{ℕ, suc, ◌+◌, ◌*◌, ◌-◌, ◌/◌, ◌%◌, ◌^◌, ◌≤◌, ◌<◌}
-use mathlib.Core.Path.{◌≡◌, refl, sym, ap, ◌∙◌, subst}
+use Prim.Native.Nat.{ℕ, suc, ◌+◌, ◌-◌, ◌^◌, ◌≤◌, ◌<◌}
+use mathlib.Core.Path.{◌≡◌, sym, ◌∙◌, subst}
 use mathlib.Core.Bool.{Bool, true}
 use mathlib.Core.List.{List}
 use native.Mathlib.Omega.{arith}
-use lib.Dec.{ltb}
-use lib.ListN.{get_or}
 use borrow.Author.Tests.{lt-ltb}
-use Rattle.blocks.specs.Choice.{both}
 use Rattle.blocks.specs.Deciding.{Decides}
 use Rattle.blocks.proofs.BoolLaws.{both_i, both_l, both_r}
 use Rattle.model.specs.Model.{storable}
@@ -15,10 +12,10 @@ use Rattle.assoc_keys.specs.Number.{Words}
 use Rattle.assoc_tree.specs.Keys.{is_key}
 use Rattle.assoc_tree.specs.Parts.{block_of, full, slots, top_tier}
 use Rattle.assoc_tree.proofs.KeyLaws.{block_zero}
-use Rattle.assoc_layout.specs.Words.{place, block_words, tier_field, slot_field}
+use Rattle.assoc_layout.specs.Words.{block_words, tier_field, slot_field}
 use Rattle.assoc_layout.specs.Decode.{word, base_at}
 use Rattle.assoc_layout.specs.Reading.{Blank, First, Together}
-use Rattle.assoc_local.specs.Local.{tier_of, skip_of, count_of, top_of, slot_at, Names, Head, LeafOk, CutOk, LeafIn}
+use Rattle.assoc_local.specs.Local.{tier_of, skip_of, count_of, top_of, slot_at, Head, LeafOk, CutOk, LeafIn}
 use Rattle.assoc_check.specs.Checking.{CutTo}
 
 -- fields from one slot on

@@ -1,6 +1,6 @@
 -- A base is a key's number: by its highest word, the length, and by what stands after so many bytes.
-use Prim.Native.Nat.{ℕ, zero, suc, ◌+◌, ◌*◌, ◌-◌, ◌/◌, ◌%◌, ◌^◌, ◌≤◌, ◌<◌}
-use mathlib.Core.Path.{◌≡◌, refl, sym, ap, ◌∙◌, subst}
+use Prim.Native.Nat.{ℕ, zero, suc, ◌+◌, ◌*◌, ◌-◌, ◌/◌, ◌%◌, ◌^◌, ◌≤◌}
+use mathlib.Core.Path.{◌≡◌, refl, sym, ap, ◌∙◌}
 use mathlib.Core.Bool.{Bool, true}
 use mathlib.Core.List.{List}
 use native.Mathlib.Omega.{arith}
@@ -8,8 +8,6 @@ use native.Mathlib.Nat.{mul-mod_left, div-add-mod', pow-suc}
 use lib.Dec.{leb, eqb}
 use lib.ListN.{get_or}
 use borrow.Author.Tests.{eqb-true, eq-eqb, leb-true, le-leb}
-use Rattle.blocks.specs.Choice.{both}
-use Rattle.blocks.specs.Blocks.{block}
 use Rattle.blocks.specs.Deciding.{Decides}
 use Rattle.blocks.proofs.BoolLaws.{both_i, both_l, both_r}
 use Rattle.blocks.proofs.BlockLaws.{pow-add}

@@ -1,7 +1,7 @@
 -- The bits that the pass leaves are those of the blocks that are named; and so the check decides.
 use Prim.Native.Nat.{ℕ, zero, suc, ◌+◌, ◌≤◌, ◌<◌}
 use mathlib.Core.Path.{◌≡◌, refl, sym, ap, ◌∙◌}
-use mathlib.Core.Bool.{Bool, true, false}
+use mathlib.Core.Bool.{Bool, true}
 use mathlib.Core.List.{List}
 use native.Mathlib.Omega.{arith}
 use lib.Dec.{eqb, ltb, leb}
@@ -14,7 +14,7 @@ use Rattle.assoc_keys.specs.Number.{Words}
 use Rattle.assoc_tree.specs.Parts.{slots}
 use Rattle.assoc_layout.specs.Words.{pool_words, max_blocks, root_word, tier_field, slot_field}
 use Rattle.assoc_layout.specs.Decode.{word, block_count, is_sized}
-use Rattle.assoc_local.specs.Local.{slot_at, Live, Names, BlockOk, free, leaf, cut, packed, spread, Named, by_root, by_slot, RootOk, PoolOk}
+use Rattle.assoc_local.specs.Local.{slot_at, Live, BlockOk, free, leaf, cut, packed, spread, Named, by_root, by_slot, RootOk, PoolOk}
 use Rattle.assoc_check.specs.Checking.{Sized}
 use Rattle.assoc_check.specs.Seen.{names, slot_names, named_to}
 use Rattle.assoc_check.specs.Answers.{Counts}

@@ -1,23 +1,23 @@
 -- What the tests of a node's slots decide.
 use Prim.Native.Nat.{ℕ, suc, ◌+◌, ◌*◌, ◌-◌, ◌/◌, ◌%◌, ◌≤◌, ◌<◌}
-use mathlib.Core.Path.{◌≡◌, refl, sym, ap, ◌∙◌, subst}
-use mathlib.Core.Bool.{Bool, true, false}
+use mathlib.Core.Path.{◌≡◌, sym, ◌∙◌, subst}
+use mathlib.Core.Bool.{Bool}
 use mathlib.Core.List.{List}
 use native.Mathlib.Omega.{arith}
 use lib.Dec.{eqb, ltb}
-use lib.ListN.{length, get_or}
-use borrow.Author.Tests.{eqb-true, eqb-false, eq-eqb, ne_eqb, ltb-true, ltb-false, lt-ltb, le-ltb}
+use lib.ListN.{length}
+use borrow.Author.Tests.{eqb-true, eqb-false, eq-eqb, ne_eqb, ltb-true, lt-ltb}
 use Rattle.blocks.specs.Deciding.{Decides}
 use Rattle.blocks.proofs.BoolLaws.{by_t, clash, decide_eqb}
 use Rattle.blocks.proofs.ListLaws.{get_or_out}
 use Rattle.assoc_tree.specs.Parts.{block_of, full, slots}
 use Rattle.assoc_tree.proofs.SlotLaws.{tier_up}
-use Rattle.assoc_layout.specs.Words.{place, block_words, pool_words, tier_field, skip_field, value_field, slot_field}
+use Rattle.assoc_layout.specs.Words.{place, block_words, pool_words, tier_field, value_field, slot_field}
 use Rattle.assoc_layout.specs.Decode.{word, base_at}
 use Rattle.assoc_layout.specs.Reading.{Blank, Together}
 use Rattle.assoc_local.specs.Local.{tier_of, skip_of, count_of, top_of, slot_at, keys_under, keys_at}
-use Rattle.assoc_local.specs.Local.{Names, Head, LeafIn, PackedOk, Lies, SlotOk, nothing, a_leaf, a_branch}
-use Rattle.assoc_check.specs.Checking.{Block, InSlot, Rises, Leaves}
+use Rattle.assoc_local.specs.Local.{Head, LeafIn, PackedOk, Lies, SlotOk, nothing, a_leaf, a_branch}
+use Rattle.assoc_check.specs.Checking.{InSlot, Rises, Leaves}
 use Rattle.assoc_check.proofs.BlockOkLaws.{slots_blank, blank_slots_lem}
 
 pub decide_ltb : {A : Type 0} (x y : ℕ) → (x < y → A) → (A → x < y) → Decides (ltb x y) A

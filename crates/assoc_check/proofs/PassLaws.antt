@@ -1,12 +1,12 @@
 -- The pass over all blocks: who is named, the map of the free ones, the root.
-use Prim.Native.Nat.{ℕ, zero, suc, ◌+◌, ◌-◌, ◌≤◌, ◌<◌}
+use Prim.Native.Nat.{ℕ, zero, suc, ◌+◌, ◌≤◌, ◌<◌}
 use mathlib.Core.Path.{◌≡◌, refl, sym, ap, ◌∙◌, subst}
 use mathlib.Core.Bool.{Bool, true, false}
 use mathlib.Core.List.{List}
 use native.Mathlib.Omega.{arith}
 use lib.Dec.{eqb, ltb}
 use lib.ListN.{get_or}
-use borrow.Author.Tests.{eqb-true, eqb-false, eq-eqb, ltb-true, lt-ltb, le-ltb}
+use borrow.Author.Tests.{eqb-true, eqb-false, ltb-true, lt-ltb, le-ltb}
 use Rattle.blocks.specs.Choice.{both, either}
 use Rattle.blocks.specs.Deciding.{Decides}
 use Rattle.blocks.proofs.BoolLaws.{by_t, iff, decide_eqb}
@@ -15,9 +15,9 @@ use Rattle.freemap.proofs.MapLaws.{map_as, map_none, bit_says}
 use Rattle.assoc_tree.specs.Parts.{slots, top_tier}
 use Rattle.assoc_layout.specs.Words.{max_blocks, root_word, tier_field, slot_field}
 use Rattle.assoc_layout.specs.Decode.{word}
-use Rattle.assoc_local.specs.Local.{top_of, slot_at, BlockOk, free, leaf, cut, packed, spread, RootOk, Live}
+use Rattle.assoc_local.specs.Local.{top_of, slot_at, BlockOk, free, leaf, cut, packed, spread, RootOk}
 use Rattle.assoc_check.specs.Checking.{free_to}
-use Rattle.assoc_check.specs.Seen.{SetOf, names, slot_names, named_to}
+use Rattle.assoc_check.specs.Seen.{SetOf, slot_names, named_to}
 use Rattle.assoc_check.proofs.SeenLaws.{set_as, names_none}
 
 pub below_next : (P : ℕ → Type 0) (i : ℕ) → ((k : ℕ) → k < i → P k) → P i → (k : ℕ) → k < i + 1 → P k

@@ -1,17 +1,16 @@
 -- The bits of the blocks that are named, one more by one.
-use Prim.Native.Nat.{ℕ, zero, suc, ◌+◌, ◌-◌, ◌≤◌, ◌<◌}
-use mathlib.Core.Path.{◌≡◌, refl, sym, ap, ◌∙◌, subst}
+use Prim.Native.Nat.{ℕ, suc, ◌+◌, ◌-◌, ◌≤◌, ◌<◌}
+use mathlib.Core.Path.{◌≡◌, refl, sym, ap, ◌∙◌}
 use mathlib.Core.Bool.{Bool, true, false}
 use mathlib.Core.List.{List}
 use native.Mathlib.Omega.{arith}
 use lib.Dec.{eqb, ltb}
 use borrow.Author.Tests.{eqb-true, eqb-false, eq-eqb, ne_eqb, ltb-true, lt-ltb}
-use Rattle.blocks.specs.Choice.{both, either}
+use Rattle.blocks.specs.Choice.{either}
 use Rattle.blocks.proofs.BoolLaws.{by_t, both_no, either_no, either_yes}
 use Rattle.freemap.specs.FreeMap.{map_bit, one_if, put, Flips}
-use Rattle.assoc_layout.specs.Words.{max_blocks}
 use Rattle.assoc_local.specs.Local.{slot_at}
-use Rattle.assoc_check.specs.Seen.{SetOf, Seen, names, slot_names, named_to}
+use Rattle.assoc_check.specs.Seen.{SetOf, names, slot_names}
 
 module _ {f : ℕ → Bool} {ss : List ℕ} (s : SetOf f ss) where
   pub set_as : (g : ℕ → Bool) → ((x : ℕ) → f x ≡ g x) → SetOf g ss

@@ -1,5 +1,5 @@
 -- What the check and clear answer, and the words that clear leaves.
-use Rattle.std.specs.Prelude.{ℕ, ◌-◌, ◌≤◌, ◌≡◌, true, false, List, ◌∷◌, replicate}
+use Rattle.std.specs.Prelude.{ℕ, ◌-◌, ◌≡◌, true, false, List, ◌∷◌, replicate}
 use Rattle.blocks.specs.Choice.{pick}
 use Rattle.answers.specs.Answers.{done, pool_length, not_well_formed}
 use Rattle.assoc_layout.specs.Words.{pool_words}

@@ -1,6 +1,6 @@
 -- A pool that passes the check is well-formed: its words are those that the list of its leaves prescribes, at the places
 -- where its blocks stand.
-use Prim.Native.Nat.{ℕ, zero, suc, ◌+◌, ◌*◌, ◌-◌, ◌%◌, ◌^◌, ◌≤◌, ◌<◌}
+use Prim.Native.Nat.{ℕ, zero, suc, ◌+◌, ◌*◌, ◌-◌, ◌≤◌, ◌<◌}
 use mathlib.Core.Path.{◌≡◌, refl, sym, ap, ap₂, ◌∙◌, subst}
 use mathlib.Core.List.{List, [], ◌∷◌}
 use mathlib.Core.Option.{Option, none, some}
@@ -10,12 +10,11 @@ use lib.Dec.{eqb, ltb}
 use lib.ListN.{get_or}
 use borrow.Author.Tests.{eqb-true, eqb-false, ltb-true, ltb-false, eq-eqb, ne_eqb, le-leb, lt-leb}
 use Rattle.blocks.specs.Lists.{up_to, first, In, here}
-use Rattle.blocks.specs.Blocks.{block}
 use Rattle.blocks.proofs.BoolLaws.{by_t, clash}
 use Rattle.blocks.proofs.ListLaws.{first_yes, first_no, look, each}
 use Rattle.blocks.proofs.PlaceNumberLaws.{number_of_lem}
 use Rattle.assoc_tree.specs.Keys.{Item}
-use Rattle.assoc_tree.specs.Parts.{Part, part, same, block_of, over, size, slots, full, top_tier, branch, leads, leads_for, leaf_of, nth, slot, root, root_for, head_item}
+use Rattle.assoc_tree.specs.Parts.{Part, part, same, block_of, over, size, slots, full, top_tier, branch, leads_for, leaf_of, nth, slot, root, root_for, head_item}
 use Rattle.assoc_layout.specs.Words.{Places, anchor_words, block_words, place, root_word, tier_field, skip_field, value_field, base_field, slot_field, object_of, ref, value, slot_word, field, field_at, anchor_word, number_in}
 use Rattle.assoc_layout.specs.Decode.{word, base_at, place_in, places_of, list_of}
 use Rattle.assoc_layout.specs.WellFormed.{WellFormed}

@@ -8,7 +8,7 @@ use native.Mathlib.Nat.{div-eq_of_lt, le_refl}
 use lib.ListN.{get_or}
 use Rattle.blocks.specs.Lists.{In, here}
 use Rattle.assoc_tree.specs.Keys.{Item, find}
-use Rattle.assoc_tree.specs.Parts.{Part, over, leaf, top_tier, root_for, head_item}
+use Rattle.assoc_tree.specs.Parts.{Part, leaf, top_tier, root_for, head_item}
 use Rattle.assoc_layout.specs.Words.{root_word, value_field, ref, object_of}
 use Rattle.assoc_layout.specs.WellFormed.{WellFormed, num}
 use Rattle.assoc_layout.proofs.RenderLaws.{word_of_lem, root_word_lem}

@@ -11,7 +11,6 @@ use lib.ListN.{length, get_or}
 use borrow.Author.Tests.{eqb-true, eqb-false, leb-true, leb-false, eq-eqb, ne_eqb, lt-ltb, le-ltb}
 use Rattle.blocks.specs.Choice.{pick}
 use Rattle.blocks.specs.Lists.{first, In, here, there}
-use Rattle.blocks.specs.Blocks.{block}
 use Rattle.blocks.proofs.BoolLaws.{clash, by_t}
 use Rattle.blocks.proofs.BlockLaws.{block_lo, block_at}
 use Rattle.blocks.proofs.ListLaws.{first_no, first_yes, look, each, in_cons}
@@ -28,7 +27,6 @@ use Rattle.assoc_keys.proofs.NumberLaws.{number_back}
 use Rattle.assoc_tree.proofs.KeyLaws.{block_zero, key_short, size_zero, low_pos, find_some, find_none, has_leaf}
 use Rattle.assoc_tree.proofs.RunLaws.{nd_of}
 use Rattle.assoc_tree.proofs.SlotLaws.{tier_up, in_keep, keep_in, nth_in, nth_some, nth_lt, slot_packed, slot_spread, one_key, upper_child, low_here, upper_here}
-use Rattle.blocks.proofs.TierLaws as T
 
 -- what looking through leaves finds
 data PackedOk (l : List Item) (ν : Part → ℕ) (k : ℕ) (zs : List Item) : Step → Type 0 where

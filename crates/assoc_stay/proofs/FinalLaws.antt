@@ -1,6 +1,6 @@
 -- The words after a call are those of the new list at the new places, if they are right at the anchor, at the parts that are
 -- new, at those that are gone, and at the old ones on the path of the key; and nothing else was written.
-use Prim.Native.Nat.{ℕ, ◌-◌, ◌≤◌, ◌<◌}
+use Prim.Native.Nat.{ℕ, ◌≤◌, ◌<◌}
 use mathlib.Core.Path.{◌≡◌, refl, sym, ap, ◌∙◌, subst}
 use mathlib.Core.Bool.{Bool, true, false}
 use mathlib.Core.List.{List}

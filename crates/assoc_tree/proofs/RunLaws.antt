@@ -15,7 +15,6 @@ use Rattle.blocks.proofs.BoolLaws.{clash, by_t, both_l, both_r, both_no}
 use Rattle.assoc_tree.specs.Keys.{Item}
 use Rattle.assoc_tree.specs.Parts.{part, tier_bits, block_of, over, size, size_over, skipped, low_from, branch, is_deep, is_upper, full, top_tier}
 use Rattle.assoc_tree.proofs.SizeLaws.{up, size_step}
-use Rattle.blocks.proofs.TierLaws as T
 
 -- two tests that exclude each other, within a third
 keep_two : {A : Type 0} (p q r : A → Bool) (l : List A) → ((x : A) → p x ≡ true → q x ≡ true → ⊥) →

@@ -13,11 +13,11 @@ use Rattle.decode.proofs.DecodeLaws.{decode_list}
 use Rattle.decode.proofs.DecideLaws.{sized_is}
 use Rattle.verify.specs.Answers.{init_answer, init_words}
 use Rattle.verify.proofs.AnswerLaws.{prescribed_0}
-use Rattle.batch.specs.Batch.{Parsed, Parsed.commands, Parsed.refused, parse}
+use Rattle.batch.specs.Batch.{Parsed, parse}
 use Rattle.batch.specs.Reply.{reply_bytes}
 use Rattle.execute.specs.Execute.{execute}
 use Rattle.calls.specs.Calls.{Called, run, run_parsed}
-use Rattle.calls.specs.Demand.{Call, Call.init, Call.check, Call.batch, Call.list, Call.prepare, Bytewise, Stands, Starts, Starts.fresh}
+use Rattle.calls.specs.Demand.{Call, Bytewise, Stands, Starts, Starts.fresh}
 use Rattle.calls.proofs.DemandLaws.{sized, run_as, call_stands, Started, started}
 use Rattle.xaplain.specs.Slices.{Slices, Prescribes, max_room, init_slices}
 use Rattle.xaplain.specs.Slices as S

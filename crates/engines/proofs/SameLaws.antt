@@ -23,7 +23,7 @@ use Rattle.batch.specs.declared.Command.{Command}
 use Rattle.batch.specs.declared.Reply.{Reply}
 use Rattle.batch.specs.Reply.{reply_tag, reply_bytes, encode}
 use Rattle.batch.specs.Fits.{Fits}
-use Rattle.batch.specs.Batch.{Parsed, Parsed.commands, Parsed.refused, parse}
+use Rattle.batch.specs.Batch.{Parsed, parse}
 use Rattle.batch.proofs.BoundLaws.{AllFit, parse_fits}
 use Rattle.commands.specs.Commands.{Executed}
 use Rattle.commands.specs.Batches.{replies_by, list_by, feed_by}
@@ -35,7 +35,7 @@ use Rattle.execute.proofs.ReplyFits.{reply_fits}
 use Rattle.execute.proofs.ReplyLaws.{find_runs}
 use Rattle.xaplain.specs.Engine.{sighted, xaplain}
 use Rattle.xaplain.specs.Engine as X
-use Rattle.xaplain_calls.specs.Demand.{Call, Call.init, Call.check, Call.batch, Bytewise}
+use Rattle.xaplain_calls.specs.Demand.{Call, Bytewise}
 use Rattle.engines.specs.Seen.{Seen, seen, leaving, but_counts, NeverSays, seen_run, seen_by}
 
 -- ONE COMMAND

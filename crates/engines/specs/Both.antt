@@ -2,7 +2,7 @@
 use Rattle.std.specs.Prelude.{ℕ, List, [], ◌∷◌}
 use Rattle.verify.specs.Answers.{init_words}
 use Rattle.calls.specs.Calls as T
-use Rattle.calls.specs.Demand.{Call, Call.init, Call.check, Call.batch, Call.list, Call.prepare}
+use Rattle.calls.specs.Demand.{Call}
 use Rattle.xaplain.specs.Slices.{Slices, init_slices}
 use Rattle.xaplain_calls.specs.Calls as P
 use Rattle.xaplain_calls.specs.Demand as D

@@ -10,7 +10,7 @@ use Rattle.batch.specs.Batch.{Parsed, Parsed.commands, Parsed.refused, parse}
 use Rattle.batch.specs.Reply.{reply_bytes, load_reply, find_reply}
 use Rattle.commands.specs.Commands.{Executed}
 use Rattle.commands.specs.Batches.{replies_by, feed_by}
-use Rattle.xaplain_calls.specs.Demand.{Call, Call.init, Call.check, Call.batch}
+use Rattle.xaplain_calls.specs.Demand.{Call}
 
 -- the answer, the number and, of a run, all bytes of the reply space after the call
 pub record Seen : Type 0 where

@@ -14,20 +14,7 @@ use Rattle.batch.specs.declared.Command.{Command}
 use Rattle.batch.specs.declared.Cursor.{Cursor}
 use Rattle.batch.specs.declared.Read.{Read}
 use Rattle.batch.specs.declared.Read.TheVariants.{Next, Bad, End}
-use Rattle.batch.specs.Batch.{
-  max_batch,
-  head_bytes,
-  field_bytes,
-  Parsed,
-  Parsed.commands,
-  Parsed.refused,
-  cons_to,
-  parse_read,
-  read_at,
-  parse_from,
-  rest_at,
-  parse,
-}
+use Rattle.batch.specs.Batch.{max_batch, head_bytes, field_bytes, Parsed, cons_to, parse_read, read_at, parse_from, rest_at, parse}
 use Rattle.batch.specs.Reply.{reply_bytes}
 use Rattle.batch.proofs.ParseLaws.{WasRead, was_read, whole, Onward, next_after, not_refused, parse_long, parse_rest}
 use Rattle.calls.specs.Calls.{refuse_call, replies, run, run_parsed}

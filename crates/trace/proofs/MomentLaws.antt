@@ -14,21 +14,10 @@ use Rattle.blocks.proofs.ListLaws.{get_or_out}
 use Rattle.model.specs.declared.Entry.{Entry}
 use Rattle.words.specs.Bytes.{Bytes}
 use Rattle.batch.specs.declared.Command.{Command}
-use Rattle.batch.specs.Batch.{Parsed, Parsed.commands, Parsed.refused, parse}
+use Rattle.batch.specs.Batch.{Parsed, parse}
 use Rattle.batch.specs.Reply.{reply_bytes}
 use Rattle.batch.proofs.CutLaws.{cut}
-use Rattle.calls.specs.Demand.{
-  Call,
-  Call.init,
-  Call.check,
-  Call.batch,
-  Call.list,
-  Call.prepare,
-  words_after_all,
-  Bytewise,
-  Stands,
-  Starts,
-}
+use Rattle.calls.specs.Demand.{Call, words_after_all, Bytewise, Stands, Starts}
 use Rattle.calls.proofs.ClaimLaws.{demand_3_whole}
 use Rattle.trace.specs.Trace.{
   Step,

@@ -11,28 +11,13 @@ use Rattle.model.specs.declared.Entry.{Entry}
 use Rattle.model.specs.Model.{Valid}
 use Rattle.batch.specs.Fits.{Fits}
 use Rattle.batch.specs.declared.Command.{Command}
-use Rattle.batch.specs.Batch.{Parsed, Parsed.commands, Parsed.refused, parse}
+use Rattle.batch.specs.Batch.{Parsed, parse}
 use Rattle.batch.specs.Reply.{reply_bytes}
 use Rattle.batch.proofs.BoundLaws.{AllFit, parse_fits}
 use Rattle.execute.specs.Execute.{execute}
 use Rattle.execute.proofs.Footprint.{refused_leaves}
 use Rattle.calls.specs.Calls.{Called, run, run_parsed}
-use Rattle.calls.specs.Demand.{
-  Call,
-  Call.init,
-  Call.check,
-  Call.batch,
-  Call.list,
-  Call.prepare,
-  words_after_all,
-  execute_all,
-  feed,
-  list_after,
-  list_after_all,
-  Bytewise,
-  Stands,
-  Starts,
-}
+use Rattle.calls.specs.Demand.{Call, words_after_all, execute_all, feed, list_after, list_after_all, Bytewise, Stands, Starts}
 use Rattle.calls.proofs.DemandLaws.{Started, started, run_as}
 use Rattle.calls.proofs.ClaimLaws.{demand_3_whole}
 use Rattle.trace.specs.Trace.{Step, Step.ran, fed, steps_of, steps, next, after}

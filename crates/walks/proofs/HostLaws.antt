@@ -1,7 +1,7 @@
 -- A host that goes by the replies walks as `walk` does, over the lists that demand 3's calls leave (R296 to R298).
 use Prim.Native.Nat.{ℕ, ◌+◌, ◌*◌, ◌≤◌}
 use mathlib.Core.Path.{◌≡◌, refl, sym, ap, subst, ◌∙◌}
-use mathlib.Core.Bool.{true, false}
+use mathlib.Core.Bool.{true}
 use mathlib.Core.Logic.{◌≢◌}
 use mathlib.Core.List.{List, [], ◌∷◌, ◌++◌, append_assoc}
 use mathlib.Core.Option.{Option, none, some}
@@ -28,31 +28,16 @@ use Rattle.lookup.proofs.FindLaws.{found_first, paused_passed}
 use Rattle.batch.specs.declared.Command.{Command}
 use Rattle.batch.specs.declared.Command.TheVariants.{Find}
 use Rattle.batch.specs.declared.Reply.{Reply}
-use Rattle.batch.specs.Batch.{Parsed, Parsed.commands, parse}
 use Rattle.batch.specs.Reply.{reply_bytes, encode, answered_by, find_reply}
 use Rattle.execute.specs.Execute.{execute, finding}
 use Rattle.commands.specs.Commands.{Executed}
 use Rattle.execute.proofs.ReplyLaws.{find_runs}
 use Rattle.calls.specs.Calls.{run, replies}
-use Rattle.calls.specs.Demand.{
-  Call,
-  Call.batch,
-  words_after_all,
-  execute_all,
-  list_after_all,
-  Bytewise,
-  Stands,
-  AtCommand,
-  Ran,
-  AtBatch,
-  Demand3,
-  Starts,
-  Starts.checked,
-}
+use Rattle.calls.specs.Demand.{Call, words_after_all, list_after_all, Stands, AtCommand, Ran, AtBatch, Starts, Starts.checked}
 use Rattle.calls.proofs.RunningLaws.{replies_length}
 use Rattle.calls.proofs.DemandLaws.{Started, started, sized}
 use Rattle.calls.proofs.ClaimLaws.{demand_3_whole}
-use Rattle.walks.specs.Walk.{Moment, walk, go_on, reporting, next_of, still, until, accepts, reports}
+use Rattle.walks.specs.Walk.{Moment, walk, go_on, next_of, still, until, accepts, reports}
 use Rattle.walks.specs.Host.{Leg, calls_of, met, moments, reply_at, next_by, seen, Asks, Walks, stops, goes_on, entry_of, reports_by}
 use Rattle.walks.proofs.ReadLaws.{reply_read, replies_around}
 use Rattle.walks.proofs.MissLaws.{no_index_missed, none_missed_until}

@@ -16,7 +16,7 @@ use Rattle.model.specs.declared.Entry.{Entry}
 use Rattle.model.specs.Model.{EntryOk, reserved, covers, Sorted, more, Valid}
 use Rattle.model.proofs.ValidLaws.{covers_i, covers_lo, covers_hi, sorted_ok}
 use Rattle.lookup.specs.declared.Outcome.{Outcome}
-use Rattle.lookup.specs.declared.Outcome.TheVariants.{Found, Ended, Paused}
+use Rattle.lookup.specs.declared.Outcome.TheVariants.{Found}
 use Rattle.lookup.specs.Find.{matches, after, find, meets}
 use Rattle.lookup.proofs.FindLaws.{Right, right_found, right_ended, right_paused, find_right}
 use Rattle.walks.specs.Walk.{Moment, walk, go_on, reporting, next_of, wherever, until, accepts, reports}

@@ -1,9 +1,9 @@
 -- A reply that was written as bytes is read back.
 use Prim.Native.Nat.{ℕ, zero, suc, ◌+◌, ◌*◌, ◌/◌, ◌%◌, ◌^◌, ◌<◌}
-use mathlib.Core.Path.{◌≡◌, refl, sym, ap, subst, ◌∙◌}
+use mathlib.Core.Path.{◌≡◌, refl, sym, ap, ◌∙◌}
 use mathlib.Core.List.{List, [], ◌∷◌, ◌++◌, append_assoc}
 use native.Mathlib.Omega.{arith}
-use native.Mathlib.Nat.{zero-add, add-zero, add_assoc, add-mul, mul_comm, mul_assoc, zero-mul, pow-suc, div-one, div-add-mod', div-div-eq-div-mul, div-eq_of_lt}
+use native.Mathlib.Nat.{zero-add, add_assoc, add-mul, mul_comm, mul_assoc, zero-mul, pow-suc, div-one, div-add-mod', div-div-eq-div-mul, div-eq_of_lt}
 use lib.ListN.{length, get_or}
 use lib.Seq.{get_or-append-add}
 use Rattle.model.specs.declared.Entry.{Entry}

@@ -11,10 +11,10 @@ use Rattle.lookup.specs.declared.Outcome.TheVariants.{Found, Ended}
 use Rattle.batch.specs.declared.Command.{Command}
 use Rattle.batch.specs.declared.Command.TheVariants.{Find}
 use Rattle.batch.specs.declared.Reply.{Reply}
-use Rattle.batch.specs.Batch.{Parsed, Parsed.commands, parse}
+use Rattle.batch.specs.Batch.{Parsed, parse}
 use Rattle.batch.specs.Reply.{reply_bytes}
 use Rattle.calls.specs.Calls.{run}
-use Rattle.calls.specs.Demand.{Call, Call.batch, words_after_all, execute_all, list_after_all, Bytewise}
+use Rattle.calls.specs.Demand.{Call, words_after_all, execute_all, list_after_all, Bytewise}
 use Rattle.walks.specs.Walk.{Moment}
 
 -- ONE FIND: the calls since the batch of the last one; then a batch with the find after the commands `ahead` and before those

@@ -1,5 +1,5 @@
 use mathlib.Core.Path.{sym, ◌∙◌}
-use Rattle.assoc_keys.proofs.NumberLaws.{yes!}
+use Rattle.assoc_keys.proofs.NumberLaws.{yes! }
 use Rattle.assoc_local.specs.Local.{a_leaf}
 use Rattle.assoc_check.proofs.NodeOkLaws.{in_lies, branch_decides}
 use Rattle.assoc_check.proofs.child_ok.Goals as goal

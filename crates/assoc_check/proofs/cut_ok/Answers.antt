@@ -1,5 +1,4 @@
-use Prim.Native.Nat.{◌-◌}
-use Rattle.assoc_keys.proofs.NumberLaws.{no!}
+use Rattle.assoc_keys.proofs.NumberLaws.{no! }
 use Rattle.assoc_check.proofs.BlockOkLaws.{blank_slots_lem}
 use Rattle.assoc_check.proofs.cut_ok.Goals as goal
 

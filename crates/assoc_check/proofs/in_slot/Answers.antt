@@ -1,5 +1,5 @@
 use native.Mathlib.Numerals.{add-one}
-use Rattle.assoc_keys.proofs.NumberLaws.{no!}
+use Rattle.assoc_keys.proofs.NumberLaws.{no! }
 use Rattle.assoc_check.proofs.NodeOkLaws.{slot_together, slot_decides}
 use Rattle.assoc_check.proofs.in_slot.Goals as goal
 

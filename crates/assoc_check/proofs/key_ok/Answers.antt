@@ -1,7 +1,7 @@
 use mathlib.Core.Path.{sym, ◌∙◌}
 use native.Mathlib.Omega.{arith}
 use Rattle.assoc_keys.specs.Number.{Words}
-use Rattle.assoc_keys.proofs.NumberLaws.{no!}
+use Rattle.assoc_keys.proofs.NumberLaws.{no! }
 use Rattle.assoc_check.proofs.KeyOkLaws.{length_is, key_size, key_decides}
 use Rattle.assoc_check.proofs.key_ok.Goals as goal
 

@@ -1,4 +1,4 @@
-use Prim.Native.Nat.{ℕ, ◌-◌}
+use Prim.Native.Nat.{ℕ}
 use mathlib.Core.Path.{◌≡◌, subst}
 use native.Mathlib.Omega.{arith}
 use Rattle.blocks.specs.Choice.{either}
@@ -16,12 +16,11 @@ mark_ref-requires c =
     (record { set = _; is = c.loop-j.invariant.1 c.requires.1.set c.requires.1.is }, c.requires.0.few)
 
 pub loop-j-preserved : goal.loop-j-preserved
-loop-j-preserved c =
-    (
-      omega (arith, c.loop-j-test.true),
-      λ f s. slots_next c.args.pool.now c.args.n c.args.m f c.loop-j.j c.field.result c.field.ensures
-          (c.mark_ref.ensures _ (c.loop-j.invariant.1 f s)),
-    )
+loop-j-preserved c = (
+  omega (arith, c.loop-j-test.true),
+  λ f s. slots_next c.args.pool.now c.args.n c.args.m f c.loop-j.j c.field.result c.field.ensures
+      (c.mark_ref.ensures _ (c.loop-j.invariant.1 f s)),
+)
 
 pub returns : goal.returns
 returns c =

@@ -1,4 +1,4 @@
-use Rattle.assoc_keys.proofs.NumberLaws.{no!}
+use Rattle.assoc_keys.proofs.NumberLaws.{no! }
 use Rattle.assoc_check.proofs.NodeOkLaws.{packed_empty}
 use Rattle.assoc_check.proofs.packed_ok.Goals as goal
 

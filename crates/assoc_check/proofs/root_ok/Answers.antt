@@ -3,7 +3,7 @@ use mathlib.Core.Path.{◌≡◌}
 use lib.ListN.{get_or}
 use Rattle.assoc_layout.specs.Words.{root_word}
 use native.Mathlib.Omega.{arith}
-use Rattle.assoc_keys.proofs.NumberLaws.{no!}
+use Rattle.assoc_keys.proofs.NumberLaws.{no! }
 use Rattle.assoc_check.proofs.root_ok.Goals as goal
 
 pub returns-then-n-r : goal.returns-then-n-r

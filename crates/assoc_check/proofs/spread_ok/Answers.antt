@@ -1,9 +1,9 @@
-use Prim.Native.Nat.{ℕ, ◌-◌}
+use Prim.Native.Nat.{ℕ}
 use mathlib.Core.Path.{◌≡◌, ap, subst, ◌∙◌}
 use Rattle.assoc_local.specs.Local.{keys_at}
 use native.Mathlib.Omega.{arith}
 use Rattle.assoc_tree.specs.Parts.{slots}
-use Rattle.assoc_keys.proofs.NumberLaws.{no!}
+use Rattle.assoc_keys.proofs.NumberLaws.{no! }
 use Rattle.assoc_check.specs.Checking.{Spread}
 use Rattle.assoc_check.proofs.SpreadLaws.{spread_start, spread_fits, spread_next, spread_decides}
 use Rattle.assoc_check.proofs.spread_ok.Goals as goal
@@ -27,14 +27,13 @@ returns-then-count-total c =
     ))
 
 pub loop-j-preserved : goal.loop-j-preserved
-loop-j-preserved c =
-    (
-      omega (arith, c.loop-j-test.true),
-      omega (arith, c.loop-j.invariant.1, c.one_if-filled.ensures.1),
-      spread_next c.args.pool.now c.args.n c.args.m c.loop-j.j c.loop-j.total c.loop-j.filled c.field-r.result c.keys_at-k.result c.one_if-filled.result
-          c.loop-j.invariant.2 (c.slot_ok.ensures.0 c.if-not-slot_ok.false) c.field-r.ensures c.keys_at-k.ensures
-          (omega (arith, c.if-count-total.false, c.loop-j.invariant.2.most, c.requires.m_value.1)) c.one_if-filled.ensures.0,
-    )
+loop-j-preserved c = (
+  omega (arith, c.loop-j-test.true),
+  omega (arith, c.loop-j.invariant.1, c.one_if-filled.ensures.1),
+  spread_next c.args.pool.now c.args.n c.args.m c.loop-j.j c.loop-j.total c.loop-j.filled c.field-r.result c.keys_at-k.result c.one_if-filled.result
+      c.loop-j.invariant.2 (c.slot_ok.ensures.0 c.if-not-slot_ok.false) c.field-r.ensures c.keys_at-k.ensures
+      (omega (arith, c.if-count-total.false, c.loop-j.invariant.2.most, c.requires.m_value.1)) c.one_if-filled.ensures.0,
+)
 
 pub returns : goal.returns
 returns c =

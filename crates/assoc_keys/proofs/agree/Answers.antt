@@ -3,7 +3,7 @@ use mathlib.Core.Path.{◌≡◌, sym, ap, ◌∙◌}
 use native.Mathlib.Omega.{arith}
 use Rattle.blocks.specs.Blocks.{block}
 use Rattle.assoc_keys.specs.Number.{key_at, key_words, Words}
-use Rattle.assoc_keys.proofs.NumberLaws.{agree_yes, agree_no, no!}
+use Rattle.assoc_keys.proofs.NumberLaws.{agree_yes, agree_no, no! }
 use Rattle.assoc_keys.proofs.agree.Goals as goal
 
 tier_is : (v : ℕ) → 4 * (16 * (v / 16) + v % 16) ≡ 4 * v

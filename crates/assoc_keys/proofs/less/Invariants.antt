@@ -1,4 +1,4 @@
-use Prim.Native.Nat.{◌-◌, ◌≤◌}
+use Prim.Native.Nat.{◌≤◌}
 use Rattle.assoc_keys.specs.Number.{key_words, SameFrom}
 use Rattle.assoc_keys.proofs.less.Given as goal
 

@@ -1,6 +1,6 @@
 use native.Mathlib.Omega.{arith}
 use Rattle.assoc_keys.specs.Number.{Words}
-use Rattle.assoc_keys.proofs.NumberLaws.{no!}
+use Rattle.assoc_keys.proofs.NumberLaws.{no! }
 use Rattle.assoc_layout.proofs.FirstLaws.{first_blank, first_decides}
 use Rattle.assoc_layout.proofs.is_first.Goals as goal
 

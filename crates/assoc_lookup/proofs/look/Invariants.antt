@@ -1,4 +1,3 @@
-use Prim.Native.Nat.{◌-◌}
 use Rattle.assoc_layout.specs.WellFormed.{WellFormed, num}
 use Rattle.assoc_keys.specs.Number.{key_at}
 use Rattle.assoc_lookup.specs.Lookup.{At}

@@ -1,4 +1,4 @@
-use Rattle.std.proofs.Common.{sym, ap₂, refl, ◌∙◌, take}
+use Rattle.std.proofs.Common.{ap₂, refl, ◌∙◌, take}
 use Rattle.tamburish.proofs.WrittenLaws.{program_writes}
 use Rattle.tamburish.proofs.answer.Goals as goal
 

@@ -1,4 +1,4 @@
-use Rattle.std.proofs.Common.{◌≤◌, arith, Fits}
+use Rattle.std.proofs.Common.{arith}
 use Rattle.tamburish.proofs.ProgramLaws.{has_room, long, did, said}
 use Rattle.tamburish.proofs.respond.Goals as goal
 
