@@ -27,7 +27,7 @@ use Rattle.batch.specs.Fits.{Fits}
 use Rattle.words.specs.Bytes.{Bytes}
 use Rattle.batch.specs.declared.Command.{Command}
 use Rattle.batch.specs.declared.Command.TheVariants.{Store}
-use Rattle.batch.specs.Batch.{Parsed, Parsed.commands, Parsed.refused, parse}
+use Rattle.batch.specs.Batch.{Parsed, parse}
 use Rattle.batch.specs.Reply.{reply_bytes, store_reply, reserve_reply}
 use Rattle.batch.proofs.BoundLaws.{AllFit, parse_fits}
 use Rattle.batch.proofs.CutLaws.{cut}
@@ -46,24 +46,7 @@ use Rattle.preparing.proofs.PrepareLaws.{prepare_none, prepare_own, prepare_yiel
 use Rattle.calls.specs.Calls.{Called, run, run_parsed, replies, list_over}
 use Rattle.answers.specs.Answers.{result_of, done}
 use Rattle.calls.specs.Running.{words_of}
-use Rattle.calls.specs.Demand.{
-  Call,
-  Call.init,
-  Call.check,
-  Call.batch,
-  Call.list,
-  Call.prepare,
-  Bytewise,
-  ShortExact,
-  ReserveShort,
-  Commanded,
-  AtCommand,
-  AtBatch,
-  AtPrepare,
-  AtCall,
-  Demand3,
-  Starts,
-}
+use Rattle.calls.specs.Demand.{Call, Bytewise, ShortExact, ReserveShort, Commanded, AtCommand, AtBatch, AtPrepare, AtCall, Demand3, Starts}
 use Rattle.calls.proofs.ListCallLaws.{list_checked}
 use Rattle.calls.proofs.DemandLaws.{
   states_list,

@@ -29,32 +29,14 @@ use Rattle.verify.proofs.EmptyLaws.{empty_prescribed}
 use Rattle.batch.specs.Fits.{Fits}
 use Rattle.words.specs.Bytes.{Bytes}
 use Rattle.batch.specs.declared.Command.{Command}
-use Rattle.batch.specs.Batch.{Parsed, Parsed.commands, Parsed.refused, parse}
+use Rattle.batch.specs.Batch.{Parsed, parse}
 use Rattle.batch.specs.Reply.{reply_bytes}
 use Rattle.batch.proofs.BoundLaws.{AllFit, parse_fits}
 use Rattle.batch.proofs.CutLaws.{cut}
 use Rattle.execute.specs.State.{State, Kept, next, states}
 use Rattle.execute.proofs.ExecuteLaws.{states_kept}
 use Rattle.calls.specs.Calls.{Called, run, run_parsed}
-use Rattle.calls.specs.Demand.{
-  Call,
-  Call.init,
-  Call.check,
-  Call.batch,
-  Call.list,
-  Call.prepare,
-  words_after,
-  words_after_all,
-  execute_all,
-  feed,
-  list_after,
-  list_after_all,
-  Bytewise,
-  Stands,
-  Starts,
-  Starts.fresh,
-  Starts.checked,
-}
+use Rattle.calls.specs.Demand.{Call, words_after, words_after_all, execute_all, feed, list_after, list_after_all, Bytewise, Stands, Starts, Starts.fresh, Starts.checked}
 
 -- the model's list is the state's
 pub states_list : (n : ℕ) (s : State) (cs : List Command) → (states n s cs).list ≡ execute_all n s.list cs

@@ -16,7 +16,7 @@ use Rattle.decode.proofs.DecodeLaws.{well_formed_sized}
 use Rattle.decode.proofs.DecideLaws.{count_of}
 use Rattle.verify.proofs.AnswerLaws.{well_formed_0}
 use Rattle.batch.specs.declared.Command.{Command}
-use Rattle.batch.specs.Batch.{Parsed, Parsed.commands, parse}
+use Rattle.batch.specs.Batch.{Parsed, parse}
 use Rattle.batch.specs.Reply.{reply_bytes}
 use Rattle.commands.specs.Commands.{Executed}
 use Rattle.execute.specs.Execute.{execute}

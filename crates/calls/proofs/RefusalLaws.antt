@@ -10,7 +10,7 @@ use Rattle.blocks.proofs.BoolLaws.{by_t}
 use Rattle.layout.specs.WellFormed.{WellFormed}
 use Rattle.verify.specs.Answers.{check_answer, Verdict, Verdict.well_formed_lem, Verdict.wrong_size, Verdict.malformed}
 use Rattle.verify.proofs.AnswerLaws.{answered, meaning, accepted, well_formed_0}
-use Rattle.batch.specs.Batch.{Parsed, Parsed.commands, Parsed.refused, parse}
+use Rattle.batch.specs.Batch.{Parsed, parse}
 use Rattle.batch.specs.Reply.{reply_bytes}
 use Rattle.batch.proofs.RecordLaws.{refused_exactly}
 use Rattle.calls.specs.Calls.{Called, refuse_call, run}

@@ -14,7 +14,7 @@ use Rattle.batch.specs.declared.Command.{Command}
 use Rattle.batch.specs.declared.Cursor.{Cursor}
 use Rattle.batch.specs.declared.Read.TheVariants.{Next}
 use Rattle.batch.specs.declared.Reply.{Reply}
-use Rattle.batch.specs.Batch.{Parsed, Parsed.commands, read_at, rest_at}
+use Rattle.batch.specs.Batch.{Parsed, read_at, rest_at}
 use Rattle.batch.specs.Reply.{reply_bytes, encode}
 use Rattle.commands.specs.Batches.{Ahead}
 use Rattle.commands.proofs.BatchesLaws.{same_commands, After, turn, ahead_on, none_left, reply_then}

@@ -7,7 +7,7 @@ use Rattle.layout.specs.WellFormed.{WellFormed, Sized, Prescribed}
 use Rattle.layout.specs.Decode.{list_of, places_of}
 use Rattle.layout.specs.Decide.{node_count}
 use Rattle.batch.specs.declared.Command.{Command}
-use Rattle.batch.specs.Batch.{Parsed, Parsed.commands, parse}
+use Rattle.batch.specs.Batch.{Parsed, parse}
 use Rattle.batch.specs.Records.{Refuses}
 use Rattle.batch.specs.Reply.{reply_bytes}
 use Rattle.listing.specs.Listing.{listed, entry_bytes, listing}

@@ -5,7 +5,7 @@ use Rattle.layout.specs.WellFormed.{WellFormed}
 use Rattle.freenodes.specs.FreeNodes.{FreeMap}
 use Rattle.words.specs.Bytes.{overwrite}
 use Rattle.batch.specs.declared.Command.{Command}
-use Rattle.batch.specs.Batch.{Parsed, Parsed.commands, rest_at}
+use Rattle.batch.specs.Batch.{Parsed, rest_at}
 use Rattle.batch.specs.Reply.{encode}
 use Rattle.commands.specs.Batches.{Ahead}
 use Rattle.execute.specs.State.{State, states}

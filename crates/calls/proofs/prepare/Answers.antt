@@ -1,9 +1,8 @@
 -- `prepare`: the script of the words that a run of one record would change.
-use mathlib.Core.Path.{refl, sym, ◌∙◌}
+use mathlib.Core.Path.{sym, ◌∙◌}
 use Rattle.freemap.proofs.MapLaws.{blank_map_lem}
 use Rattle.preparing.proofs.OneLaws.{end_none, bad_none}
 use Rattle.preparing.proofs.PrepareLaws.{told_unchecked, told_none}
-use Rattle.calls.proofs.CallLaws.{both_lent}
 use Rattle.calls.proofs.prepare.Goals as goal
 
 pub check_map-verdict-requires : goal.check_map-verdict-requires

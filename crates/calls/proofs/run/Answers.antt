@@ -1,7 +1,7 @@
 -- `run`: Runs a batch of commands on a pool, and writes 24 bytes of reply for each.
-use mathlib.Core.Path.{refl, sym, ◌∙◌}
+use mathlib.Core.Path.{sym, ◌∙◌}
 use Rattle.freemap.proofs.MapLaws.{blank_map_lem}
-use Rattle.calls.proofs.CallLaws.{run_unchecked, run_bad, comes_refused, comes_as, as_ensures, with_lent}
+use Rattle.calls.proofs.CallLaws.{run_unchecked, run_bad, comes_refused, comes_as, as_ensures}
 use Rattle.calls.proofs.run.Goals as goal
 
 pub check_map-answer-requires : goal.check_map-answer-requires

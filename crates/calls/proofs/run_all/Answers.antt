@@ -1,4 +1,3 @@
-use Prim.Native.Nat.{◌-◌}
 use mathlib.Core.Path.{refl, sym, ◌∙◌}
 use native.Mathlib.Omega.{arith}
 use Rattle.batch.proofs.ParseLaws.{next_after}
@@ -24,14 +23,13 @@ loop-at-smaller c =
     omega (arith, next_after _ _ (sym c.step_at-s.ensures))
 
 pub loop-at-preserved : goal.loop-at-preserved
-loop-at-preserved c =
-    (
-      c.run_one.auto.pool ∙ c.loop-at.invariant.0,
-      c.run_one.auto.map ∙ c.loop-at.invariant.1,
-      running_on c.loop-at.invariant.2 c.step_at-s.ensures
+loop-at-preserved c = (
+  c.run_one.auto.pool ∙ c.loop-at.invariant.0,
+  c.run_one.auto.map ∙ c.loop-at.invariant.1,
+  running_on c.loop-at.invariant.2 c.step_at-s.ensures
       (read_fits (record { small = λ i. omega (arith, c.shared_slice_known-1.given i) }) _ (sym c.step_at-s.ensures))
       (c.run_one.ensures.turned c.loop-at.invariant.2.formed) c.run_one.ensures.free_map_2 c.run_one.auto.reply,
-    )
+)
 
 pub returns : goal.returns
 returns c =
