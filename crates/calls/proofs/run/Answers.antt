@@ -22,15 +22,12 @@ returns-then-answer-ne-DONE-clause-reply_after c =
 
 pub returns-in-Refused-clause-value : goal.returns-in-Refused-clause-value
 returns-in-Refused-clause-value c =
-    (as_ensures (comes_refused (run_bad _ _ _ (sym c.check_map-answer.ensures.value ∙ c.if-answer-ne-DONE.false)
-    (sym c.in-Refused.is ∙ c.count-counted.ensures)))).0
+    (as_ensures (comes_refused (run_bad _ _ _ (sym c.check_map-answer.ensures.value ∙ c.if-answer-ne-DONE.false) (sym c.in-Refused.is ∙ c.count-counted.ensures)))).0
 
 pub returns-in-Refused-clause-pool_after : goal.returns-in-Refused-clause-pool_after
 returns-in-Refused-clause-pool_after c =
-    (as_ensures (comes_refused (run_bad _ _ _ (sym c.check_map-answer.ensures.value ∙ c.if-answer-ne-DONE.false)
-    (sym c.in-Refused.is ∙ c.count-counted.ensures)))).1.0
+    (as_ensures (comes_refused (run_bad _ _ _ (sym c.check_map-answer.ensures.value ∙ c.if-answer-ne-DONE.false) (sym c.in-Refused.is ∙ c.count-counted.ensures)))).1.0
 
 pub returns-in-Refused-clause-reply_after : goal.returns-in-Refused-clause-reply_after
 returns-in-Refused-clause-reply_after c =
-    (as_ensures (comes_refused (run_bad _ _ _ (sym c.check_map-answer.ensures.value ∙ c.if-answer-ne-DONE.false)
-    (sym c.in-Refused.is ∙ c.count-counted.ensures)))).1.1
+    (as_ensures (comes_refused (run_bad _ _ _ (sym c.check_map-answer.ensures.value ∙ c.if-answer-ne-DONE.false) (sym c.in-Refused.is ∙ c.count-counted.ensures)))).1.1
