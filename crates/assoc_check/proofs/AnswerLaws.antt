@@ -17,9 +17,9 @@ use Rattle.assoc_layout.specs.Words.{pool_words}
 use Rattle.assoc_layout.specs.Decode.{block_count, is_well_formed}
 use Rattle.assoc_local.specs.Local.{PoolOk}
 use Rattle.assoc_local.proofs.ExactLaws.{check_yes, check_no}
-use Rattle.assoc_check.specs.Checking.{Sized, free_to}
+use Rattle.assoc_check.specs.Checking.{Counts, Sized, free_to}
 use Rattle.assoc_check.specs.Seen.{SetOf, seen_words}
-use Rattle.assoc_check.specs.Answers.{Counts, check_answer, clear_answer, empty_pool, clear_words}
+use Rattle.assoc_check.specs.Answers.{check_answer, clear_answer, empty_pool, clear_words}
 
 -- an array of zeros
 zero_words : (n j : ℕ) → get_or {A = ℕ} (replicate n 0) j 0 ≡ 0

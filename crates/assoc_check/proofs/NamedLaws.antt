@@ -17,7 +17,7 @@ use Rattle.assoc_layout.specs.Decode.{word, block_count, is_sized}
 use Rattle.assoc_local.specs.Local.{slot_at, Live, BlockOk, free, leaf, cut, packed, spread, Named, by_root, by_slot, RootOk, PoolOk}
 use Rattle.assoc_check.specs.Checking.{Sized}
 use Rattle.assoc_check.specs.Seen.{names, slot_names, named_to}
-use Rattle.assoc_check.specs.Answers.{Counts}
+use Rattle.assoc_check.specs.Checking.{Counts}
 
 names_yes : (n r x : ℕ) → names n r x ≡ true → (x < n) × (r ≡ suc x)
 names_yes n r x t = (ltb-true x n (both_l (ltb x n) _ t), eqb-true r (suc x) (both_r (ltb x n) _ t))

@@ -1,10 +1,9 @@
 -- What the check and clear answer, and the words that clear leaves.
-use Rattle.std.specs.Prelude.{ℕ, ◌-◌, ◌≡◌, true, false, List, ◌∷◌, replicate}
+use Rattle.std.specs.Prelude.{ℕ, ◌-◌, List, ◌∷◌, replicate}
 use Rattle.blocks.specs.Choice.{pick}
 use Rattle.answers.specs.Answers.{done, pool_length, not_well_formed}
 use Rattle.assoc_layout.specs.Words.{pool_words}
 use Rattle.assoc_layout.specs.Decode.{block_count, is_sized, is_well_formed}
-use Rattle.assoc_check.specs.Checking.{Sized}
 
 -- R360, R361, R363
 abbrev pub check_answer : List ℕ → ℕ
@@ -19,10 +18,3 @@ empty_pool n = n ∷ replicate (pool_words n - 1) 0
 
 abbrev pub clear_words : List ℕ → List ℕ
 clear_words ws = pick (is_sized ws) (empty_pool (block_count ws)) ws
-
--- r is the number of blocks that the length makes room for, and 0 if it is not a pool's
-pub record Counts (ws : List ℕ) (r : ℕ) : Type 0 where
-  pub no_pool : r ≡ 0 → is_sized ws ≡ false
-  pub is-pool : (r ≡ 0 → ⊥) → is_sized ws ≡ true
-  pub count : (r ≡ 0 → ⊥) → r ≡ block_count ws
-  pub sized : (r ≡ 0 → ⊥) → Sized ws r

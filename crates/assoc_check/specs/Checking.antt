@@ -1,11 +1,11 @@
 -- What the parts of the check promise, beside local's definitions.
-use Rattle.std.specs.Prelude.{ℕ, suc, ◌+◌, ◌*◌, ◌-◌, ◌≤◌, ◌<◌, ◌≡◌, Bool, not, List, eqb, ltb, length}
+use Rattle.std.specs.Prelude.{ℕ, suc, ◌+◌, ◌*◌, ◌-◌, ◌≤◌, ◌<◌, ◌≡◌, Bool, true, false, not, List, eqb, ltb, length}
 use Rattle.blocks.specs.Choice.{both}
 use Rattle.blocks.specs.Blocks.{count_to}
 use Rattle.assoc_tree.specs.Parts.{block_of, full, slots}
 use Rattle.assoc_tree.specs.Sums.{sum}
 use Rattle.assoc_layout.specs.Words.{max_blocks, pool_words, tier_field}
-use Rattle.assoc_layout.specs.Decode.{word, base_at}
+use Rattle.assoc_layout.specs.Decode.{word, base_at, block_count, is_sized}
 use Rattle.assoc_local.specs.Local.{skip_of, count_of, slot_at, keys_at, LeafIn, SlotOk}
 
 -- the words are those of n blocks, and m is one of them
@@ -18,6 +18,13 @@ pub record Block (ws : List ℕ) (n m : ℕ) : Type 0 where
 pub record Sized (ws : List ℕ) (n : ℕ) : Type 0 where
   pub size : length ws ≡ pool_words n
   pub few : n ≤ max_blocks
+
+-- r is the number of blocks that the length makes room for, and 0 if it is not a pool's
+pub record Counts (ws : List ℕ) (r : ℕ) : Type 0 where
+  pub no_pool : r ≡ 0 → is_sized ws ≡ false
+  pub is-pool : (r ≡ 0 → ⊥) → is_sized ws ≡ true
+  pub count : (r ≡ 0 → ⊥) → r ≡ block_count ws
+  pub sized : (r ≡ 0 → ⊥) → Sized ws r
 
 module _ (ws : List ℕ) where
   -- block m is one of the first n and free: its first word is 0

@@ -15,9 +15,9 @@ ghost use Rattle.assoc_layout.specs.Decode.{word, base_at};
 ghost use Rattle.assoc_layout.specs.Reading.{Within};
 ghost use Rattle.assoc_local.specs.Local.{tier_of, skip_of, count_of, top_of, slot_at, keys_under, keys_at};
 ghost use Rattle.assoc_local.specs.Local.{Head, LeafOk, CutOk, LeafIn, PackedOk, SlotOk, SpreadOk, BlockOk, RootOk, Live, PoolOk};
-ghost use Rattle.assoc_check.specs.Checking.{Block, Sized, CutTo, InSlot, Rises, Leaves, free_to};
+ghost use Rattle.assoc_check.specs.Checking.{Counts, Block, Sized, CutTo, InSlot, Rises, Leaves, free_to};
 ghost use Rattle.assoc_check.specs.Seen.{SetOf, Seen, names, slot_names, named_to};
-ghost use Rattle.assoc_check.specs.Answers.{Counts, check_answer, clear_answer, clear_words};
+ghost use Rattle.assoc_check.specs.Answers.{check_answer, clear_answer, clear_words};
 ghost use Rattle.assoc_layout.specs.Decode.{block_count};
 
 use answers::{DONE, NOT_WELL_FORMED, POOL_LENGTH};
