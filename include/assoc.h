@@ -79,6 +79,7 @@ static inline const char *assoc_answer_text(uint64_t answer)
                " N words, N from 1 to " XAPOOL_QUOTED(ASSOC_BLOCKS_MAX);
     case XAPOOL_NOT_WELL_FORMED: return "pool of names is not well-formed";
     case XAPOOL_ABSENT: return "no such key";
+    case XAPOOL_BAD_KEY: return "key has no byte, or more than 32";
     default: return xapool_answer_text(answer);
     }
 }

@@ -812,7 +812,6 @@ static inline const char *xapool_answer_text(uint64_t answer)
     case XAPOOL_PAUSED: return "paused";
     case XAPOOL_NOT_ALIGNED: return "index is not a multiple of 2^order";
     case XAPOOL_COVERED: return "index is covered by an entry or reserved";
-    case XAPOOL_BAD_KEY: return "key has no byte, or more than 32";
     case XAPOOL_BAD_SCRIPT: return "script has a place outside the pool, or half a pair";
     case XAPOOL_BAD_GATE: return "limit is not a number from 0 to 1, a above b, or no such kind of gate";
     case XAPOOL_NO_TOTAL: return "total 0: there is nothing to pass";
