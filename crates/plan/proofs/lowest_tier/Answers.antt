@@ -7,5 +7,5 @@ returns c =
     λ s. record {
       if_same = λ e. c.walk_path.ensures s;
       if_grows = λ g. absurd
-      (omega (arith, c.if-h-top.false));
+          (omega (arith, c.if-h-top.false));
     }

@@ -99,7 +99,7 @@ bounds-chain-h c =
 
 pub assign-requires-clause-top_le_top_tier : goal.assign-requires-clause-top_le_top_tier
 assign-requires-clause-top_le_top_tier c =
-    let d =  c in
+    let d = c in
     small_4 c
 
 pub offset_bounds-path-top : goal.offset_bounds-path-top
@@ -122,7 +122,7 @@ offset_bounds-chain-top c =
 
 pub bounds-chain-top : goal.bounds-chain-top
 bounds-chain-top c =
-    let z =  c in
+    let z = c in
     omega (arith, chain_long c, z.requires.word_value.2, small_6 z)
 
 pub returns : goal.returns

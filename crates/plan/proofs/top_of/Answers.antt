@@ -1,7 +1,4 @@
-use Prim.Native.Nat.{◌-◌}
 use mathlib.Core.Path.{sym, ◌∙◌}
-use mathlib.Core.Bool.{false}
-use Rattle.plan.specs.Plan.{fits_run}
 use Rattle.plan.proofs.WalkLaws.{top_is}
 use Rattle.plan.proofs.top_of.Goals as goal
 

@@ -1,5 +1,5 @@
 -- `walk_path`: the numbers of the nodes on the path, from the head, number first of tier h, down to tier v + 1 at most.
-use Prim.Native.Nat.{◌-◌, ◌<◌, ◌≤◌}
+use Prim.Native.Nat.{◌<◌, ◌≤◌}
 use mathlib.Core.Path.{◌≡◌}
 use lib.ListN.{length}
 use Rattle.layout.specs.WellFormed.{WellFormed}

@@ -17,13 +17,12 @@ unfolding marked
 stop ns m ws u to h = let e : to + 1 - u ≡ 0 = omega arith in rw e
 
 pub loop-u-preserved : goal.loop-u-preserved
-loop-u-preserved c =
-    (
-      omega arith,
-      c.put_marks.auto.pool ∙ c.loop-u.invariant.1,
-      c.loop-u.invariant.2 ∙ step _ _ _ _ _ (omega arith) ∙ rw
+loop-u-preserved c = (
+  omega arith,
+  c.put_marks.auto.pool ∙ c.loop-u.invariant.1,
+  c.loop-u.invariant.2 ∙ step _ _ _ _ _ (omega arith) ∙ rw
       c.put_marks.ensures,
-    )
+)
 
 pub returns : goal.returns
 returns c =

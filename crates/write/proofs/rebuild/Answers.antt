@@ -38,5 +38,5 @@ module _ (ws ps : List ℕ) (i k w n h top head m : ℕ) {s : Seat} (seat-is : s
 pub returns-clause-pool_after : goal.returns-clause-pool_after
 returns-clause-pool_after c =
     rebuilt-is c.args.pool.now c.args.path.now c.args.target.index c.args.target.order c.args.target.word c.args.n c.args.heads.old c.args.heads.new c.args.heads.word
-          c.args.heads.marks c.seat_of-seat.ensures.value c.filled_then-f.ensures c.clear.ensures.pool_after c.put_filled.ensures c.link.ensures
-          c.mark_top.ensures c.put_entry.ensures c.fold_all.ensures
+    c.args.heads.marks c.seat_of-seat.ensures.value c.filled_then-f.ensures c.clear.ensures.pool_after c.put_filled.ensures c.link.ensures
+    c.mark_top.ensures c.put_entry.ensures c.fold_all.ensures
