@@ -320,7 +320,7 @@ fn damage_is_refused_and_named() {
         (changed(one.clone(), &[(11, 2)]), "word 11: block 1 is reached a second time"),
         (changed(one.clone(), &[(28, 2)]), "word 28: leaf 1 has word 0x2, which is no object"),
         (
-            changed(one.clone(), &[(33, 2)]),
+            changed(one.clone(), &[(33, 33)]),
             "word 26: block 1 has not the words of a leaf, node or shortcut",
         ),
         (changed(one.clone(), &[(60, 9)]), "word 50: nothing leads to block 2, which is in use\n"),
@@ -346,7 +346,7 @@ fn damage_is_refused_and_named() {
         let refused = "d.names: pool of names is not well-formed\n";
         for words in [&["names", "check", &name][..], &["names", "lookup", &name, "a"]] {
             let (status, out, errors) = tool(words, &[]);
-            assert_eq!((status, out.len(), errors.ends_with(refused)), (1, 0, true), "{errors}");
+            assert_eq!((status, out.len(), errors.ends_with(refused)), (1, 0, true), "{finding}: {errors}{}", String::from_utf8_lossy(&out));
         }
         let (status, out, errors) = tool(&["names", "show", &name], &[]);
         assert_eq!((status, errors.as_str()), (1, ""), "{finding}");
@@ -428,6 +428,9 @@ fn findings_exactly_where_the_check_refuses() {
 fn damage(random: &mut Random, words: &mut [u64]) {
     let at = |random: &mut Random| random.below(words.len() as u64) as usize;
     let used: Vec<usize> = (0..words.len()).filter(|place| words[*place] != 0).collect();
+    if used.is_empty() {
+        return;
+    }
     let one = match random.below(4) {
         0 => at(random),
         _ => used[random.below(used.len() as u64) as usize],
