@@ -346,7 +346,12 @@ fn damage_is_refused_and_named() {
         let refused = "d.names: pool of names is not well-formed\n";
         for words in [&["names", "check", &name][..], &["names", "lookup", &name, "a"]] {
             let (status, out, errors) = tool(words, &[]);
-            assert_eq!((status, out.len(), errors.ends_with(refused)), (1, 0, true), "{finding}: {errors}{}", String::from_utf8_lossy(&out));
+            assert_eq!(
+                (status, out.len(), errors.ends_with(refused)),
+                (1, 0, true),
+                "{finding}: {errors}{}",
+                String::from_utf8_lossy(&out)
+            );
         }
         let (status, out, errors) = tool(&["names", "show", &name], &[]);
         assert_eq!((status, errors.as_str()), (1, ""), "{finding}");
