@@ -7,6 +7,7 @@ ghost use Rattle.std.specs.Prelude.{◌≡◌, [], ◌+◌, ◌<◌, ◌≤◌, 
 ghost use Rattle.blocks.specs.Choice.{pick};
 ghost use Rattle.blocks.specs.Blocks.{NextBit};
 ghost use Rattle.words.specs.Bits.{word_bits};
+ghost use Rattle.words.specs.Counted.{Counted};
 ghost use Rattle.words.specs.Fill.{filled};
 ghost use Rattle.words.specs.Bytes.{number_at, bytes_then, overwrite};
 
@@ -55,6 +56,19 @@ pub fn fill(s: &mut [u64], a: u64, x: u64, n: u64)
         s[(a + t) as usize] = x;
         t = t + 1;
     }
+}
+
+// How many records of so many words stand after an anchor, if there is at least one, and no part of another; at most so many.
+pub fn records_in(words: u64, anchor: u64, size: u64, most: u64) -> Option<u64>
+    requires { 1 ≤ size }
+    ensures { Counted words anchor size most result }
+{
+    let rest = words.checked_sub(anchor)?;
+    let n = rest / size;
+    if rest % size != 0 || n == 0 || n > most {
+        return None;
+    }
+    Some(n)
 }
 
 // NUMBERS AS BYTES
