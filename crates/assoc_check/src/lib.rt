@@ -4,7 +4,8 @@
 // A test's contract is `Decides r A`: true with A, false with the refutation of A.
 #![tactic(auto)]
 
-ghost use Rattle.std.specs.Prelude.{◌≡◌, Bool, true, false, ℕ, suc, ◌+◌, ◌-◌, ◌≤◌, ◌<◌, get_or, length};
+ghost use Rattle.std.specs.Prelude.{◌≡◌, Bool, true, false, ℕ, suc, ◌+◌, ◌-◌, ◌≤◌, ◌<◌, get_or, length, OnOk};
+ghost use Rattle.answers.specs.Answers.{answer_of};
 ghost use Rattle.blocks.specs.Choice.{either};
 ghost use Rattle.blocks.specs.Deciding.{Decides};
 ghost use Rattle.freemap.specs.FreeMap.{put, MapOf, BlankMap};
@@ -20,14 +21,14 @@ ghost use Rattle.assoc_check.specs.Seen.{SetOf, Seen, names, slot_names, named_t
 ghost use Rattle.assoc_check.specs.Answers.{check_answer, clear_answer, clear_words};
 ghost use Rattle.assoc_layout.specs.Decode.{block_count};
 
-use answers::{DONE, NOT_WELL_FORMED, POOL_LENGTH};
+use answers::Answer;
 use assoc_layout::{
     ANCHOR_WORDS, BASE_FIELD, BLOCK_WORDS, FULL, MAX_BLOCKS, ROOT_WORD, SKIP_FIELD, SLOT_FIELD,
     SLOTS, TIER_FIELD, TOP_TIER, VALUE_FIELD, below, blank, digit, field, is_first, together,
 };
 use commands::is_storable;
 use freemap::{MAP_WORDS, enter, set_bit};
-use words::{WORD_BITS, fill, one_if};
+use words::{WORD_BITS, fill, one_if, records_in};
 
 // The bytes of the longest key; where the length byte stands, after the other words of a base.
 const MAX_KEY: u64 = 32;
@@ -497,62 +498,45 @@ fn pool_ok(pool: &[u64], n: u64, seen: &mut [u64], map: &mut [u64]) -> bool
     all_named(pool, n, seen)
 }
 
-// The number of blocks, or 0 if the length is not that of a pool.
-fn blocks_in(pool: &[u64]) -> u64
+// The number of blocks, if the length is that of a pool.
+fn blocks_in(pool: &[u64]) -> Option<u64>
     ensures { Counts pool.now result }
 {
-    let len = pool.len() as u64;
-    if len < ANCHOR_WORDS {
-        return 0;
-    }
-    let n = (len - ANCHOR_WORDS) / BLOCK_WORDS;
-    if n > MAX_BLOCKS {
-        return 0;
-    }
-    if (len - ANCHOR_WORDS) % BLOCK_WORDS != 0 {
-        return 0;
-    }
-    n
+    records_in(pool.len() as u64, ANCHOR_WORDS, BLOCK_WORDS, MAX_BLOCKS)
 }
 
-// 0 if some list of keys prescribes the words, with its parts at some numbers; 1 if the length is not that of a pool; else 2.
-// With 0 the map, of none so far, becomes that of the free blocks.
-pub fn check_map(pool: &[u64], map: &mut [u64]) -> u64
+// Whether some list of keys prescribes the words, with its parts at some numbers; then the map, of none so far, becomes that of the free
+// blocks.
+pub fn check_map(pool: &[u64], map: &mut [u64]) -> Result<(), Answer>
     requires { BlankMap map.old }
-    ensures value { result ≡ check_answer pool.now }
-    ensures map_of { result ≡ 0 → MapOf (free_to pool.now (block_count pool.now)) map.new }
+    ensures value { answer_of result ≡ check_answer pool.now }
+    ensures map_of { OnOk result (MapOf (free_to pool.now (block_count pool.now)) map.new) }
 {
-    let n = blocks_in(pool);
-    if n == 0 {
-        return POOL_LENGTH;
-    }
+    let n = blocks_in(pool).ok_or(Answer::PoolLength)?;
     let mut seen = [0u64; SEEN_WORDS];
     if !pool_ok(pool, n, &mut seen, map) {
-        return NOT_WELL_FORMED;
+        return Err(Answer::NotWellFormed);
     }
-    DONE
+    Ok(())
 }
 
 // The same for who needs no map.
-pub fn check(pool: &[u64]) -> u64
-    ensures { result ≡ check_answer pool.now }
+pub fn check(pool: &[u64]) -> Result<(), Answer>
+    ensures { answer_of result ≡ check_answer pool.now }
 {
     let mut map = [0u64; MAP_WORDS];
     check_map(pool, &mut map)
 }
 
-// Blanks whatever stood there: word 0 is the number of blocks, every other word 0. If the length is not that of a pool, the
-// answer is 1 and nothing is written.
-pub fn clear(pool: &mut [u64]) -> u64
-    ensures value { result ≡ clear_answer pool.old }
+// Blanks whatever stood there: word 0 is the number of blocks, every other word 0. If the length is not that of a pool, nothing is
+// written.
+pub fn clear(pool: &mut [u64]) -> Result<(), Answer>
+    ensures value { answer_of result ≡ clear_answer pool.old }
     ensures pool_after { pool.new ≡ clear_words pool.old }
 {
-    let n = blocks_in(pool);
-    if n == 0 {
-        return POOL_LENGTH;
-    }
+    let n = blocks_in(pool).ok_or(Answer::PoolLength)?;
     let len = pool.len() as u64;
     fill(pool, 0, 0, len);
     pool[COUNT_WORD] = n;
-    DONE
+    Ok(())
 }

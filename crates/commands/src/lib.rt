@@ -4,12 +4,13 @@
 #![tactic(auto)]
 
 ghost use Rattle.std.specs.Prelude.{◌≡◌, ◌≤◌};
+ghost use Rattle.answers.specs.Answers.{number_of};
 ghost use Rattle.blocks.specs.Choice.{either};
 ghost use Rattle.model.specs.Model.{storable, max_order, aligned};
 ghost use Rattle.batch.specs.Reply.{answered, answered_by};
 ghost use Rattle.commands.specs.Replies.{covered_reply};
 
-use answers::{ABSENT, DONE};
+use answers::{Answer, DONE};
 use batch::Reply;
 use model::{Covered, Entry, shown_word};
 use words::pow2;
@@ -62,12 +63,12 @@ pub fn is_aligned(index: u64, order: u64) -> bool
 // REPLIES
 
 // An answer with an index and a count, all else 0.
-pub fn answered(tag: u64, answer: u64, index: u64, count: u64) -> Reply
-    ensures { result ≡ answered tag answer index count }
+pub fn answered(tag: u64, answer: Answer, index: u64, count: u64) -> Reply
+    ensures { result ≡ answered tag (number_of answer) index count }
 {
     Reply {
         tag,
-        answer,
+        answer: answer.number(),
         index,
         order: 0,
         word: 0,
@@ -96,7 +97,7 @@ pub fn covered_reply(tag: u64, c: Covered) -> Reply
     ensures { result ≡ covered_reply tag c }
 {
     match c {
-        Covered::Nothing => answered(tag, ABSENT, 0, 0),
+        Covered::Nothing => answered(tag, Answer::Absent, 0, 0),
         Covered::By(e) => answered_by(tag, e, 0),
     }
 }

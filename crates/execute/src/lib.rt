@@ -16,10 +16,7 @@ ghost use Rattle.commands.specs.Replies.{covered_reply};
 ghost use Rattle.execute.specs.Promised.{loaded_reply, reserved_reply, as_stored, putting, put_of, no_put};
 ghost use Rattle.execute.specs.Promised.{remarking, reply_to, Settles, Executes};
 
-use answers::{
-    ABSENT, BAD_ENTRY, BAD_MARK, BAD_ORDER, COVERED, ENDED, FIRST_ABOVE_LAST, NO_BUDGET,
-    NOT_ALIGNED, PAUSED, TOO_FEW_NODES,
-};
+use answers::Answer;
 use batch::{Command, Reply};
 use commands::{
     ERASE_REPLY, FIND_REPLY, LOAD_REPLY, MARK_REPLY, RESERVE_REPLY, STORE_REPLY, UNMARK_REPLY,
@@ -53,7 +50,7 @@ fn loaded_reply(x: Loaded) -> Reply
     ensures { result ≡ loaded_reply load_reply x }
 {
     match x {
-        Loaded::Absent(d) => answered(LOAD_REPLY, ABSENT, 0, d),
+        Loaded::Absent(d) => answered(LOAD_REPLY, Answer::Absent, 0, d),
         Loaded::Present(e, d) => answered_by(LOAD_REPLY, e, d),
     }
 }
@@ -63,8 +60,8 @@ fn found_reply(x: Outcome) -> Reply
 {
     match x {
         Outcome::Found(e, n) => answered_by(FIND_REPLY, e, n),
-        Outcome::Ended(n) => answered(FIND_REPLY, ENDED, 0, n),
-        Outcome::Paused(p, n) => answered(FIND_REPLY, PAUSED, p, n),
+        Outcome::Ended(n) => answered(FIND_REPLY, Answer::Ended, 0, n),
+        Outcome::Paused(p, n) => answered(FIND_REPLY, Answer::Paused, p, n),
     }
 }
 
@@ -74,8 +71,8 @@ fn reserved_reply(x: Stored) -> Reply
 {
     match x {
         Stored::Done(e) => answered_by(RESERVE_REPLY, e, 0),
-        Stored::Short => answered(RESERVE_REPLY, TOO_FEW_NODES, 0, 0),
-        Stored::Taken => answered(RESERVE_REPLY, COVERED, 0, 0),
+        Stored::Short => answered(RESERVE_REPLY, Answer::TooFewNodes, 0, 0),
+        Stored::Taken => answered(RESERVE_REPLY, Answer::Covered, 0, 0),
     }
 }
 
@@ -91,13 +88,13 @@ fn run_find(pool: &[u64], first: u64, last: u64, filter: u64, budget: u64) -> Re
     ensures { (s : WellFormed pool.now) → result ≡ reply_to s (Command.Find first last filter budget) }
 {
     if filter > ANY_MARK {
-        return answered(FIND_REPLY, BAD_MARK, 0, 0);
+        return answered(FIND_REPLY, Answer::BadMark, 0, 0);
     }
     if first > last {
-        return answered(FIND_REPLY, FIRST_ABOVE_LAST, 0, 0);
+        return answered(FIND_REPLY, Answer::FirstAboveLast, 0, 0);
     }
     if budget == 0 {
-        return answered(FIND_REPLY, NO_BUDGET, 0, 0);
+        return answered(FIND_REPLY, Answer::NoBudget, 0, 0);
     }
     found_reply(lookup::find::find(pool, first, last, filter, budget))
 }
@@ -117,7 +114,7 @@ fn run_remark(pool: &mut [u64], index: u64, mark: u64, on: bool) -> Reply
 {
     let tag = remarked_tag(on);
     if mark >= MARKS {
-        return answered(tag, BAD_MARK, 0, 0);
+        return answered(tag, Answer::BadMark, 0, 0);
     }
     let c = marks::set_mark(pool, index, mark, on);
     covered_reply(tag, c)
@@ -171,8 +168,8 @@ fn stored_reply(pool: &mut [u64], index: u64, x: Stored) -> Reply
 {
     match x {
         Stored::Done(e) => unmatch(pool, index, e),
-        Stored::Short => answered(STORE_REPLY, TOO_FEW_NODES, 0, 0),
-        Stored::Taken => answered(STORE_REPLY, TOO_FEW_NODES, 0, 0),
+        Stored::Short => answered(STORE_REPLY, Answer::TooFewNodes, 0, 0),
+        Stored::Taken => answered(STORE_REPLY, Answer::TooFewNodes, 0, 0),
     }
 }
 
@@ -206,15 +203,15 @@ fn run_store(
     ensures free_map_2 { FreeMap pool.new map.new }
 {
     if order > MAX_ORDER {
-        return answered(STORE_REPLY, BAD_ORDER, 0, 0);
+        return answered(STORE_REPLY, Answer::BadOrder, 0, 0);
     }
     let aligned = is_aligned(index, order);
     let enterable = is_enterable(word, reserve);
     if !aligned {
-        return answered(STORE_REPLY, NOT_ALIGNED, 0, 0);
+        return answered(STORE_REPLY, Answer::NotAligned, 0, 0);
     }
     if !enterable {
-        return answered(STORE_REPLY, BAD_ENTRY, 0, 0);
+        return answered(STORE_REPLY, Answer::BadEntry, 0, 0);
     }
     let outcome = store::store(pool, map, index, order, word);
     put_reply(pool, index, outcome, reserve)
@@ -267,7 +264,7 @@ fn as_put(c: Command) -> Put
 
 // For the commands that run_other is not called with.
 fn nothing() -> Reply {
-    answered(STORE_REPLY, BAD_ORDER, 0, 0)
+    answered(STORE_REPLY, Answer::BadOrder, 0, 0)
 }
 
 // Any command but a store and a reservation.

@@ -8,7 +8,7 @@ use native.Mathlib.Omega.{arith}
 use lib.ListN.{length, get_or}
 use borrow.Author.Tests.{ne_eqb, lt-ltb, le-ltb}
 use Rattle.blocks.specs.Choice.{pick}
-use Rattle.answers.specs.declared.Result.{Result}
+use Rattle.answers.specs.declared.Report.{Report}
 use Rattle.answers.specs.Answers.{result_of, done, reply_space, bad_mark, absent}
 use Rattle.model.specs.declared.Entry.{Entry}
 use Rattle.model.specs.Model.{reserved, covering, present, remark, mark_count}
@@ -28,17 +28,17 @@ use Rattle.script_table.proofs.LaidLaws.{laid_all}
 use Rattle.preparing.specs.Prepare.{Yield, refused, yielding, preparing}
 
 -- AS THE CODE SAYS IT
-pub record Gives (r : Result) (out : List ℕ) (y : Yield) : Type 0 where
+pub record Gives (r : Report) (out : List ℕ) (y : Yield) : Type 0 where
   pub result_is : r ≡ y.result
   pub slice_is : out ≡ y.slice
 
-pub gives_same : {r : Result} {out : List ℕ} {y z : Yield} → z ≡ y → Gives r out y → Gives r out z
+pub gives_same : {r : Report} {out : List ℕ} {y z : Yield} → z ≡ y → Gives r out y → Gives r out z
 gives_same e g = record {
   result_is = g.result_is ∙ sym (ap (λ (x : Yield). x.result) e);
   slice_is = g.slice_is ∙ sym (ap (λ (x : Yield). x.slice) e);
 }
 
-pub gives_refused : {r : Result} {out : List ℕ} {y : Yield} (a : ℕ) → r ≡ result_of a 0 → y ≡ refused a out → Gives r out y
+pub gives_refused : {r : Report} {out : List ℕ} {y : Yield} (a : ℕ) → r ≡ result_of a 0 → y ≡ refused a out → Gives r out y
 gives_refused a e f = gives_same f (record { result_is = e; slice_is = refl })
 
 -- A SCRIPT IN A SLICE

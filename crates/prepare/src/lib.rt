@@ -6,7 +6,7 @@
 
 ghost use Rattle.std.specs.Prelude.{ℕ, ◌+◌, ◌≤◌, ◌<◌, ◌≡◌, List, length, get_or, set, true, false};
 ghost use Rattle.std.proofs.Math.Option.{Option, none, some};
-ghost use Rattle.answers.specs.Answers.{result_of};
+ghost use Rattle.answers.specs.Answers.{report_of};
 ghost use Rattle.blocks.specs.Blocks.{set_bit};
 ghost use Rattle.blocks.specs.Lists.{any};
 ghost use Rattle.model.specs.Model.{Valid, max_order, mark_count, matched_mark, aligned, storable, covering, over, marks_of};
@@ -30,10 +30,7 @@ ghost use Rattle.preparing.specs.Prepare.{yielding, preparing};
 ghost use Rattle.prepare.specs.Entries.{EntryThere, Stays, Edited, Tabled, Widely, Alone, After, AfterThere};
 ghost use Rattle.prepare.specs.Put.{Puttable, PathPlanned, AnyBit, RunMarks};
 
-use answers::{
-    ABSENT, BAD_ENTRY, BAD_MARK, BAD_ORDER, COVERED, DONE, NOT_ALIGNED, REPLY_SPACE, Result,
-    TOO_FEW_NODES,
-};
+use answers::{Answer, Refusal};
 use batch::Command;
 use commands::{is_aligned, is_storable};
 use freemap::MAP_WORDS;
@@ -52,13 +49,13 @@ use words::{fill, one_if};
 use write::{offset_of, width_of};
 
 // THE SCRIPT OF A TABLE, if there is room for it.
-fn yield_table(pool: &[u64], rows: &[u64], nums: &[u64], out: &mut [u64]) -> Result
+fn yield_table(pool: &[u64], rows: &[u64], nums: &[u64], out: &mut [u64]) -> Result<u64, Refusal>
     requires well_formed { WellFormed pool.now }
     requires row_count_in_bounds { (pool_words row_count ≤ length rows.now) × (row_count ≤ length nums.now) }
     requires tabled { Tabled pool.now rows.now nums.now }
     ensures fact { ((s : WellFormed pool.now) (ws' : List ℕ) →
         Tables pool.now rows.now nums.now ws' s.n →
-        result ≡ (yielding (script pool.now ws') out.old).result) }
+        report_of result ≡ (yielding (script pool.now ws') out.old).result) }
     ensures fact_2 { ((s : WellFormed pool.now) (ws' : List ℕ) →
         Tables pool.now rows.now nums.now ws' s.n →
         out.new ≡ (yielding (script pool.now ws') out.old).slice) }
@@ -67,16 +64,13 @@ fn yield_table(pool: &[u64], rows: &[u64], nums: &[u64], out: &mut [u64]) -> Res
     let number = table_length(pool, rows, nums, n);
     let room = out.len() as u64;
     if room < number {
-        return Result {
-            answer: REPLY_SPACE,
+        return Err(Refusal {
+            answer: Answer::ReplySpace,
             number,
-        };
+        });
     }
     table_write(pool, rows, nums, n, out);
-    Result {
-        answer: DONE,
-        number,
-    }
+    Ok(number)
 }
 
 // A TABLE THAT MAY FREE NODES: those inside a range.
@@ -89,13 +83,13 @@ fn yield_freeing(
     base: u64,
     order: u64,
     out: &mut [u64],
-) -> Result
+) -> Result<u64, Refusal>
     requires well_formed { WellFormed pool.now }
     requires row_count_in_bounds { (pool_words row_count ≤ length rows.now) × (row_count ≤ length nums.now) × (order ≤ max_order) }
     requires widely { Widely pool.now rows.now nums.now base order }
     ensures fact { ((s : WellFormed pool.now) (ws' : List ℕ) →
         Wide s rows.now nums.now ws' base order →
-        result ≡ (yielding (script pool.now ws') out.old).result) }
+        report_of result ≡ (yielding (script pool.now ws') out.old).result) }
     ensures fact_2 { ((s : WellFormed pool.now) (ws' : List ℕ) →
         Wide s rows.now nums.now ws' base order →
         out.new ≡ (yielding (script pool.now ws') out.old).slice) }
@@ -106,16 +100,13 @@ fn yield_freeing(
     let number = wide_length(pool, rows, nums, &map, n);
     let most = out.len() as u64;
     if most < number {
-        return Result {
-            answer: REPLY_SPACE,
+        return Err(Refusal {
+            answer: Answer::ReplySpace,
             number,
-        };
+        });
     }
     wide_write(pool, rows, nums, &map, n, out);
-    Result {
-        answer: DONE,
-        number,
-    }
+    Ok(number)
 }
 
 // A range within one slot of a lowest node holds no node: the nodes are not gone through.
@@ -126,13 +117,13 @@ pub fn yield_wide(
     base: u64,
     order: u64,
     out: &mut [u64],
-) -> Result
+) -> Result<u64, Refusal>
     requires well_formed { WellFormed pool.now }
     requires row_count_in_bounds { (pool_words row_count ≤ length rows.now) × (row_count ≤ length nums.now) × (order ≤ max_order) }
     requires widely { Widely pool.now rows.now nums.now base order }
     ensures fact { ((s : WellFormed pool.now) (ws' : List ℕ) →
         Wide s rows.now nums.now ws' base order →
-        result ≡ (yielding (script pool.now ws') out.old).result) }
+        report_of result ≡ (yielding (script pool.now ws') out.old).result) }
     ensures fact_2 { ((s : WellFormed pool.now) (ws' : List ℕ) →
         Wide s rows.now nums.now ws' base order →
         out.new ≡ (yielding (script pool.now ws') out.old).slice) }
@@ -232,13 +223,13 @@ fn after_rows(
 
 // The script of that. All that starts from an entry goes by here, and the tier of the head is read here: with a tier known to be 0
 // the rows would be inlined in the callers, and be on the stack twice.
-fn entry_script(pool: &[u64], at: Range, erase: bool, out: &mut [u64]) -> Result
+fn entry_script(pool: &[u64], at: Range, erase: bool, out: &mut [u64]) -> Result<u64, Refusal>
     requires well_formed { WellFormed pool.now }
     requires entry_there { (s : WellFormed pool.now) → EntryThere s at.base at.order (height s.list) }
     requires after_there { AfterThere pool.now at.base at.order at.word at.marks erase }
     ensures fact { ((s : WellFormed pool.now) (ws' : List ℕ) →
         After s at.base at.order at.word at.marks erase ws' →
-        result ≡ (yielding (script pool.now ws') out.old).result) }
+        report_of result ≡ (yielding (script pool.now ws') out.old).result) }
     ensures fact_2 { ((s : WellFormed pool.now) (ws' : List ℕ) →
         After s at.base at.order at.word at.marks erase ws' →
         out.new ≡ (yielding (script pool.now ws') out.old).slice) }
@@ -252,13 +243,13 @@ fn entry_script(pool: &[u64], at: Range, erase: bool, out: &mut [u64]) -> Result
 }
 
 // The script of another entry in its place.
-fn edit_entry(pool: &[u64], at: Range, top: u64, out: &mut [u64]) -> Result
+fn edit_entry(pool: &[u64], at: Range, top: u64, out: &mut [u64]) -> Result<u64, Refusal>
     requires well_formed { WellFormed pool.now }
     requires entry_there { (s : WellFormed pool.now) → EntryThere s at.base at.order top }
     requires edited { Edited pool.now at.base at.order at.word at.marks }
     ensures fact { ((s : WellFormed pool.now) (o : Option Entry) (l' : List Entry) →
         Stays s at.base at.order at.word at.marks o l' →
-        result ≡ (yielding (script pool.now (render l' s.places s.n)) out.old).result) }
+        report_of result ≡ (yielding (script pool.now (render l' s.places s.n)) out.old).result) }
     ensures fact_2 { ((s : WellFormed pool.now) (o : Option Entry) (l' : List Entry) →
         Stays s at.base at.order at.word at.marks o l' →
         out.new ≡ (yielding (script pool.now (render l' s.places s.n)) out.old).slice) }
@@ -270,12 +261,6 @@ fn edit_entry(pool: &[u64], at: Range, top: u64, out: &mut [u64]) -> Result
 
 const MARKS: u64 = 3;
 
-fn refusal(answer: u64) -> Result
-    ensures { result ≡ result_of answer 0 }
-{
-    Result { answer, number: 0 }
-}
-
 // Mark m of the entry e, which covers i, set or cleared; a reservation has none.
 fn remark_entry(
     pool: &[u64],
@@ -285,17 +270,17 @@ fn remark_entry(
     m: u64,
     on: bool,
     out: &mut [u64],
-) -> Result
+) -> Result<u64, Refusal>
     requires well_formed { WellFormed pool.now }
     requires m_lt_mark_count { m < mark_count }
     requires i_value { (s : WellFormed pool.now) → (covering s.list i ≡ some e) × (height s.list ≡ top) }
     ensures fact { ((s : WellFormed pool.now) →
-        result ≡ (preparing s out.old (remarking i m on)).result) }
+        report_of result ≡ (preparing s out.old (remarking i m on)).result) }
     ensures fact_2 { ((s : WellFormed pool.now) →
         out.new ≡ (preparing s out.old (remarking i m on)).slice) }
 {
     if is_reserved(e) {
-        return refusal(ABSENT);
+        return Err(Refusal::from(Answer::Absent));
     }
     let marks = with_bit(e.marks, m, on);
     let at = Range {
@@ -308,20 +293,20 @@ fn remark_entry(
 }
 
 // Mark m of the entry that covers i set or cleared.
-pub fn prepare_remark(pool: &[u64], i: u64, m: u64, on: bool, out: &mut [u64]) -> Result
+pub fn prepare_remark(pool: &[u64], i: u64, m: u64, on: bool, out: &mut [u64]) -> Result<u64, Refusal>
     requires { WellFormed pool.now }
     ensures fact { ((s : WellFormed pool.now) →
-        result ≡ (preparing s out.old (remarking i m on)).result) }
+        report_of result ≡ (preparing s out.old (remarking i m on)).result) }
     ensures fact_2 { ((s : WellFormed pool.now) →
         out.new ≡ (preparing s out.old (remarking i m on)).slice) }
 {
     if m >= MARKS {
-        return refusal(BAD_MARK);
+        return Err(Refusal::from(Answer::BadMark));
     }
     let k = locate(pool, i);
     match k {
-        Located::Apart => refusal(ABSENT),
-        Located::Vacant(_, _, _) => refusal(ABSENT),
+        Located::Apart => Err(Refusal::from(Answer::Absent)),
+        Located::Vacant(_, _, _) => Err(Refusal::from(Answer::Absent)),
         Located::AtHead(e) => remark_entry(pool, e, 0, i, m, on, out),
         Located::InNode(e, at, _) => remark_entry(pool, e, at.top, i, m, on, out),
     }
@@ -340,12 +325,12 @@ pub fn over_entry(
     k: u64,
     w: u64,
     out: &mut [u64],
-) -> Result
+) -> Result<u64, Refusal>
     requires well_formed { WellFormed pool.now }
     requires k_le_order { (k ≤ e.order) × (k ≤ max_order) × (aligned k i ≡ true) × (storable w ≡ true) }
     requires i_value { (s : WellFormed pool.now) → (covering s.list i ≡ some e) × (height s.list ≡ top) }
     ensures fact { ((s : WellFormed pool.now) →
-        result ≡ (preparing s out.old (Command.Store i k w)).result) }
+        report_of result ≡ (preparing s out.old (Command.Store i k w)).result) }
     ensures fact_2 { ((s : WellFormed pool.now) →
         out.new ≡ (preparing s out.old (Command.Store i k w)).slice) }
 {
@@ -424,10 +409,10 @@ fn heads_of(pool: &[u64], target: Target) -> Heads
 }
 
 // The entry is the head: its word alone changes.
-fn head_script(pool: &[u64], word: u64, out: &mut [u64]) -> Result
+fn head_script(pool: &[u64], word: u64, out: &mut [u64]) -> Result<u64, Refusal>
     requires { WellFormed pool.now }
     ensures fact { ((s : WellFormed pool.now) →
-        result ≡ (yielding (script pool.now (set pool.now 1 word)) out.old).result) }
+        report_of result ≡ (yielding (script pool.now (set pool.now 1 word)) out.old).result) }
     ensures fact_2 { ((s : WellFormed pool.now) →
         out.new ≡ (yielding (script pool.now (set pool.now 1 word)) out.old).slice) }
 {
@@ -453,14 +438,14 @@ fn new_script(
     heads: Heads,
     reserve: bool,
     out: &mut [u64],
-) -> Result
+) -> Result<u64, Refusal>
     requires well_formed { WellFormed pool.now }
     requires top_tier_in_bounds { (top_tier < length path.now) × (top_tier < length chain.now) }
     requires word_value { (heads.word ≡ get_or pool.now 1 0) × (heads.marks ≡ get_or pool.now 2 0) }
     requires storable { Storable target × Puttable target.order target.word reserve }
     requires new_planned { (s : WellFormed pool.now) → NewPlanned s target heads path.now chain.now }
     ensures fact { ((s : WellFormed pool.now) →
-        result ≡ (preparing s out.old (putting target.index target.order target.word reserve)).result) }
+        report_of result ≡ (preparing s out.old (putting target.index target.order target.word reserve)).result) }
     ensures fact_2 { ((s : WellFormed pool.now) →
         out.new ≡ (preparing s out.old (putting target.index target.order target.word reserve)).slice) }
 {
@@ -484,13 +469,13 @@ fn prepare_new(
     target: Target,
     reserve: bool,
     out: &mut [u64],
-) -> Result
+) -> Result<u64, Refusal>
     requires well_formed { WellFormed pool.now }
     requires free_map { FreeMap pool.now map.old }
     requires storable { Storable target × Puttable target.order target.word reserve }
     requires list_value { (s : WellFormed pool.now) → any (over target.index target.order) s.list ≡ false }
     ensures fact { ((s : WellFormed pool.now) →
-        result ≡ (preparing s out.old (putting target.index target.order target.word reserve)).result) }
+        report_of result ≡ (preparing s out.old (putting target.index target.order target.word reserve)).result) }
     ensures fact_2 { ((s : WellFormed pool.now) →
         out.new ≡ (preparing s out.old (putting target.index target.order target.word reserve)).slice) }
 {
@@ -502,7 +487,7 @@ fn prepare_new(
     let mut chain = [0u64; 12];
     let enough = plan(pool, map, &mut path, &mut chain, target, heads);
     if !enough {
-        return refusal(TOO_FEW_NODES);
+        return Err(Refusal::from(Answer::TooFewNodes));
     }
     new_script(pool, &path, &chain, target, heads, reserve, out)
 }
@@ -519,14 +504,14 @@ fn store_over(
     top: u64,
     target: Target,
     out: &mut [u64],
-) -> Result
+) -> Result<u64, Refusal>
     requires well_formed { WellFormed pool.now }
     requires free_map { FreeMap pool.now map.old }
     requires storable { Storable target × Puttable target.order target.word false }
     requires index_value { (s : WellFormed pool.now) →
         (covering s.list target.index ≡ some e) × (height s.list ≡ top) }
     ensures fact { ((s : WellFormed pool.now) →
-        result ≡ (preparing s out.old (Command.Store target.index target.order target.word)).result) }
+        report_of result ≡ (preparing s out.old (Command.Store target.index target.order target.word)).result) }
     ensures fact_2 { ((s : WellFormed pool.now) →
         out.new ≡ (preparing s out.old (Command.Store target.index target.order target.word)).slice) }
 {
@@ -537,12 +522,12 @@ fn store_over(
 }
 
 // A store whose order, index and word are taken.
-fn store_taken(pool: &[u64], map: &mut [u64], target: Target, out: &mut [u64]) -> Result
+fn store_taken(pool: &[u64], map: &mut [u64], target: Target, out: &mut [u64]) -> Result<u64, Refusal>
     requires well_formed { WellFormed pool.now }
     requires free_map { FreeMap pool.now map.old }
     requires storable { Storable target × Puttable target.order target.word false }
     ensures fact { ((s : WellFormed pool.now) →
-        result ≡ (preparing s out.old (Command.Store target.index target.order target.word)).result) }
+        report_of result ≡ (preparing s out.old (Command.Store target.index target.order target.word)).result) }
     ensures fact_2 { ((s : WellFormed pool.now) →
         out.new ≡ (preparing s out.old (Command.Store target.index target.order target.word)).slice) }
 {
@@ -563,22 +548,22 @@ pub fn prepare_store(
     k: u64,
     w: u64,
     out: &mut [u64],
-) -> Result
+) -> Result<u64, Refusal>
     requires well_formed { WellFormed pool.now }
     requires free_map { FreeMap pool.now map.old }
     ensures fact { ((s : WellFormed pool.now) →
-        result ≡ (preparing s out.old (Command.Store i k w)).result) }
+        report_of result ≡ (preparing s out.old (Command.Store i k w)).result) }
     ensures fact_2 { ((s : WellFormed pool.now) →
         out.new ≡ (preparing s out.old (Command.Store i k w)).slice) }
 {
     if k > MAX_ORDER {
-        return refusal(BAD_ORDER);
+        return Err(Refusal::from(Answer::BadOrder));
     }
     if !is_aligned(i, k) {
-        return refusal(NOT_ALIGNED);
+        return Err(Refusal::from(Answer::NotAligned));
     }
     if !is_storable(w) {
-        return refusal(BAD_ENTRY);
+        return Err(Refusal::from(Answer::BadEntry));
     }
     let target = Target {
         index: i,
@@ -589,12 +574,12 @@ pub fn prepare_store(
 }
 
 // A reservation of the index i, which nothing covers.
-fn reserve_free(pool: &[u64], map: &mut [u64], i: u64, out: &mut [u64]) -> Result
+fn reserve_free(pool: &[u64], map: &mut [u64], i: u64, out: &mut [u64]) -> Result<u64, Refusal>
     requires well_formed { WellFormed pool.now }
     requires free_map { FreeMap pool.now map.old }
     requires i_value { (s : WellFormed pool.now) → covering s.list i ≡ none }
     ensures fact { ((s : WellFormed pool.now) →
-        result ≡ (preparing s out.old (Command.Reserve i)).result) }
+        report_of result ≡ (preparing s out.old (Command.Reserve i)).result) }
     ensures fact_2 { ((s : WellFormed pool.now) →
         out.new ≡ (preparing s out.old (Command.Reserve i)).slice) }
 {
@@ -607,11 +592,11 @@ fn reserve_free(pool: &[u64], map: &mut [u64], i: u64, out: &mut [u64]) -> Resul
 }
 
 // A reservation of the index i.
-pub fn prepare_reserve(pool: &[u64], map: &mut [u64], i: u64, out: &mut [u64]) -> Result
+pub fn prepare_reserve(pool: &[u64], map: &mut [u64], i: u64, out: &mut [u64]) -> Result<u64, Refusal>
     requires well_formed { WellFormed pool.now }
     requires free_map { FreeMap pool.now map.old }
     ensures fact { ((s : WellFormed pool.now) →
-        result ≡ (preparing s out.old (Command.Reserve i)).result) }
+        report_of result ≡ (preparing s out.old (Command.Reserve i)).result) }
     ensures fact_2 { ((s : WellFormed pool.now) →
         out.new ≡ (preparing s out.old (Command.Reserve i)).slice) }
 {
@@ -619,19 +604,19 @@ pub fn prepare_reserve(pool: &[u64], map: &mut [u64], i: u64, out: &mut [u64]) -
     match k {
         Located::Apart => reserve_free(pool, map, i, out),
         Located::Vacant(_, _, _) => reserve_free(pool, map, i, out),
-        Located::AtHead(_) => refusal(COVERED),
-        Located::InNode(_, _, _) => refusal(COVERED),
+        Located::AtHead(_) => Err(Refusal::from(Answer::Covered)),
+        Located::InNode(_, _, _) => Err(Refusal::from(Answer::Covered)),
     }
 }
 
 // AN ERASE
 
 // The entry e, which covers i.
-fn erase_entry(pool: &[u64], e: Entry, top: u64, i: u64, out: &mut [u64]) -> Result
+fn erase_entry(pool: &[u64], e: Entry, top: u64, i: u64, out: &mut [u64]) -> Result<u64, Refusal>
     requires well_formed { WellFormed pool.now }
     requires i_value { (s : WellFormed pool.now) → (covering s.list i ≡ some e) × (height s.list ≡ top) }
     ensures fact { ((s : WellFormed pool.now) →
-        result ≡ (preparing s out.old (Command.Erase i)).result) }
+        report_of result ≡ (preparing s out.old (Command.Erase i)).result) }
     ensures fact_2 { ((s : WellFormed pool.now) →
         out.new ≡ (preparing s out.old (Command.Erase i)).slice) }
 {
@@ -645,17 +630,17 @@ fn erase_entry(pool: &[u64], e: Entry, top: u64, i: u64, out: &mut [u64]) -> Res
 }
 
 // The entry that covers i.
-pub fn prepare_erase(pool: &[u64], i: u64, out: &mut [u64]) -> Result
+pub fn prepare_erase(pool: &[u64], i: u64, out: &mut [u64]) -> Result<u64, Refusal>
     requires { WellFormed pool.now }
     ensures fact { ((s : WellFormed pool.now) →
-        result ≡ (preparing s out.old (Command.Erase i)).result) }
+        report_of result ≡ (preparing s out.old (Command.Erase i)).result) }
     ensures fact_2 { ((s : WellFormed pool.now) →
         out.new ≡ (preparing s out.old (Command.Erase i)).slice) }
 {
     let k = locate(pool, i);
     match k {
-        Located::Apart => refusal(ABSENT),
-        Located::Vacant(_, _, _) => refusal(ABSENT),
+        Located::Apart => Err(Refusal::from(Answer::Absent)),
+        Located::Vacant(_, _, _) => Err(Refusal::from(Answer::Absent)),
         Located::AtHead(e) => erase_entry(pool, e, 0, i, out),
         Located::InNode(e, at, _) => erase_entry(pool, e, at.top, i, out),
     }
@@ -664,15 +649,15 @@ pub fn prepare_erase(pool: &[u64], i: u64, out: &mut [u64]) -> Result
 // ANY CHANGING COMMAND
 
 // For the commands that change nothing, which prepare_command is not called with.
-fn nothing() -> Result {
-    refusal(ABSENT)
+fn nothing() -> Result<u64, Refusal> {
+    Err(Refusal::from(Answer::Absent))
 }
 
-pub fn prepare_command(pool: &[u64], map: &mut [u64], c: Command, out: &mut [u64]) -> Result
+pub fn prepare_command(pool: &[u64], map: &mut [u64], c: Command, out: &mut [u64]) -> Result<u64, Refusal>
     requires well_formed { WellFormed pool.now }
     requires free_map { FreeMap pool.now map.old }
     requires c_value { changing c ≡ true }
-    ensures fact { ((s : WellFormed pool.now) → result ≡ (preparing s out.old c).result) }
+    ensures fact { ((s : WellFormed pool.now) → report_of result ≡ (preparing s out.old c).result) }
     ensures fact_2 { ((s : WellFormed pool.now) → out.new ≡ (preparing s out.old c).slice) }
 {
     match c {

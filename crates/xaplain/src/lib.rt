@@ -4,6 +4,7 @@
 #![tactic(auto)]
 
 ghost use Rattle.std.specs.Prelude.{leb, ltb, ◌≡◌, ℕ, ◌+◌, ◌-◌, ◌^◌, ◌≤◌, ◌<◌, length, get_or, set, true, false};
+ghost use Rattle.answers.specs.Answers.{answer_of, number_of};
 ghost use Rattle.blocks.specs.Choice.{pick, both};
 ghost use Rattle.blocks.specs.Blocks.{set_bit};
 ghost use Rattle.model.specs.Model.{covering, covered, store_new, mark_count, over, store, aligned, max_order, matched_mark};
@@ -18,10 +19,7 @@ ghost use Rattle.xaplain.specs.Executes.{Executes};
 ghost use Rattle.blocks.specs.Lists.{any};
 ghost use Rattle.xaplain.specs.Stores.{over_at, entry_with, Stores, turned_by, refused_by};
 
-use answers::{
-    ABSENT, BAD_ENTRY, BAD_MARK, BAD_ORDER, COVERED, DONE, ENDED, FIRST_ABOVE_LAST, NO_BUDGET,
-    NOT_ALIGNED, NOT_WELL_FORMED, POOL_LENGTH, TOO_FEW_NODES,
-};
+use answers::Answer;
 use batch::{Command, Reply};
 use commands::{
     ERASE_REPLY, FIND_REPLY, LOAD_REPLY, MARK_REPLY, RESERVE_REPLY, STORE_REPLY, UNMARK_REPLY,
@@ -340,33 +338,33 @@ fn sized(index: &[u64], order: &[u64], word: &[u64], marks: &[u64]) -> bool
 }
 
 // Whether the slices hold a list: answers 0, 1 or 2.
-pub fn check(index: &[u64], order: &[u64], word: &[u64], marks: &[u64]) -> u64
-    ensures { result ≡ check_answer (slices index.now order.now word.now marks.now) }
+pub fn check(index: &[u64], order: &[u64], word: &[u64], marks: &[u64]) -> Result<(), Answer>
+    ensures { answer_of result ≡ check_answer (slices index.now order.now word.now marks.now) }
 {
     if !sized(index, order, word, marks) {
-        return POOL_LENGTH;
+        return Err(Answer::PoolLength);
     }
     if !holds(index, order, word, marks) {
-        return NOT_WELL_FORMED;
+        return Err(Answer::NotWellFormed);
     }
-    DONE
+    Ok(())
 }
 
 // Four slices of one length become those of the empty list: answers 0, or 1 with nothing written.
-pub fn init(index: &mut [u64], order: &mut [u64], word: &mut [u64], marks: &mut [u64]) -> u64
-    ensures value { result ≡ init_answer (slices index.old order.old word.old marks.old) }
+pub fn init(index: &mut [u64], order: &mut [u64], word: &mut [u64], marks: &mut [u64]) -> Result<(), Answer>
+    ensures value { answer_of result ≡ init_answer (slices index.old order.old word.old marks.old) }
     ensures marks_after { slices index.new order.new word.new marks.new
         ≡ init_slices (slices index.old order.old word.old marks.old) }
 {
     if !sized(index, order, word, marks) {
-        return POOL_LENGTH;
+        return Err(Answer::PoolLength);
     }
     let room = index.len();
     clear(index, 0, room);
     clear(order, 0, room);
     clear(word, 0, room);
     clear(marks, 0, room);
-    DONE
+    Ok(())
 }
 
 // How many of the first n entries start below i.
@@ -518,8 +516,8 @@ fn store(
 }
 
 // A command that is refused: the entries stay.
-fn refused(tag: u64, answer: u64, n: usize) -> Turned
-    ensures { result ≡ refused_by tag answer n }
+fn refused(tag: u64, answer: Answer, n: usize) -> Turned
+    ensures { result ≡ refused_by tag (number_of answer) n }
 {
     Turned {
         reply: answered(tag, answer, 0, 0),
@@ -532,7 +530,7 @@ fn stored_turn(tag: u64, n: usize, s: Stored) -> Turned
     ensures { result ≡ turned_by tag n s }
 {
     match s {
-        Stored::Short => refused(tag, TOO_FEW_NODES, n),
+        Stored::Short => refused(tag, Answer::TooFewNodes, n),
         Stored::Done(c, m) => Turned {
             reply: covered_reply(tag, c),
             count: m,
@@ -556,13 +554,13 @@ pub fn run_store(
         Executes h (Command.Store i k w) result index.new order.new word.new marks.new }
 {
     if k > MAX_ORDER {
-        return refused(STORE_REPLY, BAD_ORDER, n);
+        return refused(STORE_REPLY, Answer::BadOrder, n);
     }
     if !is_aligned(i, k) {
-        return refused(STORE_REPLY, NOT_ALIGNED, n);
+        return refused(STORE_REPLY, Answer::NotAligned, n);
     }
     if !is_storable(w) {
-        return refused(STORE_REPLY, BAD_ENTRY, n);
+        return refused(STORE_REPLY, Answer::BadEntry, n);
     }
     let s = store(index, order, word, marks, n, i, k, w);
     stored_turn(STORE_REPLY, n, s)
@@ -586,7 +584,7 @@ pub fn run_reserve(
             let s = store(index, order, word, marks, n, i, 0, RESERVED);
             stored_turn(RESERVE_REPLY, n, s)
         }
-        Covered::By(_) => refused(RESERVE_REPLY, COVERED, n),
+        Covered::By(_) => refused(RESERVE_REPLY, Answer::Covered, n),
     }
 }
 
@@ -721,7 +719,7 @@ fn found_reply(c: Covered) -> Reply
     ensures { result ≡ found_reply c }
 {
     match c {
-        Covered::Nothing => answered(FIND_REPLY, ENDED, 0, 0),
+        Covered::Nothing => answered(FIND_REPLY, Answer::Ended, 0, 0),
         Covered::By(e) => answered_by(FIND_REPLY, e, 0),
     }
 }
@@ -733,13 +731,13 @@ fn run_find(index: &[u64], order: &[u64], word: &[u64], marks: &[u64], n: usize,
         result ≡ (execute (length index.now) h.list (Command.Find s.first s.last s.filter s.budget)).reply }
 {
     if s.filter > ANY_MARK {
-        return answered(FIND_REPLY, BAD_MARK, 0, 0);
+        return answered(FIND_REPLY, Answer::BadMark, 0, 0);
     }
     if s.first > s.last {
-        return answered(FIND_REPLY, FIRST_ABOVE_LAST, 0, 0);
+        return answered(FIND_REPLY, Answer::FirstAboveLast, 0, 0);
     }
     if s.budget == 0 {
-        return answered(FIND_REPLY, NO_BUDGET, 0, 0);
+        return answered(FIND_REPLY, Answer::NoBudget, 0, 0);
     }
     found_reply(find(index, order, word, marks, n, s.first, s.last, s.filter))
 }
@@ -788,7 +786,7 @@ fn run_erase(
 {
     let p = place(index, order, n, i);
     if p == 0 {
-        return refused(ERASE_REPLY, ABSENT, n);
+        return refused(ERASE_REPLY, Answer::Absent, n);
     }
     let e = entry_at(index, order, word, marks, p - 1);
     take_out(index, order, word, marks, p - 1, n);
@@ -840,15 +838,15 @@ fn run_remark(
 {
     let tag = remarked_tag(on);
     if m >= MARKS {
-        return refused(tag, BAD_MARK, n);
+        return refused(tag, Answer::BadMark, n);
     }
     let p = place(index, order, n, i);
     if p == 0 {
-        return refused(tag, ABSENT, n);
+        return refused(tag, Answer::Absent, n);
     }
     let e = entry_at(index, order, word, marks, p - 1);
     if e.word == RESERVED {
-        return refused(tag, ABSENT, n);
+        return refused(tag, Answer::Absent, n);
     }
     let x = with_mark(e.marks, m, on);
     marks[p - 1] = x;

@@ -6,6 +6,7 @@
 #![tactic(auto)]
 
 ghost use Rattle.std.specs.Prelude.{◌≡◌, List, ◌+◌, ◌≤◌, length};
+ghost use Rattle.answers.specs.Answers.{report_of};
 ghost use Rattle.batch.specs.Batch.{rest_at, counted, parse};
 ghost use Rattle.batch.specs.Batch;
 ghost use Rattle.batch.specs.Reply.{reply_bytes};
@@ -17,7 +18,7 @@ ghost use Rattle.xaplain_calls.specs.Calls;
 ghost use Rattle.xaplain_calls.specs.Calls.{init_result, check_result};
 ghost use Rattle.xaplain_calls.specs.Running.{Turns, Ends};
 
-use answers::{BAD_BATCH, DONE, REPLY_SPACE, Result};
+use answers::{Answer, Refusal};
 use batch::{Command, Counted, REPLY_BYTES};
 
 const REPLY_SIZE: u64 = 24;
@@ -82,10 +83,10 @@ fn run_counted(
     batch: &[u8],
     reply: &mut [u8],
     k: u64,
-) -> Result
+) -> Result<u64, Refusal>
     requires marks_value { check_answer (slices index.old order.old word.old marks.old) ≡ 0 }
     requires k_value { Commands k ≡ counted (parse batch.now) }
-    ensures value { result ≡ (Calls.run (slices index.old order.old word.old marks.old)
+    ensures value { report_of result ≡ (Calls.run (slices index.old order.old word.old marks.old)
         batch.now reply.old).result }
     ensures marks_after { slices index.new order.new word.new marks.new ≡
         (Calls.run (slices index.old order.old word.old marks.old)
@@ -95,43 +96,34 @@ fn run_counted(
 {
     let room = reply.len() as u64;
     if room / REPLY_SIZE < k {
-        return Result {
-            answer: REPLY_SPACE,
+        return Err(Refusal {
+            answer: Answer::ReplySpace,
             number: k,
-        };
+        });
     }
     let n = xaplain::count(word);
     run_all(index, order, word, marks, n, batch, reply);
-    Result {
-        answer: DONE,
-        number: k,
-    }
+    Ok(k)
 }
 
 // Makes the list in the slices empty. Answers 0, or 1 with nothing written.
-pub fn init(index: &mut [u64], order: &mut [u64], word: &mut [u64], marks: &mut [u64]) -> Result
-    ensures value { result ≡ init_result (slices index.old order.old word.old marks.old) }
+pub fn init(index: &mut [u64], order: &mut [u64], word: &mut [u64], marks: &mut [u64]) -> Result<u64, Refusal>
+    ensures value { report_of result ≡ init_result (slices index.old order.old word.old marks.old) }
     ensures marks_after { slices index.new order.new word.new marks.new ≡
         init_slices (slices index.old order.old word.old marks.old) }
 {
-    let answer = xaplain::init(index, order, word, marks);
-    Result {
-        answer: answer,
-        number: 0,
-    }
+    xaplain::init(index, order, word, marks)?;
+    Ok(0)
 }
 
 // Whether the slices hold a list and then zeros. Answers 0, 1 or 2; writes nothing.
-pub fn check(index: &[u64], order: &[u64], word: &[u64], marks: &[u64]) -> Result
-    ensures value { result ≡ check_result (slices index.now order.now word.now marks.now) }
+pub fn check(index: &[u64], order: &[u64], word: &[u64], marks: &[u64]) -> Result<u64, Refusal>
+    ensures value { report_of result ≡ check_result (slices index.now order.now word.now marks.now) }
     ensures marks_value { slices index.exit.now order.exit.now word.exit.now marks.exit.now ≡
         slices index.entry.now order.entry.now word.entry.now marks.entry.now }
 {
-    let answer = xaplain::check(index, order, word, marks);
-    Result {
-        answer: answer,
-        number: 0,
-    }
+    xaplain::check(index, order, word, marks)?;
+    Ok(0)
 }
 
 // Runs a batch of commands on the slices, and writes 24 bytes of reply for each. Answers 0 to 4; 1 to 4 alter nothing.
@@ -142,8 +134,8 @@ pub fn run(
     marks: &mut [u64],
     batch: &[u8],
     reply: &mut [u8],
-) -> Result
-    ensures value { result ≡ (Calls.run (slices index.old order.old word.old marks.old)
+) -> Result<u64, Refusal>
+    ensures value { report_of result ≡ (Calls.run (slices index.old order.old word.old marks.old)
         batch.now reply.old).result }
     ensures marks_after { slices index.new order.new word.new marks.new ≡
         (Calls.run (slices index.old order.old word.old marks.old)
@@ -152,19 +144,12 @@ pub fn run(
         batch.now reply.old).reply }
     ensures batch_value { batch.exit.now ≡ batch.entry.now }
 {
-    let answer = xaplain::check(index, order, word, marks);
-    if answer != DONE {
-        return Result {
-            answer: answer,
-            number: 0,
-        };
-    }
-    let counted = reader::count_through(batch);
-    match counted {
-        Counted::Refused(place) => Result {
-            answer: BAD_BATCH,
+    xaplain::check(index, order, word, marks)?;
+    match reader::count_through(batch) {
+        Counted::Refused(place) => Err(Refusal {
+            answer: Answer::BadBatch,
             number: place,
-        },
+        }),
         Counted::Commands(k) => run_counted(index, order, word, marks, batch, reply, k),
     }
 }
