@@ -1,6 +1,6 @@
 -- Reading a batch from a place to its end, record by record.
 use Prim.Native.Nat.{ℕ, zero, suc, ◌+◌, ◌-◌, ◌≤◌, ◌<◌}
-use mathlib.Core.Path.{◌≡◌, refl, sym, ap, subst, ◌∙◌}
+use mathlib.Core.Path.{◌≡◌, refl, sym, ap, ◌∙◌}
 use mathlib.Core.Bool.{Bool, true, false, not}
 use mathlib.Core.Logic.{◌≢◌}
 use mathlib.Core.List.{List, []}
@@ -13,7 +13,6 @@ use Rattle.blocks.proofs.BoolLaws.{by_t, clash, both_l, both_r}
 use Rattle.words.specs.Bytes.{number_at}
 use Rattle.batch.specs.Batch.{max_batch, head_bytes, field_bytes, command_at, is_record, next_at, read_at, Read, Next, Bad, End, Command, Cursor, Parsed, cons_to, parse_read, parse_from, rest_at, parse, BadRecord, counted}
 use Rattle.std.specs.Prelude.{Result, Ok, Err}
-use Rattle.words.proofs.NumberLaws.{one_byte}
 
 -- a record that was read
 pub record WasRead (s : List ℕ) (at : ℕ) (c : Command) (k : Cursor) : Type 0 where

@@ -291,7 +291,9 @@ pub fn count(batch: &[u8]) -> Result<u64, BadRecord>
     ensures { result ≡ counted (parse batch.now) }
 {
     if batch.len() > MAX_BATCH {
-        return Err(BadRecord { at: MAX_BATCH as u64 });
+        return Err(BadRecord {
+            at: MAX_BATCH as u64,
+        });
     }
     count_records(batch)
 }

@@ -6,13 +6,12 @@
 // script: the borrowed words for the script.
 #![tactic(auto)]
 
-ghost use Rattle.std.specs.Prelude.{◌≡◌, true, List, ◌+◌, ◌≤◌, length};
+ghost use Rattle.std.specs.Prelude.{◌≡◌, true, List, ◌+◌, ◌≤◌, length, Ok};
 ghost use Rattle.layout.specs.WellFormed.{WellFormed};
 ghost use Rattle.freenodes.specs.FreeNodes.{FreeMap};
 ghost use Rattle.batch.specs.Batch.{rest_at, counted, parse, read_at};
 ghost use Rattle.batch.specs.Batch;
 ghost use Rattle.batch.specs.Reply.{reply_bytes};
-ghost use Rattle.batch.specs.declared.Counted.TheVariants.{Commands};
 ghost use Rattle.batch.specs.declared.Read.TheVariants.{Next};
 ghost use Rattle.commands.specs.Batches.{Ahead};
 ghost use Rattle.verify.specs.Answers.{check_answer, init_words};
@@ -23,7 +22,7 @@ ghost use Rattle.calls.specs.Calls.{init_result, check_result, count_result};
 ghost use Rattle.calls.specs.Running.{Turned, Ends};
 
 use answers::{BAD_BATCH, DONE, FIRST_ABOVE_LAST, REPLY_SPACE, Result};
-use batch::{Command, Counted, REPLY_BYTES, Read};
+use batch::{Command, REPLY_BYTES, Read};
 use freemap::MAP_WORDS;
 use listing::Listed;
 
@@ -66,7 +65,7 @@ fn run_all(pool: &mut [u64], map: &mut [u64], batch: &[u8], reply: &mut [u8])
 fn run_counted(pool: &mut [u64], map: &mut [u64], batch: &[u8], reply: &mut [u8], k: u64) -> Result
     requires pool_value { check_answer pool.old ≡ 0 }
     requires free_map { FreeMap pool.old map.old }
-    requires k_value { Commands k ≡ counted (parse batch.now) }
+    requires k_value { Ok k ≡ counted (parse batch.now) }
     ensures value { result ≡ (Calls.run pool.old batch.now reply.old).result }
     ensures pool_after { pool.new ≡ (Calls.run pool.old batch.now reply.old).words }
     ensures reply_after { reply.new ≡ (Calls.run pool.old batch.now reply.old).reply }
@@ -126,11 +125,11 @@ pub fn run(pool: &mut [u64], batch: &[u8], reply: &mut [u8]) -> Result
     }
     let counted = batch::count(batch);
     match counted {
-        Counted::Refused(place) => Result {
+        Err(bad) => Result {
             answer: BAD_BATCH,
-            number: place,
+            number: bad.at,
         },
-        Counted::Commands(k) => run_counted(pool, &mut map, batch, reply, k),
+        Ok(k) => run_counted(pool, &mut map, batch, reply, k),
     }
 }
 
@@ -142,11 +141,11 @@ pub fn count(batch: &[u8]) -> Result
 {
     let counted = reader::count_through(batch);
     match counted {
-        Counted::Refused(place) => Result {
+        Err(bad) => Result {
             answer: BAD_BATCH,
-            number: place,
+            number: bad.at,
         },
-        Counted::Commands(k) => Result {
+        Ok(k) => Result {
             answer: DONE,
             number: k,
         },

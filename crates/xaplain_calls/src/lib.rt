@@ -5,11 +5,10 @@
 // reply: the borrowed bytes for their replies; at: a place in the batch; out: a place in the reply.
 #![tactic(auto)]
 
-ghost use Rattle.std.specs.Prelude.{◌≡◌, List, ◌+◌, ◌≤◌, length};
+ghost use Rattle.std.specs.Prelude.{◌≡◌, List, ◌+◌, ◌≤◌, length, Ok};
 ghost use Rattle.batch.specs.Batch.{rest_at, counted, parse};
 ghost use Rattle.batch.specs.Batch;
 ghost use Rattle.batch.specs.Reply.{reply_bytes};
-ghost use Rattle.batch.specs.declared.Counted.TheVariants.{Commands};
 ghost use Rattle.commands.specs.Batches.{Ahead};
 ghost use Rattle.xaplain.specs.Slices.{slices, check_answer, init_slices};
 ghost use Rattle.xaplain.specs.Moves.{Holds};
@@ -18,7 +17,7 @@ ghost use Rattle.xaplain_calls.specs.Calls.{init_result, check_result};
 ghost use Rattle.xaplain_calls.specs.Running.{Turns, Ends};
 
 use answers::{BAD_BATCH, DONE, REPLY_SPACE, Result};
-use batch::{Command, Counted, REPLY_BYTES};
+use batch::{Command, REPLY_BYTES};
 
 const REPLY_SIZE: u64 = 24;
 
@@ -84,7 +83,7 @@ fn run_counted(
     k: u64,
 ) -> Result
     requires marks_value { check_answer (slices index.old order.old word.old marks.old) ≡ 0 }
-    requires k_value { Commands k ≡ counted (parse batch.now) }
+    requires k_value { Ok k ≡ counted (parse batch.now) }
     ensures value { result ≡ (Calls.run (slices index.old order.old word.old marks.old)
         batch.now reply.old).result }
     ensures marks_after { slices index.new order.new word.new marks.new ≡
@@ -161,10 +160,10 @@ pub fn run(
     }
     let counted = reader::count_through(batch);
     match counted {
-        Counted::Refused(place) => Result {
+        Err(bad) => Result {
             answer: BAD_BATCH,
-            number: place,
+            number: bad.at,
         },
-        Counted::Commands(k) => run_counted(index, order, word, marks, batch, reply, k),
+        Ok(k) => run_counted(index, order, word, marks, batch, reply, k),
     }
 }
