@@ -37,7 +37,8 @@ pub fn with_bit(w: u64, j: u64, on: bool) -> u64
     if on { w | pow2(j) } else { w & !pow2(j) }
 }
 
-// The least bit from o on that is set in w; 64 if there is none.
+// The least bit from o on that is set in w; 64 if there is none, as `trailing_zeros` has it: whoever asks compares it with a
+// bit of its own.
 pub fn next_bit(w: u64, o: u64) -> u64
     requires { o < word_bits }
     ensures { NextBit word_bits w o result }
