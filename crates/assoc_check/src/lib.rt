@@ -369,7 +369,7 @@ fn mark(seen: &mut [u64], x: u64)
     if (seen[(x / WORD_BITS) as usize] >> (x % WORD_BITS)) % 2 == 1 {
         return;
     }
-    set_bit(seen, x);
+    set_bit(seen, x, true);
 }
 
 // The block that the word r leads to, if it is one of n.

@@ -6,14 +6,13 @@
 // script: the borrowed words for the script.
 #![tactic(auto)]
 
-ghost use Rattle.std.specs.Prelude.{◌≡◌, true, List, ◌+◌, ◌≤◌, length};
+ghost use Rattle.std.specs.Prelude.{◌≡◌, true, List, ◌+◌, ◌≤◌, length, Ok};
 ghost use Rattle.answers.specs.Answers.{report_of};
 ghost use Rattle.layout.specs.WellFormed.{WellFormed};
 ghost use Rattle.freenodes.specs.FreeNodes.{FreeMap};
 ghost use Rattle.batch.specs.Batch.{rest_at, counted, parse, read_at};
 ghost use Rattle.batch.specs.Batch;
 ghost use Rattle.batch.specs.Reply.{reply_bytes};
-ghost use Rattle.batch.specs.declared.Counted.TheVariants.{Commands};
 ghost use Rattle.batch.specs.declared.Read.TheVariants.{Next};
 ghost use Rattle.commands.specs.Batches.{Ahead};
 ghost use Rattle.verify.specs.Answers.{check_answer, init_words};
@@ -24,7 +23,7 @@ ghost use Rattle.calls.specs.Calls.{init_result, check_result, count_result};
 ghost use Rattle.calls.specs.Running.{Turned, Ends};
 
 use answers::{Answer, Refusal};
-use batch::{Command, Counted, REPLY_BYTES, Read};
+use batch::{Command, REPLY_BYTES, Read};
 use freemap::MAP_WORDS;
 use listing::Listed;
 
@@ -67,7 +66,7 @@ fn run_all(pool: &mut [u64], map: &mut [u64], batch: &[u8], reply: &mut [u8])
 fn run_counted(pool: &mut [u64], map: &mut [u64], batch: &[u8], reply: &mut [u8], k: u64) -> Result<u64, Refusal>
     requires pool_value { check_answer pool.old ≡ 0 }
     requires free_map { FreeMap pool.old map.old }
-    requires k_value { Commands k ≡ counted (parse batch.now) }
+    requires k_value { Ok k ≡ counted (parse batch.now) }
     ensures value { report_of result ≡ (Calls.run pool.old batch.now reply.old).result }
     ensures pool_after { pool.new ≡ (Calls.run pool.old batch.now reply.old).words }
     ensures reply_after { reply.new ≡ (Calls.run pool.old batch.now reply.old).reply }
@@ -110,13 +109,11 @@ pub fn run(pool: &mut [u64], batch: &[u8], reply: &mut [u8]) -> Result<u64, Refu
 {
     let mut map = [0u64; MAP_WORDS];
     verify::check_map(pool, &mut map)?;
-    match batch::count(batch) {
-        Counted::Refused(place) => Err(Refusal {
-            answer: Answer::BadBatch,
-            number: place,
-        }),
-        Counted::Commands(k) => run_counted(pool, &mut map, batch, reply, k),
-    }
+    let k = batch::count(batch).map_err(|bad| Refusal {
+        answer: Answer::BadBatch,
+        number: bad.at,
+    })?;
+    run_counted(pool, &mut map, batch, reply, k)
 }
 
 // How many commands a batch has, read through the reader that holds it: answer 0 and their number, or answer 3 and the
@@ -125,13 +122,11 @@ pub fn count(batch: &[u8]) -> Result<u64, Refusal>
     ensures value { report_of result ≡ count_result batch.now }
     ensures batch_value { batch.exit.now ≡ batch.entry.now }
 {
-    match reader::count_through(batch) {
-        Counted::Refused(place) => Err(Refusal {
-            answer: Answer::BadBatch,
-            number: place,
-        }),
-        Counted::Commands(k) => Ok(k),
-    }
+    let k = reader::count_through(batch).map_err(|bad| Refusal {
+        answer: Answer::BadBatch,
+        number: bad.at,
+    })?;
+    Ok(k)
 }
 
 // Lists the entries whose run meets first to last, in index order, 21 bytes each. Answers 0, 1, 2, 4 or 8; writes nothing

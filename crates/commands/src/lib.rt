@@ -5,9 +5,9 @@
 
 ghost use Rattle.std.specs.Prelude.{◌≡◌, ◌≤◌};
 ghost use Rattle.answers.specs.Answers.{number_of};
-ghost use Rattle.blocks.specs.Choice.{either};
+ghost use Rattle.blocks.specs.Choice.{pick, either};
 ghost use Rattle.model.specs.Model.{storable, max_order, aligned};
-ghost use Rattle.batch.specs.Reply.{answered, answered_by};
+ghost use Rattle.batch.specs.Reply.{mark_reply, unmark_reply, answered, answered_by};
 ghost use Rattle.commands.specs.Replies.{covered_reply};
 
 use answers::{Answer, DONE};
@@ -61,6 +61,13 @@ pub fn is_aligned(index: u64, order: u64) -> bool
 }
 
 // REPLIES
+
+// The tag of a mark's reply, or of an unmark's.
+pub fn remarked_tag(on: bool) -> u64
+    ensures { result ≡ pick on mark_reply unmark_reply }
+{
+    if on { MARK_REPLY } else { UNMARK_REPLY }
+}
 
 // An answer with an index and a count, all else 0.
 pub fn answered(tag: u64, answer: Answer, index: u64, count: u64) -> Reply

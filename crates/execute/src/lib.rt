@@ -5,8 +5,7 @@
 
 ghost use Rattle.std.specs.Prelude.{◌≡◌, true, false, List, ℕ};
 ghost use Rattle.std.proofs.Math.Option.{some};
-ghost use Rattle.batch.specs.Reply.{store_reply, load_reply, mark_reply, unmark_reply, find_reply};
-ghost use Rattle.blocks.specs.Choice.{pick};
+ghost use Rattle.batch.specs.Reply.{store_reply, load_reply, find_reply};
 ghost use Rattle.model.specs.Model.{reserved_word, matched_mark, covering, covered, remark};
 ghost use Rattle.layout.specs.Places.{render};
 ghost use Rattle.layout.specs.WellFormed.{WellFormed};
@@ -19,8 +18,8 @@ ghost use Rattle.execute.specs.Promised.{remarking, reply_to, Settles, Executes}
 use answers::Answer;
 use batch::{Command, Reply};
 use commands::{
-    ERASE_REPLY, FIND_REPLY, LOAD_REPLY, MARK_REPLY, RESERVE_REPLY, STORE_REPLY, UNMARK_REPLY,
-    answered, answered_by, covered_reply, is_aligned, is_enterable,
+    ERASE_REPLY, FIND_REPLY, LOAD_REPLY, RESERVE_REPLY, STORE_REPLY, answered, answered_by,
+    covered_reply, is_aligned, is_enterable, remarked_tag,
 };
 use lookup::{Loaded, Outcome};
 use model::Entry;
@@ -97,13 +96,6 @@ fn run_find(pool: &[u64], first: u64, last: u64, filter: u64, budget: u64) -> Re
         return answered(FIND_REPLY, Answer::NoBudget, 0, 0);
     }
     found_reply(lookup::find::find(pool, first, last, filter, budget))
-}
-
-// The reply's tag of a mark, or of an unmark.
-fn remarked_tag(on: bool) -> u64
-    ensures { result ≡ pick on mark_reply unmark_reply }
-{
-    if on { MARK_REPLY } else { UNMARK_REPLY }
 }
 
 // A mark where the bit is on, an unmark where it is off.

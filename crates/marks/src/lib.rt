@@ -17,31 +17,13 @@ ghost use Rattle.marks.specs.Climb.{StandsAt};
 use layout::{MARKS_WORD, SLOTS, mark_word, owner_of, put_mark_word};
 use lookup::{Located, Spot, locate};
 use model::{Covered, Entry, is_reserved};
-use words::pow2;
+use words::with_bit;
 
 // Whether any slot of a node has the mark, by its mark word.
 fn nonzero(w: u64) -> bool
     ensures { result ≡ not (eqb w 0) }
 {
     w != 0
-}
-
-// w with bit j set or cleared.
-pub fn with_bit(w: u64, j: u64, on: bool) -> u64
-    requires { j < slots }
-    ensures { result ≡ set_bit j on w }
-{
-    let was = (w >> j) % 2;
-    if on {
-        if was == 1 {
-            return w;
-        }
-        return w + pow2(j);
-    }
-    if was == 0 {
-        return w;
-    }
-    w - pow2(j)
 }
 
 // Mark m of the anchor, set or cleared.

@@ -36,7 +36,6 @@ use commands::{is_aligned, is_storable};
 use freemap::MAP_WORDS;
 use layout::{COUNT_WORD, HEAD_WORD, MARKS_WORD, SLOT_BITS, SPARE_WORD, mark_word, next_marked};
 use lookup::{Located, locate};
-use marks::with_bit;
 use model::{Entry, RESERVED, is_reserved};
 use plan::{Heads, Target, height_of, plan, starts_at_0, top_of};
 use script_erase::{bare_rows, erase_rows};
@@ -45,7 +44,7 @@ use script_rows::Range;
 use script_same::same_rows;
 use script_table::{ROWS, table_length, table_write};
 use script_wide::{mark_going, wide_length, wide_write};
-use words::{fill, one_if};
+use words::{fill, one_if, with_bit};
 use write::{offset_of, width_of};
 
 // THE SCRIPT OF A TABLE, if there is room for it.

@@ -30,7 +30,7 @@ use layout::{
     block_of, fill_slots, filled_of, mark_word, node_word, owner_word, put_filled, put_mark_word,
     put_owner, put_shift, put_slot, shift_word, sibling_word, slot_word,
 };
-use marks::with_bit;
+use words::with_bit;
 use write::width_of;
 
 // Mark x among marks m.

@@ -5,7 +5,7 @@
 
 ghost use Rattle.std.specs.Prelude.{leb, ltb, ◌≡◌, ℕ, ◌+◌, ◌-◌, ◌^◌, ◌≤◌, ◌<◌, length, get_or, set, true, false};
 ghost use Rattle.answers.specs.Answers.{answer_of, number_of};
-ghost use Rattle.blocks.specs.Choice.{pick, both};
+ghost use Rattle.blocks.specs.Choice.{both};
 ghost use Rattle.blocks.specs.Blocks.{set_bit};
 ghost use Rattle.model.specs.Model.{covering, covered, store_new, mark_count, over, store, aligned, max_order, matched_mark};
 ghost use Rattle.model.specs.Matches.{first_match};
@@ -22,11 +22,11 @@ ghost use Rattle.xaplain.specs.Stores.{over_at, entry_with, Stores, turned_by, r
 use answers::Answer;
 use batch::{Command, Reply};
 use commands::{
-    ERASE_REPLY, FIND_REPLY, LOAD_REPLY, MARK_REPLY, RESERVE_REPLY, STORE_REPLY, UNMARK_REPLY,
-    answered, answered_by, covered_reply, is_aligned, is_storable,
+    ERASE_REPLY, FIND_REPLY, LOAD_REPLY, RESERVE_REPLY, STORE_REPLY, answered, answered_by,
+    covered_reply, is_aligned, is_storable, remarked_tag,
 };
 use model::{Covered, Entry, RESERVED};
-use words::pow2;
+use words::with_bit;
 
 // The most entries that the slices may have room for.
 pub const MAX_ROOM: usize = 4096;
@@ -796,31 +796,6 @@ fn run_erase(
     }
 }
 
-// The reply's tag of a mark, or of an unmark.
-fn remarked_tag(on: bool) -> u64
-    ensures { result ≡ pick on 132 133 }
-{
-    if on { MARK_REPLY } else { UNMARK_REPLY }
-}
-
-// Marks with mark m set or cleared.
-fn with_mark(w: u64, m: u64, on: bool) -> u64
-    requires { (m < mark_count) × (w < 8) }
-    ensures { result ≡ set_bit m on w }
-{
-    let was = (w >> m) % 2;
-    if on {
-        if was == 1 {
-            return w;
-        }
-        return w + pow2(m);
-    }
-    if was == 0 {
-        return w;
-    }
-    w - pow2(m)
-}
-
 // A mark where the bit is on, an unmark where it is off: one word changes.
 fn run_remark(
     index: &[u64],
@@ -848,7 +823,7 @@ fn run_remark(
     if e.word == RESERVED {
         return refused(tag, Answer::Absent, n);
     }
-    let x = with_mark(e.marks, m, on);
+    let x = with_bit(e.marks, m, on);
     marks[p - 1] = x;
     Turned {
         reply: answered_by(

@@ -5,12 +5,11 @@
 // reply: the borrowed bytes for their replies; at: a place in the batch; out: a place in the reply.
 #![tactic(auto)]
 
-ghost use Rattle.std.specs.Prelude.{◌≡◌, List, ◌+◌, ◌≤◌, length};
+ghost use Rattle.std.specs.Prelude.{◌≡◌, List, ◌+◌, ◌≤◌, length, Ok};
 ghost use Rattle.answers.specs.Answers.{report_of};
 ghost use Rattle.batch.specs.Batch.{rest_at, counted, parse};
 ghost use Rattle.batch.specs.Batch;
 ghost use Rattle.batch.specs.Reply.{reply_bytes};
-ghost use Rattle.batch.specs.declared.Counted.TheVariants.{Commands};
 ghost use Rattle.commands.specs.Batches.{Ahead};
 ghost use Rattle.xaplain.specs.Slices.{slices, check_answer, init_slices};
 ghost use Rattle.xaplain.specs.Moves.{Holds};
@@ -19,7 +18,7 @@ ghost use Rattle.xaplain_calls.specs.Calls.{init_result, check_result};
 ghost use Rattle.xaplain_calls.specs.Running.{Turns, Ends};
 
 use answers::{Answer, Refusal};
-use batch::{Command, Counted, REPLY_BYTES};
+use batch::{Command, REPLY_BYTES};
 
 const REPLY_SIZE: u64 = 24;
 
@@ -85,7 +84,7 @@ fn run_counted(
     k: u64,
 ) -> Result<u64, Refusal>
     requires marks_value { check_answer (slices index.old order.old word.old marks.old) ≡ 0 }
-    requires k_value { Commands k ≡ counted (parse batch.now) }
+    requires k_value { Ok k ≡ counted (parse batch.now) }
     ensures value { report_of result ≡ (Calls.run (slices index.old order.old word.old marks.old)
         batch.now reply.old).result }
     ensures marks_after { slices index.new order.new word.new marks.new ≡
@@ -145,11 +144,9 @@ pub fn run(
     ensures batch_value { batch.exit.now ≡ batch.entry.now }
 {
     xaplain::check(index, order, word, marks)?;
-    match reader::count_through(batch) {
-        Counted::Refused(place) => Err(Refusal {
-            answer: Answer::BadBatch,
-            number: place,
-        }),
-        Counted::Commands(k) => run_counted(index, order, word, marks, batch, reply, k),
-    }
+    let k = reader::count_through(batch).map_err(|bad| Refusal {
+        answer: Answer::BadBatch,
+        number: bad.at,
+    })?;
+    run_counted(index, order, word, marks, batch, reply, k)
 }

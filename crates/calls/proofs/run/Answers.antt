@@ -20,14 +20,14 @@ pub returns-then-answer-ne-DONE-clause-reply_after : goal.returns-then-answer-ne
 returns-then-answer-ne-DONE-clause-reply_after c =
     (as_ensures (comes_as c.check_map-answer.ensures.value (comes_refused (run_unchecked _ _ _ (λ z. c.if-answer-ne-DONE.true (c.check_map-answer.ensures.value ∙ z)))))).1.1
 
-pub returns-in-Refused-clause-value : goal.returns-in-Refused-clause-value
-returns-in-Refused-clause-value c =
-    (as_ensures (comes_refused (run_bad _ _ _ (sym c.check_map-answer.ensures.value ∙ c.if-answer-ne-DONE.false) (sym c.in-Refused.is ∙ c.count-counted.ensures)))).0
+pub returns-in-Err-clause-value : goal.returns-in-Err-clause-value
+returns-in-Err-clause-value c =
+    (as_ensures (comes_refused (run_bad _ _ _ (sym c.check_map-answer.ensures.value ∙ c.if-answer-ne-DONE.false) (sym c.in-Err.is ∙ c.count-counted.ensures)))).0
 
-pub returns-in-Refused-clause-pool_after : goal.returns-in-Refused-clause-pool_after
-returns-in-Refused-clause-pool_after c =
-    (as_ensures (comes_refused (run_bad _ _ _ (sym c.check_map-answer.ensures.value ∙ c.if-answer-ne-DONE.false) (sym c.in-Refused.is ∙ c.count-counted.ensures)))).1.0
+pub returns-in-Err-clause-pool_after : goal.returns-in-Err-clause-pool_after
+returns-in-Err-clause-pool_after c =
+    (as_ensures (comes_refused (run_bad _ _ _ (sym c.check_map-answer.ensures.value ∙ c.if-answer-ne-DONE.false) (sym c.in-Err.is ∙ c.count-counted.ensures)))).1.0
 
-pub returns-in-Refused-clause-reply_after : goal.returns-in-Refused-clause-reply_after
-returns-in-Refused-clause-reply_after c =
-    (as_ensures (comes_refused (run_bad _ _ _ (sym c.check_map-answer.ensures.value ∙ c.if-answer-ne-DONE.false) (sym c.in-Refused.is ∙ c.count-counted.ensures)))).1.1
+pub returns-in-Err-clause-reply_after : goal.returns-in-Err-clause-reply_after
+returns-in-Err-clause-reply_after c =
+    (as_ensures (comes_refused (run_bad _ _ _ (sym c.check_map-answer.ensures.value ∙ c.if-answer-ne-DONE.false) (sym c.in-Err.is ∙ c.count-counted.ensures)))).1.1

@@ -6,7 +6,7 @@ use Rattle.crc32c.specs.Crc.{register}
 use Rattle.crc32c.proofs.by_eights.Given as goal
 
 abbrev pub invariant-loop-i : goal.invariant-loop-i
-invariant-loop-i l = (l.i ≤ length l.s) × (register l.c (drop l.i l.s) ≡ register l.c-2 l.s)
+invariant-loop-i l = (l.i ≤ length l.s) × (register l.c (drop l.i l.s) ≡ register l.fn.c l.s)
 
 abbrev pub decreases-loop-i : goal.decreases-loop-i
 decreases-loop-i l = length l.s - l.i

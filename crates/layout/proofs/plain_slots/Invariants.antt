@@ -4,7 +4,4 @@ use Rattle.layout.proofs.PassLaws.{Tested}
 use Rattle.layout.proofs.plain_slots.Given as goal
 
 abbrev pub invariant-loop-o : goal.invariant-loop-o
-invariant-loop-o l = (l.from ≤ l.o) × (l.o ≤ l.end) × Tested l.pool l.n l.from l.o l.inner
-
-abbrev pub decreases-loop-o : goal.decreases-loop-o
-decreases-loop-o l = l.end - l.o
+invariant-loop-o l = Tested l.pool l.n l.from l.o l.inner

@@ -28,24 +28,10 @@ returns-then-e-eq-RESERVED c =
     (place_reserved h c.args.i c.place-p.result c.place-p.ensures c.if-p-eq0.false
     (sym (ap (λ (e : Entry). e.word) c.entry_at-e.ensures) ∙ c.if-e-eq-RESERVED.true)) c.remarked_tag-tag.ensures c.refused-then-e-eq-RESERVED.ensures
 
-pub with_mark-x-requires : goal.with_mark-x-requires
-with_mark-x-requires c =
-    let h = c.requires in let k = c.place-p.result - 1 in
-    let g = place_in h c.args.i c.place-p.result c.place-p.ensures
-    c.if-p-eq0.false in (
-      c.if-m-ge-MARKS.false,
-      omega (
-        arith,
-        ap (λ (e : Entry). e.marks) c.entry_at-e.ensures,
-        marks_at h k g,
-        (entry_ok h k g).marks_fit,
-      ),
-    )
-
 pub returns : goal.returns
 returns c =
     λ h. let a = c.args in let r =
     c.place-p.result in let d = c.place-p.ensures in let p = c.if-p-eq0.false in
-    remarks h a.i a.m a.on c.if-m-ge-MARKS.false (r - 1) c.with_mark-x.result
+    remarks h a.i a.m a.on c.if-m-ge-MARKS.false (r - 1) c.with_bit-x.result
     (place_in h a.i r d p) (place_some h a.i r d p)
-    c.entry_at-e.result c.entry_at-e.ensures c.if-e-eq-RESERVED.false c.with_mark-x.ensures c.remarked_tag-tag.ensures c.answered_by.ensures refl
+    c.entry_at-e.result c.entry_at-e.ensures c.if-e-eq-RESERVED.false c.with_bit-x.ensures c.remarked_tag-tag.ensures c.answered_by.ensures refl
