@@ -13,8 +13,7 @@ use Rattle.blocks.proofs.BoolLaws.{by_t}
 use Rattle.answers.specs.Answers.{bad_mark, first_above_last, no_budget}
 use Rattle.model.specs.declared.Entry.{Entry}
 use Rattle.std.specs.Prelude as rust
-use Rattle.std.specs.Prelude.{Some}
-use Rattle.model.specs.Model.{reserved, reserved_word, mark_count, covering, present, covered}
+use Rattle.model.specs.Model.{reserved, mark_count, covering, present, covered}
 use Rattle.model.specs.Matches.{first_match}
 use Rattle.batch.specs.declared.Command.{Command}
 use Rattle.batch.specs.declared.Command.TheVariants.{Load, Erase, Find}
@@ -27,9 +26,6 @@ use Rattle.xaplain.specs.Executes.{Turned, Executes}
 use Rattle.xaplain.proofs.StoredLaws.{reply_by, stay}
 
 -- REPLIES
-pub seen_entry : (e : Entry) → e.word ≢ reserved_word → seen (Some e) ≡ Some e
-seen_entry e n = rw (ne_eqb e.word reserved_word n) refl
-
 seen_is : (o : Option Entry) → seen (covered o) ≡ covered (present o)
 seen_is none = refl
 seen_is (some e) = by_t (reserved e) (λ t. rw t refl) (λ t. rw t refl)

@@ -2,7 +2,6 @@
 use Prim.Native.Nat.{ℕ, zero, suc, ◌+◌, ◌-◌, ◌/◌, ◌^◌, ◌≤◌, ◌<◌}
 use mathlib.Core.Path.{◌≡◌, refl, sym, ap, subst, ◌∙◌}
 use mathlib.Core.Bool.{Bool, true, false}
-use mathlib.Core.Logic.{◌≢◌}
 use mathlib.Core.List.{List, [], ◌∷◌}
 use mathlib.Core.Option.{none, some}
 use native.Mathlib.Omega.{arith}
@@ -17,23 +16,14 @@ use Rattle.model.specs.declared.Entry.{Entry}
 use Rattle.std.specs.Prelude.{None, Some}
 use Rattle.model.specs.Model.{covered}
 use Rattle.model.specs.Matches.{matches, meets, first_match}
-use Rattle.xaplain.specs.Moves.{Holds, Splits, Begins}
-use Rattle.xaplain.proofs.PlainLaws.{nth, in_nth, apart, index_at, order_at, word_at, marks_at, inside_run, past_run}
+use Rattle.xaplain.specs.Moves.{Holds, Begins}
+use Rattle.xaplain.proofs.PlainLaws.{nth, in_nth, apart, index_at, inside_run, past_run}
 
 -- the code's test of a run's end
 pub reach_test : (a b o : ℕ) → b ≤ a → eqb ((a - b) / 2 ^ o) 0 ≡ ltb a (b + 2 ^ o)
 reach_test a b o h =
     by_t (eqb ((a - b) / 2 ^ o) 0) (λ t. t ∙ sym (lt-ltb a (b + 2 ^ o) (inside_run b a o h (eqb-true _ _ t))))
     (λ t. t ∙ sym (le-ltb a (b + 2 ^ o) (past_run b a o h (eqb-false _ _ t))))
-
-pub begins : (xs : List ℕ) (n a r : ℕ) → Splits xs n a r → r ≢ 0 → Begins xs n a (r - 1)
-begins xs n a r s z = record {
-  within = omega (arith, s.within);
-  before = λ k h. (omega (arith, s.within, z), s.low (k + 1) (omega (arith, z)));
-}
-
-pub begins_first : (xs : List ℕ) (n a : ℕ) → Begins xs n a 0
-begins_first xs n a = record { within = omega arith; before = λ k h. absurd (omega arith) }
 
 -- the first that passes
 first_nth : (q : Entry → Bool) (l : List Entry) (k : ℕ) → k < length l → ((j : ℕ) → j < k → q (nth l j) ≡ false) → q (nth l k) ≡ true →

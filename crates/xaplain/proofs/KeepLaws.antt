@@ -27,8 +27,7 @@ use Rattle.xaplain.specs.Slices.{slices, column, columns, list_of, init_slices, 
 use Rattle.xaplain.specs.Moves.{Holds, Columns, Counts}
 use Rattle.xaplain.specs.Engine.{xaplain, execute}
 use Rattle.xaplain.specs.Executes.{Turned, Executes}
-use Rattle.xaplain.proofs.ColumnLaws.{list_ext, column_length}
-use Rattle.xaplain.proofs.PlainLaws.{blank, column_nth}
+use Rattle.xaplain.proofs.ColumnLaws.{column_length}
 use Rattle.xaplain.proofs.CheckLaws.{Words, Prescribes, yes, only}
 use Rattle.xaplain.proofs.LoopLaws.{count_is, sized_lengths}
 use Rattle.xaplain.proofs.CommandLaws.{find_list}

@@ -1,5 +1,5 @@
 -- A store into the larger entry over its index.
-use Prim.Native.Nat.{ℕ, zero, suc, ◌+◌, ◌-◌, ◌*◌, ◌/◌, ◌%◌, ◌^◌, ◌≤◌, ◌<◌}
+use Prim.Native.Nat.{ℕ, zero, suc, ◌<◌}
 use mathlib.Core.Path.{◌≡◌, refl, sym, ap, ◌∙◌}
 use mathlib.Core.Bool.{Bool, true, false}
 use mathlib.Core.List.{List, [], ◌∷◌, map}
@@ -9,14 +9,14 @@ use lib.Dec.{leb, ltb}
 use lib.ListN.{length, get_or, set}
 use borrow.Author.Tests.{ltb-true, ltb-false, le-leb, leb-true}
 use Rattle.blocks.specs.Choice.{pick}
-use Rattle.blocks.specs.Blocks.{bit, set_bit}
+use Rattle.blocks.specs.Blocks.{set_bit}
 use Rattle.blocks.specs.Lists.{any, In}
 use Rattle.blocks.proofs.BoolLaws.{by_t, is_false, both_l, both_r}
 use Rattle.blocks.proofs.ListLaws.{look, each, any_none, in_any}
 use Rattle.blocks.proofs.PlacingLaws.{none_some}
 use Rattle.model.specs.declared.Entry.{Entry}
 use Rattle.model.specs.Model.{EntryOk, covers, covering, over, with_word, matched_mark}
-use Rattle.model.proofs.ValidLaws.{covers_i, covers_lo, covers_hi, sorted_ok, sole}
+use Rattle.model.proofs.ValidLaws.{covers_lo, covers_hi, sole}
 use Rattle.xaplain.specs.Slices.{column}
 use Rattle.xaplain.specs.Moves.{Holds, Columns}
 use Rattle.xaplain.specs.Stores.{Over, NoneOver, uncovered, smaller, entry_with}
@@ -30,10 +30,6 @@ use Rattle.xaplain.proofs.PlainLaws.{
   entry_ok,
 }
 use Rattle.xaplain.proofs.PlaceLaws.{place_none, place_in, place_some, covering_covers}
-
--- mark 2 of three
-pub clear_matched : (m : ℕ) → m < 8 → m % 4 ≡ set_bit matched_mark false m
-clear_matched m h = let e : bit 2 m * 2 ^ 2 ≡ m / 4 * 4 = omega arith in omega (arith, e)
 
 -- THE SEARCH
 module _ {index order word marks : List ℕ} {n : ℕ} (h : Holds index order word marks n) (i k : ℕ) where

@@ -11,7 +11,7 @@ use borrow.Author.Tests.{lt-ltb, le-ltb, le-leb, leb-false, eqb-true}
 use Rattle.blocks.specs.Choice.{pick}
 use Rattle.blocks.specs.Blocks.{block, set_bit}
 use Rattle.blocks.specs.Lists.{any}
-use Rattle.blocks.proofs.BoolLaws.{by_t, clash}
+use Rattle.blocks.proofs.BoolLaws.{clash}
 use Rattle.blocks.proofs.ListLaws.{All-map, All-without, any_no}
 use Rattle.blocks.proofs.BlockLaws.{block_up, block_lo, block_hi}
 use Rattle.answers.specs.Answers.{bad_order, not_aligned, bad_entry, is_covered}

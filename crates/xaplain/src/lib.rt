@@ -72,7 +72,11 @@ fn place(index: &[u64], order: &[u64], n: usize, i: u64) -> Option<usize>
     ensures { Placed index.now order.now n i result }
 {
     let k = position(index, n, i).checked_sub(1)?;
-    if (i - index[k]) >> order[k] == 0 { Some(k) } else { None }
+    if (i - index[k]) >> order[k] == 0 {
+        Some(k)
+    } else {
+        None
+    }
 }
 
 fn entry_at(index: &[u64], order: &[u64], word: &[u64], marks: &[u64], k: usize) -> Entry

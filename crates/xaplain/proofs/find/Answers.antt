@@ -44,8 +44,8 @@ pub loop-k-preserved : goal.loop-k-preserved
 loop-k-preserved c =
     let k = c.loop-k.k in let g = c.loop-k-test.true in let e = c.entry_at-e.result in
     let t : both (matches c.args.f e) (ltb c.args.a (e.base + 2 ^ e.order)) ≡ false = elim c.else-accepts.branch [
-      else-accepts-via-then-accepts+else-reaches w ↦ rw (sym w.reaches.ensures ∙ w.if-reaches.false) (both_no (matches c.args.f e))
-    | else-accepts-via-else-accepts w ↦ rw (sym c.accepts.ensures ∙ w.if-accepts.false) refl
+      | else-accepts-via-then-accepts+else-reaches w ↦ rw (sym w.reaches.ensures ∙ w.if-reaches.false) (both_no (matches c.args.f e))
+      | else-accepts-via-else-accepts w ↦ rw (sym c.accepts.ensures ∙ w.if-accepts.false) refl
     ] in (
       omega arith,
       (λ h. below_more (λ j. meets c.args.f c.args.a c.args.z (nth h.list j) ≡ false) k (c.loop-k.invariant.1 h)

@@ -1,11 +1,10 @@
 use Prim.Native.Nat.{ℕ, ◌+◌, ◌^◌, ◌<◌}
-use mathlib.Core.Bool.{true, false}
+use mathlib.Core.Bool.{true}
 use mathlib.Core.Path.{◌≡◌, sym, ap, ◌∙◌}
 use native.Mathlib.Omega.{arith}
 use lib.Dec.{leb}
-use lib.ListN.{get_or}
 use Rattle.model.specs.declared.Entry.{Entry}
-use Rattle.xaplain.specs.Slices.{in_order, fits_entry, entry_at}
+use Rattle.xaplain.specs.Slices.{in_order, fits_entry}
 use Rattle.xaplain.specs.Moves.{low_of}
 use Rattle.xaplain.proofs.LoopLaws.{rest_list, list_start, order_low, order_bad, order_on, order_end, last_fits, next_low}
 use Rattle.xaplain.proofs.in_order.Goals as goal
