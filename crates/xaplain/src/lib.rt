@@ -5,19 +5,18 @@
 
 ghost use Rattle.std.specs.Prelude.{leb, ltb, ◌≡◌, ℕ, ◌+◌, ◌-◌, ◌^◌, ◌≤◌, ◌<◌, length, get_or, set, true, false};
 ghost use Rattle.answers.specs.Answers.{answer_of, number_of};
-ghost use Rattle.blocks.specs.Choice.{both};
 ghost use Rattle.blocks.specs.Blocks.{set_bit};
-ghost use Rattle.model.specs.Model.{covering, covered, store_new, mark_count, over, store, aligned, max_order, matched_mark};
-ghost use Rattle.model.specs.Matches.{first_match};
+ghost use Rattle.model.specs.Model.{covering, covered, store_new, mark_count, over, store, aligned, max_order, matched_mark, is_word_ok};
+ghost use Rattle.model.specs.Matches.{matches, first_match};
 ghost use Rattle.xaplain.specs.Slices.{slices, entry_at, check_answer, init_answer, init_slices, fits_entry};
 ghost use Rattle.xaplain.specs.Slices.{rest_zero, in_order, list_of, all_zero, holds_list, sized_as};
 ghost use Rattle.xaplain.specs.Moves.{Rising, Splits, Searchable, Placed, Closed, removed, seen, found_reply, remarking};
 ghost use Rattle.xaplain.specs.Moves.{Holds, Opened, Pulled, Cleared, Spliced, Columns, replaced, Counts};
-ghost use Rattle.xaplain.specs.Moves.{entry_fits, low_of, Parts, any_from, kept_from, Begins, accepts_by};
+ghost use Rattle.xaplain.specs.Moves.{low_of, Parts, any_from, kept_from, Begins};
 ghost use Rattle.xaplain.specs.Engine.{execute};
 ghost use Rattle.xaplain.specs.Executes.{Executes};
 ghost use Rattle.blocks.specs.Lists.{any};
-ghost use Rattle.xaplain.specs.Stores.{over_at, entry_with, Stores, turned_by, refused_by};
+ghost use Rattle.xaplain.specs.Stores.{Larger, entry_with, Stores, turned_by, refused_by};
 
 use answers::Answer;
 use batch::{Command, Reply};
@@ -25,7 +24,7 @@ use commands::{
     ERASE_REPLY, FIND_REPLY, LOAD_REPLY, RESERVE_REPLY, STORE_REPLY, answered, answered_by,
     covered_reply, is_aligned, is_storable, remarked_tag,
 };
-use model::{Covered, Entry, RESERVED};
+use model::{Entry, RESERVED, is_reserved};
 use words::with_bit;
 
 // The most entries that the slices may have room for.
@@ -33,6 +32,10 @@ pub const MAX_ROOM: usize = 4096;
 
 // The highest order of an entry.
 const MAX_ORDER: u64 = 63;
+
+const MARKS: u64 = 3;
+
+const ANY_MARK: u64 = 3;
 
 // Mark 2, which no store hands on (R190), is worth this; marks 0 and 1 are below it.
 const MATCHED_BIT: u64 = 4;
@@ -44,45 +47,33 @@ pub struct Turned {
     pub count: usize,
 }
 
-// What a store comes to: too little room; or what covers its index then, and the number of entries.
+// What a store comes to: the entry that covers its index then, and the number of entries.
 #[derive(Clone, Copy)]
-enum Stored {
-    Short,
-    Done(Covered, usize),
+struct Stored {
+    entry: Entry,
+    count: usize,
 }
 
-// How many of the first n entries start at i or before: by halves.
+// How many of the first n entries start at i or before.
 pub fn position(index: &[u64], n: usize, i: u64) -> usize
     requires n_in_bounds { n ≤ length index.now }
     requires rising { Rising index.now n }
     ensures { Splits index.now n i result }
 {
-    let mut low: usize = 0;
-    let mut high = n;
-    while low < high {
-        let mid = low + (high - low) / 2;
-        if index[mid] <= i {
-            low = mid + 1;
-        } else {
-            high = mid;
-        }
-    }
-    low
+    index[..n].partition_point(|x| *x <= i)
 }
 
-// One more than the number of the entry over i, or 0 where none is.
-fn place(index: &[u64], order: &[u64], n: usize, i: u64) -> usize
+// The number of the entry over i: the last that starts at i or before, if it reaches i.
+fn place(index: &[u64], order: &[u64], n: usize, i: u64) -> Option<usize>
     requires { Searchable index.now order.now n }
     ensures { Placed index.now order.now n i result }
 {
-    let p = position(index, n, i);
-    if p == 0 {
-        return 0;
+    let k = position(index, n, i).checked_sub(1)?;
+    if (i - index[k]) >> order[k] == 0 {
+        Some(k)
+    } else {
+        None
     }
-    if (i - index[p - 1]) >> order[p - 1] != 0 {
-        return 0;
-    }
-    p
 }
 
 fn entry_at(index: &[u64], order: &[u64], word: &[u64], marks: &[u64], k: usize) -> Entry
@@ -105,16 +96,13 @@ pub fn covering(
     marks: &[u64],
     n: usize,
     i: u64,
-) -> Covered
+) -> Option<Entry>
     requires { Holds index.now order.now word.now marks.now n }
     ensures { (h : Holds index.now order.now word.now marks.now n) →
         result ≡ covered (covering h.list i) }
 {
-    let p = place(index, order, n, i);
-    if p == 0 {
-        return Covered::Nothing;
-    }
-    Covered::By(entry_at(index, order, word, marks, p - 1))
+    let k = place(index, order, n, i)?;
+    Some(entry_at(index, order, word, marks, k))
 }
 
 // Moves the places from p to n - 1 one up.
@@ -123,10 +111,8 @@ fn open(xs: &mut [u64], p: usize, n: usize)
     requires n_in_bounds { n < length xs.old }
     ensures { Opened xs.old xs.new p n }
 {
-    let mut k = n;
-    while p < k {
-        xs[k] = xs[k - 1];
-        k = k - 1;
+    for k in (p..n).rev() {
+        xs[k + 1] = xs[k];
     }
 }
 
@@ -136,10 +122,8 @@ fn pull(xs: &mut [u64], a: usize, q: usize, n: usize)
     requires n_in_bounds { n ≤ length xs.old }
     ensures { Pulled xs.old xs.new a q n }
 {
-    let mut k: usize = 0;
-    while k < n - q {
+    for k in 0..n - q {
         xs[a + k] = xs[q + k];
-        k += 1;
     }
 }
 
@@ -149,11 +133,7 @@ fn clear(xs: &mut [u64], a: usize, n: usize)
     requires n_in_bounds { n ≤ length xs.old }
     ensures { Cleared xs.old xs.new a n }
 {
-    let mut k = a;
-    while k < n {
-        xs[k] = 0;
-        k += 1;
-    }
+    xs[a..n].fill(0);
 }
 
 // Puts v for the places from p to q - 1 of n, and zeros after the last.
@@ -201,56 +181,31 @@ fn put(
 pub fn count(word: &[u64]) -> usize
     ensures { Counts word.now result }
 {
-    let mut k: usize = 0;
-    while k < word.len() {
-        if word[k] == 0 {
-            return k;
-        }
-        k += 1;
-    }
-    k
+    word.iter().position(|w| *w == 0).unwrap_or(word.len())
 }
 
-// Whether a word may stand in an entry: a storable one, or a reservation's, of order 0 and without marks.
-fn word_fits(order: u64, word: u64, marks: u64) -> bool
-    ensures { result ≡ entry_fits order word marks }
+// Whether its word may stand in an entry: a storable one, or a reservation's, of order 0 and without marks.
+fn word_fits(e: Entry) -> bool
+    ensures { result ≡ is_word_ok e }
 {
-    if word == RESERVED {
-        if order != 0 {
-            return false;
-        }
-        return marks == 0;
-    }
-    if word == 0 {
-        return false;
-    }
-    word % 4 != 2
+    is_storable(e.word) || (is_reserved(e) && e.order == 0 && e.marks == 0)
 }
 
 // Whether an entry is one that a list may hold.
-fn fits(base: u64, order: u64, word: u64, marks: u64) -> bool
-    ensures { result ≡ fits_entry (record { base = base; order = order; word = word; marks = marks }) }
+fn fits(e: Entry) -> bool
+    ensures { result ≡ fits_entry e }
 {
-    if 63 < order {
-        return false;
-    }
-    if base % (1u64 << order) != 0 {
-        return false;
-    }
-    if !word_fits(order, word, marks) {
-        return false;
-    }
-    marks < 8
+    e.order <= MAX_ORDER && is_aligned(e.base, e.order) && word_fits(e) && e.marks < 8
 }
 
-// Whether an entry starts after the last index of the one before it.
-fn follows(k: usize, last: u64, base: u64) -> bool
-    ensures { result ≡ leb (low_of k last) base }
+// Whether an entry starts after the last index of the one before it, if there is one.
+fn follows(last: Option<u64>, base: u64) -> bool
+    ensures { result ≡ leb (low_of last) base }
 {
-    if k == 0 {
-        return true;
+    match last {
+        None => true,
+        Some(last) => last < base,
     }
-    last < base
 }
 
 // Whether zeros stand from a place on.
@@ -258,14 +213,7 @@ fn rest_zero(xs: &[u64], a: usize) -> bool
     requires { a ≤ length xs.now }
     ensures { result ≡ rest_zero xs.now a }
 {
-    let mut k = a;
-    while k < xs.len() {
-        if xs[k] != 0 {
-            return false;
-        }
-        k += 1;
-    }
-    true
+    xs[a..].iter().all(|x| *x == 0)
 }
 
 // Whether the first n entries are a list.
@@ -274,19 +222,16 @@ fn in_order(index: &[u64], order: &[u64], word: &[u64], marks: &[u64], n: usize)
     requires counts { Counts word.now n }
     ensures { result ≡ in_order 0 (list_of index.now order.now word.now marks.now) }
 {
-    let mut k: usize = 0;
-    let mut last: u64 = 0;
-    while k < n {
-        let base = index[k];
-        let o = order[k];
-        if !follows(k, last, base) {
+    let mut last = None;
+    for k in 0..n {
+        let e = entry_at(index, order, word, marks, k);
+        if !follows(last, e.base) {
             return false;
         }
-        if !fits(base, o, word[k], marks[k]) {
+        if !fits(e) {
             return false;
         }
-        last = base + ((1u64 << o) - 1);
-        k += 1;
+        last = Some(e.base + ((1u64 << e.order) - 1));
     }
     true
 }
@@ -297,16 +242,7 @@ fn all_zero(index: &[u64], order: &[u64], word: &[u64], marks: &[u64], n: usize)
     requires n_in_bounds { n ≤ length index.now }
     ensures { result ≡ all_zero index.now order.now word.now marks.now n }
 {
-    if !rest_zero(index, n) {
-        return false;
-    }
-    if !rest_zero(order, n) {
-        return false;
-    }
-    if !rest_zero(word, n) {
-        return false;
-    }
-    rest_zero(marks, n)
+    rest_zero(index, n) && rest_zero(order, n) && rest_zero(word, n) && rest_zero(marks, n)
 }
 
 // Whether four slices of one length hold a list and then zeros.
@@ -315,26 +251,15 @@ fn holds(index: &[u64], order: &[u64], word: &[u64], marks: &[u64]) -> bool
     ensures { result ≡ holds_list index.now order.now word.now marks.now }
 {
     let n = count(word);
-    if !in_order(index, order, word, marks, n) {
-        return false;
-    }
-    all_zero(index, order, word, marks, n)
+    in_order(index, order, word, marks, n) && all_zero(index, order, word, marks, n)
 }
 
 // Whether the slices are of one length, at most 4,096.
 fn sized(index: &[u64], order: &[u64], word: &[u64], marks: &[u64]) -> bool
     ensures { result ≡ sized_as index.now order.now word.now marks.now }
 {
-    if index.len() > MAX_ROOM {
-        return false;
-    }
-    if order.len() != index.len() {
-        return false;
-    }
-    if word.len() != index.len() {
-        return false;
-    }
-    marks.len() == index.len()
+    let room = index.len();
+    room <= MAX_ROOM && order.len() == room && word.len() == room && marks.len() == room
 }
 
 // Whether the slices hold a list: answers 0, 1 or 2.
@@ -359,11 +284,10 @@ pub fn init(index: &mut [u64], order: &mut [u64], word: &mut [u64], marks: &mut 
     if !sized(index, order, word, marks) {
         return Err(Answer::PoolLength);
     }
-    let room = index.len();
-    clear(index, 0, room);
-    clear(order, 0, room);
-    clear(word, 0, room);
-    clear(marks, 0, room);
+    index.fill(0);
+    order.fill(0);
+    word.fill(0);
+    marks.fill(0);
     Ok(())
 }
 
@@ -373,10 +297,7 @@ fn starts_below(index: &[u64], n: usize, i: u64) -> usize
     requires rising { Rising index.now n }
     ensures { Parts index.now n i result }
 {
-    if i == 0 {
-        return 0;
-    }
-    position(index, n, i - 1)
+    index[..n].partition_point(|x| *x < i)
 }
 
 // Whether an entry from p to q - 1 has mark m.
@@ -385,14 +306,7 @@ fn any_mark(marks: &[u64], p: usize, q: usize, m: u64) -> bool
     requires m_bound { m < 64 }
     ensures { result ≡ any_from marks.now m (q - p) p }
 {
-    let mut k = p;
-    while k < q {
-        if (marks[k] >> m) % 2 == 1 {
-            return true;
-        }
-        k += 1;
-    }
-    false
+    marks[p..q].iter().any(|x| (*x >> m) % 2 == 1)
 }
 
 // Marks 0 and 1 of the entries from p to q - 1.
@@ -400,18 +314,7 @@ fn kept(marks: &[u64], p: usize, q: usize) -> u64
     requires { (p ≤ q) × (q ≤ length marks.now) }
     ensures { result ≡ kept_from marks.now (q - p) p }
 {
-    let a = any_mark(marks, p, q, 0);
-    let b = any_mark(marks, p, q, 1);
-    if a {
-        if b {
-            return 3;
-        }
-        return 1;
-    }
-    if b {
-        return 2;
-    }
-    0
+    u64::from(any_mark(marks, p, q, 0)) + 2 * u64::from(any_mark(marks, p, q, 1))
 }
 
 // A store that replaces what starts in its range, where no entry over i has its order or more.
@@ -424,7 +327,7 @@ fn store_new(
     i: u64,
     k: u64,
     w: u64,
-) -> Stored
+) -> Option<Stored>
     requires holds { Holds index.old order.old word.old marks.old n }
     requires k_le_max_order { (k ≤ max_order) × (aligned k i ≡ true) }
     requires list_value { (h : Holds index.old order.old word.old marks.old n) → any (over i k) h.list ≡ false }
@@ -436,33 +339,25 @@ fn store_new(
     let q = position(index, n, last);
     let count = p + 1 + (n - q);
     if index.len() < count {
-        return Stored::Short;
+        return None;
     }
-    let m = kept(marks, p, q);
-    let e = Entry {
+    let entry = Entry {
         base: i,
         order: k,
         word: w,
-        marks: m,
+        marks: kept(marks, p, q),
     };
-    put(index, order, word, marks, p, q, n, e);
-    Stored::Done(Covered::By(e), count)
+    put(index, order, word, marks, p, q, n, entry);
+    Some(Stored { entry, count })
 }
 
-// Whether the entry before place p is over i and has order k or more.
-fn is_over(index: &[u64], order: &[u64], p: usize, i: u64, k: u64) -> bool
-    requires p_in_bounds { (p ≤ length index.now) × (p ≤ length order.now) }
-    requires p_bound { 0 < p → (get_or index.now (p - 1) 0 ≤ i) × (get_or order.now (p - 1) 0 < 64) }
-    ensures { result ≡ over_at index.now order.now p i k }
+// The number of the entry over i, if its order is k or more.
+fn larger(index: &[u64], order: &[u64], n: usize, i: u64, k: u64) -> Option<usize>
+    requires { Searchable index.now order.now n }
+    ensures { Larger index.now order.now n i k result }
 {
-    if p == 0 {
-        return false;
-    }
-    let o = order[p - 1];
-    if (i - index[p - 1]) >> o != 0 {
-        return false;
-    }
-    k <= o
+    let j = place(index, order, n, i)?;
+    if k <= order[j] { Some(j) } else { None }
 }
 
 // The entry at place j takes a word, and loses mark 2 (R190).
@@ -501,18 +396,19 @@ fn store(
     i: u64,
     k: u64,
     w: u64,
-) -> Stored
+) -> Option<Stored>
     requires holds { Holds index.old order.old word.old marks.old n }
     requires k_le_max_order { (k ≤ max_order) × (aligned k i ≡ true) }
     ensures { (h : Holds index.old order.old word.old marks.old n) →
         Stores h i (store h.list i k w) result index.new order.new word.new marks.new }
 {
-    let p = position(index, n, i);
-    if is_over(index, order, p, i, k) {
-        let e = store_over(index, order, word, marks, p - 1, w);
-        return Stored::Done(Covered::By(e), n);
+    match larger(index, order, n, i, k) {
+        Some(j) => {
+            let entry = store_over(index, order, word, marks, j, w);
+            Some(Stored { entry, count: n })
+        }
+        None => store_new(index, order, word, marks, n, i, k, w),
     }
-    store_new(index, order, word, marks, n, i, k, w)
 }
 
 // A command that is refused: the entries stay.
@@ -526,14 +422,14 @@ fn refused(tag: u64, answer: Answer, n: usize) -> Turned
 }
 
 // What a command that stores comes to; n: the number of entries before it.
-fn stored_turn(tag: u64, n: usize, s: Stored) -> Turned
+fn stored_turn(tag: u64, n: usize, s: Option<Stored>) -> Turned
     ensures { result ≡ turned_by tag n s }
 {
     match s {
-        Stored::Short => refused(tag, Answer::TooFewNodes, n),
-        Stored::Done(c, m) => Turned {
-            reply: covered_reply(tag, c),
-            count: m,
+        None => refused(tag, Answer::TooFewNodes, n),
+        Some(s) => Turned {
+            reply: answered_by(tag, s.entry, 0),
+            count: s.count,
         },
     }
 }
@@ -580,48 +476,28 @@ pub fn run_reserve(
         Executes h (Command.Reserve i) result index.new order.new word.new marks.new }
 {
     match covering(index, order, word, marks, n, i) {
-        Covered::Nothing => {
+        None => {
             let s = store(index, order, word, marks, n, i, 0, RESERVED);
             stored_turn(RESERVE_REPLY, n, s)
         }
-        Covered::By(_) => refused(RESERVE_REPLY, Answer::Covered, n),
+        Some(_) => refused(RESERVE_REPLY, Answer::Covered, n),
     }
 }
 
 // Whether an entry's run reaches past a - 1.
-fn reaches(a: u64, base: u64, order: u64) -> bool
-    requires { order < 64 }
-    ensures { result ≡ ltb a (base + 2 ^ order) }
+fn reaches(a: u64, e: Entry) -> bool
+    requires { e.order < 64 }
+    ensures { result ≡ ltb a (e.base + 2 ^ e.order) }
 {
-    if a < base {
-        return true;
-    }
-    (a - base) >> order == 0
+    a < e.base || (a - e.base) >> e.order == 0
 }
 
-// Whether a filter accepts an entry: no reservation, and any mark (3) or the one named.
-fn accepts(f: u64, word: u64, marks: u64) -> bool
+// Whether a filter accepts an entry: no reservation, and any mark or the one named.
+fn accepts(f: u64, e: Entry) -> bool
     requires { f < 64 }
-    ensures { result ≡ accepts_by f word marks }
+    ensures { result ≡ matches f e }
 {
-    if word == RESERVED {
-        return false;
-    }
-    if f == 3 {
-        return true;
-    }
-    (marks >> f) % 2 == 1
-}
-
-// Whether a filter accepts an entry that reaches past a - 1.
-fn hits(f: u64, a: u64, base: u64, order: u64, word: u64, marks: u64) -> bool
-    requires { (order < 64) × (f < 64) }
-    ensures { result ≡ both (accepts_by f word marks) (ltb a (base + 2 ^ order)) }
-{
-    if !accepts(f, word, marks) {
-        return false;
-    }
-    reaches(a, base, order)
+    !is_reserved(e) && (f == ANY_MARK || (e.marks >> f) % 2 == 1)
 }
 
 // Where a find from a begins: the last entry that starts at a or before, or the first.
@@ -630,11 +506,7 @@ fn begin(index: &[u64], n: usize, a: u64) -> usize
     requires rising { Rising index.now n }
     ensures { Begins index.now n a result }
 {
-    let p = position(index, n, a);
-    if p == 0 {
-        return 0;
-    }
-    p - 1
+    position(index, n, a).saturating_sub(1)
 }
 
 /// The first entry in index order that a filter accepts and whose run meets a to z.
@@ -647,39 +519,25 @@ pub fn find(
     a: u64,
     z: u64,
     f: u64,
-) -> Covered
+) -> Option<Entry>
     requires holds { Holds index.now order.now word.now marks.now n }
     requires f_bound { f < 64 }
     ensures { (h : Holds index.now order.now word.now marks.now n) →
         result ≡ covered (first_match h.list a z f) }
 {
-    let mut k = begin(index, n, a);
-    while k < n {
-        let base = index[k];
-        if z < base {
-            return Covered::Nothing;
+    for k in begin(index, n, a)..n {
+        let e = entry_at(index, order, word, marks, k);
+        if z < e.base {
+            return None;
         }
-        let o = order[k];
-        let w = word[k];
-        let m = marks[k];
-        if hits(f, a, base, o, w, m) {
-            return Covered::By(Entry {
-                base: base,
-                order: o,
-                word: w,
-                marks: m,
-            });
+        if accepts(f, e) && reaches(a, e) {
+            return Some(e);
         }
-        k += 1;
     }
-    Covered::Nothing
+    None
 }
 
 // COMMANDS
-
-const MARKS: u64 = 3;
-
-const ANY_MARK: u64 = 3;
 
 // What a find asks.
 #[derive(Clone, Copy)]
@@ -691,19 +549,10 @@ pub struct Sought {
 }
 
 // A reservation is absent to load, mark and unmark (R203).
-fn seen(c: Covered) -> Covered
+fn seen(c: Option<Entry>) -> Option<Entry>
     ensures { result ≡ seen c }
 {
-    match c {
-        Covered::Nothing => Covered::Nothing,
-        Covered::By(e) => {
-            if e.word == RESERVED {
-                Covered::Nothing
-            } else {
-                Covered::By(e)
-            }
-        }
-    }
+    c.filter(|e| e.word != RESERVED)
 }
 
 fn run_load(index: &[u64], order: &[u64], word: &[u64], marks: &[u64], n: usize, i: u64) -> Reply
@@ -715,12 +564,12 @@ fn run_load(index: &[u64], order: &[u64], word: &[u64], marks: &[u64], n: usize,
     covered_reply(LOAD_REPLY, c)
 }
 
-fn found_reply(c: Covered) -> Reply
+fn found_reply(c: Option<Entry>) -> Reply
     ensures { result ≡ found_reply c }
 {
     match c {
-        Covered::Nothing => answered(FIND_REPLY, Answer::Ended, 0, 0),
-        Covered::By(e) => answered_by(FIND_REPLY, e, 0),
+        None => answered(FIND_REPLY, Answer::Ended, 0, 0),
+        Some(e) => answered_by(FIND_REPLY, e, 0),
     }
 }
 
@@ -784,12 +633,11 @@ fn run_erase(
     ensures { (h : Holds index.old order.old word.old marks.old n) →
         Executes h (Command.Erase i) result index.new order.new word.new marks.new }
 {
-    let p = place(index, order, n, i);
-    if p == 0 {
+    let Some(k) = place(index, order, n, i) else {
         return refused(ERASE_REPLY, Answer::Absent, n);
-    }
-    let e = entry_at(index, order, word, marks, p - 1);
-    take_out(index, order, word, marks, p - 1, n);
+    };
+    let e = entry_at(index, order, word, marks, k);
+    take_out(index, order, word, marks, k, n);
     Turned {
         reply: answered_by(ERASE_REPLY, e, 0),
         count: n - 1,
@@ -815,27 +663,17 @@ fn run_remark(
     if m >= MARKS {
         return refused(tag, Answer::BadMark, n);
     }
-    let p = place(index, order, n, i);
-    if p == 0 {
+    let Some(k) = place(index, order, n, i) else {
         return refused(tag, Answer::Absent, n);
-    }
-    let e = entry_at(index, order, word, marks, p - 1);
+    };
+    let e = entry_at(index, order, word, marks, k);
     if e.word == RESERVED {
         return refused(tag, Answer::Absent, n);
     }
     let x = with_bit(e.marks, m, on);
-    marks[p - 1] = x;
+    marks[k] = x;
     Turned {
-        reply: answered_by(
-            tag,
-            Entry {
-                base: e.base,
-                order: e.order,
-                word: e.word,
-                marks: x,
-            },
-            0,
-        ),
+        reply: answered_by(tag, Entry { marks: x, ..e }, 0),
         count: n,
     }
 }

@@ -1,5 +1,4 @@
 -- `run_remark`: a mark or an unmark, its reply and the marks.
-use Prim.Native.Nat.{◌-◌}
 use mathlib.Core.Path.{refl, sym, ap, ◌∙◌}
 use native.Mathlib.Omega.{arith}
 use Rattle.model.specs.declared.Entry.{Entry}
@@ -13,25 +12,36 @@ pub returns-then-m-ge-MARKS : goal.returns-then-m-ge-MARKS
 returns-then-m-ge-MARKS c =
     λ h. remark_refused h c.args.i c.args.m c.args.on c.if-m-ge-MARKS.true c.remarked_tag-tag.ensures c.refused.ensures
 
-pub place-p-requires : goal.place-p-requires
-place-p-requires c =
-    searchable c.requires
+pub place-requires : goal.place-requires
+place-requires c = searchable c.requires
 
-pub returns-then-p-eq0 : goal.returns-then-p-eq0
-returns-then-p-eq0 c =
+pub returns-in_default : goal.returns-in_default
+returns-in_default c =
     λ h. remark_none h c.args.i c.args.m c.args.on c.if-m-ge-MARKS.false
-    (ap present (place_none h c.args.i c.place-p.result c.place-p.ensures c.if-p-eq0.true)) c.remarked_tag-tag.ensures c.refused-then-p-eq0.ensures
+    (ap present (place_none h c.args.i c.in_default.ensures)) c.remarked_tag-tag.ensures c.refused-in_default.ensures
 
 pub returns-then-e-eq-RESERVED : goal.returns-then-e-eq-RESERVED
 returns-then-e-eq-RESERVED c =
     λ h. remark_none h c.args.i c.args.m c.args.on c.if-m-ge-MARKS.false
-    (place_reserved h c.args.i c.place-p.result c.place-p.ensures c.if-p-eq0.false
+    (place_reserved h c.args.i c.in-Some.k c.in-Some.ensures
     (sym (ap (λ (e : Entry). e.word) c.entry_at-e.ensures) ∙ c.if-e-eq-RESERVED.true)) c.remarked_tag-tag.ensures c.refused-then-e-eq-RESERVED.ensures
+
+pub with_bit-x-requires : goal.with_bit-x-requires
+with_bit-x-requires c =
+    let h = c.requires in let k = c.in-Some.k in
+    let g = place_in h c.args.i k c.in-Some.ensures in (
+      c.if-m-ge-MARKS.false,
+      omega (
+        arith,
+        ap (λ (e : Entry). e.marks) c.entry_at-e.ensures,
+        marks_at h k g,
+        (entry_ok h k g).marks_fit,
+      ),
+    )
 
 pub returns : goal.returns
 returns c =
-    λ h. let a = c.args in let r =
-    c.place-p.result in let d = c.place-p.ensures in let p = c.if-p-eq0.false in
-    remarks h a.i a.m a.on c.if-m-ge-MARKS.false (r - 1) c.with_bit-x.result
-    (place_in h a.i r d p) (place_some h a.i r d p)
+    λ h. let a = c.args in let k = c.in-Some.k in let d = c.in-Some.ensures in
+    remarks h a.i a.m a.on c.if-m-ge-MARKS.false k c.with_bit-x.result
+    (place_in h a.i k d) (place_some h a.i k d)
     c.entry_at-e.result c.entry_at-e.ensures c.if-e-eq-RESERVED.false c.with_bit-x.ensures c.remarked_tag-tag.ensures c.answered_by.ensures refl
