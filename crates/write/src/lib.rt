@@ -57,12 +57,10 @@ fn join_all(pool: &mut [u64], nums: &[u64], index: u64, from: u64, to: u64)
     requires by_index { (u : ℕ) → from ≤ u → u ≤ to → last_place (get_or nums.now u 0) < length pool.old }
     ensures { pool.new ≡ Writes.joins nums.now index pool.old from (to - from) }
 {
-    let mut u = from;
-    while u < to {
+    for u in from..to {
         let p = nums[(u + 1) as usize];
         let c = nums[u as usize];
         join(pool, p, block_of(u, index) % SLOTS, c, u);
-        u = u + 1;
     }
 }
 
@@ -83,11 +81,8 @@ fn mark_all(pool: &mut [u64], nums: &[u64], m: u64, from: u64, to: u64)
     requires by_index { (u : ℕ) → from ≤ u → u ≤ to → last_place (get_or nums.now u 0) < length pool.old }
     ensures { pool.new ≡ Writes.marked nums.now m pool.old from (to + 1 - from) }
 {
-    let mut u = from;
-    while u <= to {
-        let n = nums[u as usize];
-        put_marks(pool, n, m);
-        u = u + 1;
+    for u in from..=to {
+        put_marks(pool, nums[u as usize], m);
     }
 }
 
@@ -147,11 +142,9 @@ fn free_slots(pool: &mut [u64], map: &mut [u64], top: u64, n: u64, o: u64, c: u6
     ensures pool_after { pool.new ≡ Writes.free_slots (Writes.free_tree top u) top n o pool.old c }
     ensures follows { Follows pool.old pool.new map.old map.new }
 {
-    let mut j = 0;
-    while j < c {
+    for j in 0..c {
         let w = slot_word(pool, n, o + j);
         free_slot(pool, map, top, w, u);
-        j = j + 1;
     }
 }
 
@@ -348,11 +341,8 @@ fn count_ones(pool: &mut [u64], nums: &[u64], from: u64, to: u64)
     requires by_index { (u : ℕ) → from ≤ u → u < to → last_place (get_or nums.now u 0) < length pool.old }
     ensures { pool.new ≡ Writes.ones nums.now pool.old from (to - from) }
 {
-    let mut u = from;
-    while u < to {
-        let n = nums[u as usize];
-        put_filled(pool, n, 1);
-        u = u + 1;
+    for u in from..to {
+        put_filled(pool, nums[u as usize], 1);
     }
 }
 
@@ -401,12 +391,9 @@ fn filled_in(pool: &[u64], n: u64, o: u64, c: u64) -> u64
     requires c_bound { o + c ≤ slots }
     ensures { (result ≡ Writes.filled_in pool.now n o c) × (result ≤ c) }
 {
-    let mut j = 0;
     let mut r = 0;
-    while j < c {
-        let w = slot_word(pool, n, o + j);
-        r = r + ((w != 0) as u64);
-        j = j + 1;
+    for j in 0..c {
+        r += u64::from(slot_word(pool, n, o + j) != 0);
     }
     r
 }
@@ -481,10 +468,8 @@ pub fn lay(nums: &[u64], path: &mut [u64], first: u64, v: u64, u: u64)
     requires { (v < u) × (u < top_tier) × (top_tier < length nums.now) × (top_tier < length path.old) }
     ensures { Laid nums.now path.new first v u }
 {
-    let mut t = u;
-    while t > v {
+    for t in v + 1..=u {
         path[t as usize] = nums[(u - t) as usize];
-        t = t - 1;
     }
     path[(u + 1) as usize] = first;
 }

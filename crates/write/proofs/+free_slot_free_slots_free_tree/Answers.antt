@@ -68,16 +68,13 @@ pub free_slot-returns-in-Reserved-clause-pool_after : goal.free_slot-returns-in-
 free_slot-returns-in-Reserved-clause-pool_after t c = still _ _ _ _ c.read_slot-s.ensures c.in-Reserved.is refl
 
 pub free_slots-loop-j-init : goal.free_slots-loop-j-init
-free_slots-loop-j-init t c = (omega arith, refl, refl, slots_start _ _ _ _ _, follows_same _ _)
+free_slots-loop-j-init t c = (slots_start _ _ _ _ _, follows_same _ _)
 
 pub free_slots-loop-j-preserved : goal.free_slots-loop-j-preserved
 free_slots-loop-j-preserved t c =
     let k = c.loop-j.invariant in (
-      omega arith,
-      c.free_slot.auto.pool ∙ k.1,
-      c.free_slot.auto.map ∙ k.2,
-      c.free_slot.ensures.pool_after ∙ rw c.slot_word-w.ensures (slots_step _ _ _ _ _ _ _ k.3),
-      follows_then k.4 c.free_slot.ensures.follows,
+      c.free_slot.ensures.pool_after ∙ rw c.slot_word-w.ensures (slots_step _ _ _ _ _ _ _ k.0),
+      follows_then k.1 c.free_slot.ensures.follows,
     )
 
 pub free_tree-returns-then-u-eq0-clause-pool_after : goal.free_tree-returns-then-u-eq0-clause-pool_after

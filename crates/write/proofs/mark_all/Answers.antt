@@ -17,13 +17,16 @@ unfolding marked
 stop ns m ws u to h = let e : to + 1 - u ≡ 0 = omega arith in rw e
 
 pub loop-u-preserved : goal.loop-u-preserved
-loop-u-preserved c = (
-  omega arith,
-  c.put_marks.auto.pool ∙ c.loop-u.invariant.1,
-  c.loop-u.invariant.2 ∙ step _ _ _ _ _ (omega arith) ∙ rw
-      c.put_marks.ensures,
-)
+loop-u-preserved c = c.loop-u.invariant ∙ step _ _ _ _ _ (omega arith) ∙ rw
+    c.put_marks.ensures
 
 pub returns : goal.returns
 returns c =
-    sym (c.loop-u.invariant.2 ∙ stop _ _ _ _ _ (omega arith))
+    sym (c.loop-u.invariant ∙ stop _ _ _ _ _ (omega arith))
+
+pub returns-2 : goal.returns-2
+returns-2 c =
+    let e : marked c.args.nums.now c.args.m c.loop-u.pool c.loop-u.u (c.args.to + 1 - c.loop-u.u) ≡ marked c.args.nums.now
+        c.args.m c.put_marks.new.pool (c.loop-u.u + 1) (c.args.to + 1 - (c.loop-u.u + 1)) = step _ _ _ _ _ (omega arith) ∙ rw
+        c.put_marks.ensures in
+    sym (c.loop-u.invariant ∙ (e ∙ stop _ _ _ _ _ (omega arith)))
