@@ -25,7 +25,7 @@ ghost use Rattle.calls.specs.Running.{Turned, Ends};
 use answers::{BAD_BATCH, DONE, FIRST_ABOVE_LAST, REPLY_SPACE, Result};
 use batch::{Command, Counted, REPLY_BYTES, Read};
 use freemap::MAP_WORDS;
-use listing::Listed;
+use listing::Short;
 
 const REPLY_SIZE: u64 = 24;
 
@@ -175,11 +175,11 @@ pub fn list(pool: &[u64], first: u64, last: u64, buffer: &mut [u8]) -> Result
     }
     let listed = listing::list(pool, first, last, buffer);
     match listed {
-        Listed::Short(k) => Result {
+        Err(Short { entries }) => Result {
             answer: REPLY_SPACE,
-            number: k,
+            number: entries,
         },
-        Listed::Done(k) => Result {
+        Ok(k) => Result {
             answer: DONE,
             number: k,
         },
