@@ -11,7 +11,7 @@ ghost use Rattle.commands.specs.Replies.{covered_reply};
 
 use answers::{ABSENT, DONE};
 use batch::Reply;
-use model::{Covered, Entry, shown_word};
+use model::{Entry, shown_word};
 use words::pow2;
 
 // The tags of replies: each its command's plus 128.
@@ -92,11 +92,11 @@ pub fn answered_by(tag: u64, e: Entry, count: u64) -> Reply
     }
 }
 
-pub fn covered_reply(tag: u64, c: Covered) -> Reply
+pub fn covered_reply(tag: u64, c: Option<Entry>) -> Reply
     ensures { result ≡ covered_reply tag c }
 {
     match c {
-        Covered::Nothing => answered(tag, ABSENT, 0, 0),
-        Covered::By(e) => answered_by(tag, e, 0),
+        None => answered(tag, ABSENT, 0, 0),
+        Some(e) => answered_by(tag, e, 0),
     }
 }

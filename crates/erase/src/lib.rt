@@ -27,7 +27,7 @@ use layout::{
 };
 use lookup::{Located, Spot, locate, order_of};
 use marks::climb;
-use model::Covered;
+use model::Entry;
 use words::pow2;
 
 // FREEING A NODE
@@ -240,7 +240,7 @@ fn remove(pool: &mut [u64], map: &mut [u64], i: u64, at: Spot)
 }
 
 // Takes out the entry that covers i; what it was. The nodes that it frees enter the map.
-pub fn erase(pool: &mut [u64], map: &mut [u64], i: u64) -> Covered
+pub fn erase(pool: &mut [u64], map: &mut [u64], i: u64) -> Option<Entry>
     requires well_formed { WellFormed pool.old }
     requires free_map { FreeMap pool.old map.old }
     ensures value { (s : WellFormed pool.old) → result ≡ covered (covering s.list i) }
@@ -250,16 +250,16 @@ pub fn erase(pool: &mut [u64], map: &mut [u64], i: u64) -> Covered
 {
     let k = locate(pool, i);
     match k {
-        Located::Apart => Covered::Nothing,
-        Located::Vacant(_, _, _) => Covered::Nothing,
+        Located::Apart => None,
+        Located::Vacant(_, _, _) => None,
         Located::AtHead(e) => {
             pool[HEAD_WORD] = 0;
             pool[MARKS_WORD] = 0;
-            Covered::By(e)
+            Some(e)
         }
         Located::InNode(e, at, _) => {
             remove(pool, map, i, at);
-            Covered::By(e)
+            Some(e)
         }
     }
 }

@@ -16,7 +16,7 @@ ghost use Rattle.marks.specs.Climb.{StandsAt};
 
 use layout::{MARKS_WORD, SLOTS, mark_word, owner_of, put_mark_word};
 use lookup::{Located, Spot, locate};
-use model::{Covered, Entry, is_reserved};
+use model::{Entry, is_reserved};
 use words::pow2;
 
 // Whether any slot of a node has the mark, by its mark word.
@@ -107,7 +107,7 @@ fn remarked(e: Entry, m: u64, on: bool) -> Entry
 }
 
 // Sets or clears mark m of the entry that covers i; the entry as it then stands. A reservation has no marks, and stays.
-pub fn set_mark(pool: &mut [u64], i: u64, m: u64, on: bool) -> Covered
+pub fn set_mark(pool: &mut [u64], i: u64, m: u64, on: bool) -> Option<Entry>
     requires well_formed { WellFormed pool.old }
     requires m_lt_mark_count { m < mark_count }
     ensures value { (s : WellFormed pool.old) → result ≡ covered (present (covering (remark s.list i m on) i)) }
@@ -116,21 +116,21 @@ pub fn set_mark(pool: &mut [u64], i: u64, m: u64, on: bool) -> Covered
 {
     let k = locate(pool, i);
     match k {
-        Located::Apart => Covered::Nothing,
-        Located::Vacant(_, _, _) => Covered::Nothing,
+        Located::Apart => None,
+        Located::Vacant(_, _, _) => None,
         Located::AtHead(e) => {
             if is_reserved(e) {
-                return Covered::Nothing;
+                return None;
             }
             mark_anchor(pool, m, on);
-            Covered::By(remarked(e, m, on))
+            Some(remarked(e, m, on))
         }
         Located::InNode(x, at, _) => {
             if is_reserved(x) {
-                return Covered::Nothing;
+                return None;
             }
             climb(pool, i, at, m, on);
-            Covered::By(remarked(x, m, on))
+            Some(remarked(x, m, on))
         }
     }
 }

@@ -14,7 +14,7 @@ use Rattle.blocks.specs.Lists.{first}
 use Rattle.blocks.proofs.BoolLaws.{by_t, clash, both_no}
 use Rattle.blocks.proofs.ListLaws.{first_none, each}
 use Rattle.model.specs.declared.Entry.{Entry}
-use Rattle.model.specs.declared.Covered.TheVariants.{Nothing, By}
+use Rattle.std.specs.Prelude.{None, Some}
 use Rattle.model.specs.Model.{covered}
 use Rattle.model.specs.Matches.{meets, first_match}
 use Rattle.xaplain.specs.Moves.{Holds, Splits, Begins, accepts_by}
@@ -59,7 +59,7 @@ module _ {index order word marks : List ℕ} {n : ℕ} (h : Holds index order wo
 
   module _ (k : ℕ) (before : (j : ℕ) → j < k → meets f a z (nth h.list j) ≡ false) where
     -- past last
-    pub find_past : k < n → z < get_or index k 0 → Nothing ≡ covered (first_match h.list a z f)
+    pub find_past : k < n → z < get_or index k 0 → None ≡ covered (first_match h.list a z f)
     find_past g lt = rw (none_nth (meets f a z) h.list (λ j b. by_t (ltb j k) (λ t. before j (ltb-true _ _ t))
         (λ t. let c : k ≤ j = ltb-false _ _ t in
         let le : get_or index k 0 ≤ (nth h.list j).base = by_t (ltb k j)
@@ -68,7 +68,7 @@ module _ {index order word marks : List ℕ} {n : ℕ} (h : Holds index order wo
         rw (lt-leb (nth h.list j).base z (omega arith)) (both_no (accepts_by f (nth h.list j).word (nth h.list j).marks)))))
 
     pub find_hit : k < n → get_or index k 0 ≤ z → both (accepts_by f (get_or word k 0) (get_or marks k 0)) (ltb a (get_or index k 0 + 2 ^ get_or order k 0)) ≡ true →
-        By (record { base = get_or index k 0; order = get_or order k 0; word = get_or word k 0; marks = get_or marks k 0 }) ≡ covered (first_match h.list a z f)
+        Some (record { base = get_or index k 0; order = get_or order k 0; word = get_or word k 0; marks = get_or marks k 0 }) ≡ covered (first_match h.list a z f)
     find_hit g le t =
         let t' = rw (index_at h k g, order_at h k g, word_at h k g, marks_at h k g) at t in
         let l' : (nth h.list k).base ≤ z = omega (arith, index_at h k g) in
@@ -87,5 +87,5 @@ module _ {index order word marks : List ℕ} {n : ℕ} (h : Holds index order wo
         let l' : (nth h.list k).base ≤ z = omega (arith, index_at h k g) in
         rw (le-leb (nth h.list k).base z l') t'
 
-    pub find_none : n ≤ k → Nothing ≡ covered (first_match h.list a z f)
+    pub find_none : n ≤ k → None ≡ covered (first_match h.list a z f)
     find_none g = rw (none_nth (meets f a z) h.list (λ j b. before j (omega (arith, h.count))))

@@ -16,8 +16,8 @@ use Rattle.blocks.proofs.ListLaws.{All-map, All-without, any_no}
 use Rattle.blocks.proofs.BlockLaws.{block_up, block_lo, block_hi}
 use Rattle.answers.specs.Answers.{bad_order, not_aligned, bad_entry, is_covered}
 use Rattle.model.specs.declared.Entry.{Entry}
-use Rattle.model.specs.declared.Covered.{Covered}
-use Rattle.model.specs.declared.Covered.TheVariants.{Nothing, By}
+use Rattle.std.specs.Prelude as rust
+use Rattle.std.specs.Prelude.{None, Some}
 use Rattle.model.specs.Model.{covers, covering, covered, starts_in, over, new_entry, store_new, store, with_word}
 use Rattle.model.specs.Model.{storable, reserved_word, aligned, max_order, matched_mark}
 use Rattle.model.proofs.ValidLaws.{covers_self}
@@ -66,7 +66,7 @@ module _ {is os ws ms : List ℕ} {n : ℕ} (h : Holds is os ws ms n) where
       columns = subst (λ (l : List Entry). Columns is os ws ms (length is) l) (sym (ap (λ (b : Bool). pick b h.list new) t)) stay;
     }
 
-    done : {is' os' ws' ms' : List ℕ} {c : Covered} {m : ℕ} → length new ≤ length is → c ≡ covered (covering new i) → m ≡ length new →
+    done : {is' os' ws' ms' : List ℕ} {c : rust.Option Entry} {m : ℕ} → length new ≤ length is → c ≡ covered (covering new i) → m ≡ length new →
         Columns is' os' ws' ms' (length is) new → Stores h i new (Done c m) is' os' ws' ms'
     done {is'} {os'} {ws'} {ms'} g d e q = let t : ltb (length is) (length new) ≡ false = le-ltb _ _ g in record {
       outcome = rw (d, e) (sym (ap (λ (b : Bool). pick b Short (Done (covered (covering new i)) (length new))) t));
@@ -81,12 +81,12 @@ module _ {is os ws ms : List ℕ} {n : ℕ} (h : Holds is os ws ms n) where
     pub new_done : {is' os' ws' ms' : List ℕ} (m : ℕ) → aligned k i ≡ true → any (over i k) h.list ≡ false →
         p + 1 + (n - q) ≤ length is → m ≡ kept_from ms (q - p) p →
         Columns is' os' ws' ms' (length is) (replaced p q (record { base = i; order = k; word = w; marks = m }) h.list) →
-        Stores h i (store_new h.list i k w) (Done (By (record { base = i; order = k; word = w; marks = m })) (p + 1 + (n - q))) is' os' ws' ms'
+        Stores h i (store_new h.list i k w) (Done (Some (record { base = i; order = k; word = w; marks = m })) (p + 1 + (n - q))) is' os' ws' ms'
     new_done {is'} {os'} {ws'} {ms'} m al free g e c =
         let z = new_length h i k w p q 0 k≤ a b in
         let f = new_marks h i k w p q m k≤ a b e in
         done i (store_new h.list i k w) (omega (arith, g, z))
-        (ap (λ (x : ℕ). By (record { base = i; order = k; word = w; marks = x })) f ∙ sym (ap covered (new_covering i k w h.list al free)))
+        (ap (λ (x : ℕ). Some (record { base = i; order = k; word = w; marks = x })) f ∙ sym (ap covered (new_covering i k w h.list al free)))
         (sym z) (subst (λ (y : List Entry). Columns is' os' ws' ms' (length is) y) (new_list h i k w p q m k≤ a b e) c)
 
   -- which is the store where no entry over the index has its order
@@ -98,15 +98,15 @@ module _ {is os ws ms : List ℕ} {n : ℕ} (h : Holds is os ws ms n) where
   -- into the larger entry
   pub stores_over : {e : Entry} {ws' ms' : List ℕ} (i k w p : ℕ) → Splits is n i p → over_at is os p i k ≡ true →
       e ≡ entry_with is os ms (p - 1) w → ws' ≡ set ws (p - 1) w → ms' ≡ set ms (p - 1) (set_bit matched_mark false (get_or ms (p - 1) 0)) →
-      Stores h i (store h.list i k w) (Done (By e) n) is os ws' ms'
+      Stores h i (store h.list i k w) (Done (Some e) n) is os ws' ms'
   stores_over {e} {ws'} {ms'} i k w p s t d a b =
       let j = over_place h i k p s t in
       let c = over_covers h i k p s t in
       let z : length (map (with_word i w) h.list) ≡ n = length-map h.list (with_word i w) ∙ h.count in
-      let q : By e ≡ covered (covering (map (with_word i w) h.list) i) =
-      ap By (d ∙ over_entry_lem h i w (p - 1) j c) ∙ sym (ap covered (over_covering h i w (p - 1) j c)) in
+      let q : Some e ≡ covered (covering (map (with_word i w) h.list) i) =
+      ap Some (d ∙ over_entry_lem h i w (p - 1) j c) ∙ sym (ap covered (over_covering h i w (p - 1) j c)) in
       let g : Columns is os ws' ms' (length is) (map (with_word i w) h.list) = rw (a, b) (over_columns h i w (p - 1) j c) in
-      subst (λ (l : List Entry). Stores h i l (Done (By e) n) is os ws' ms')
+      subst (λ (l : List Entry). Stores h i l (Done (Some e) n) is os ws' ms')
       (sym (ap (λ (b : Bool). pick b (map (with_word i w) h.list) (store_new h.list i k w)) (over_any h i k p s t)))
       (done i (map (with_word i w) h.list) (omega (arith, z, h.fits)) q (sym z) g)
 
@@ -165,21 +165,21 @@ module _ {is os ws ms : List ℕ} {n : ℕ} (h : Holds is os ws ms n) where
 
   -- a reservation, by what covers its index
   module _ (i : ℕ) where
-    pub reserve_some : (e : Entry) → By e ≡ covered (covering h.list i) →
+    pub reserve_some : (e : Entry) → Some e ≡ covered (covering h.list i) →
         execute (length is) h.list (Reserve i) ≡ refuse h.list 135 is_covered
     unfolding execute
     reserve_some e q = go (covering h.list i) q
       where
-        go : (o : Option Entry) → By e ≡ covered o → reserving (xaplain (length is)) 135 h.list i o ≡ refuse h.list 135 is_covered
+        go : (o : Option Entry) → Some e ≡ covered o → reserving (xaplain (length is)) 135 h.list i o ≡ refuse h.list 135 is_covered
         go none q = cc
         go (some x) q = refl
 
-    pub reserve_none : Nothing ≡ covered (covering h.list i) →
+    pub reserve_none : None ≡ covered (covering h.list i) →
         execute (length is) h.list (Reserve i) ≡ storing (xaplain (length is)) 135 h.list i (store h.list i 0 reserved_word)
     unfolding execute
     reserve_none q = go (covering h.list i) q
       where
-        go : (o : Option Entry) → Nothing ≡ covered o → reserving (xaplain (length is)) 135 h.list i o
+        go : (o : Option Entry) → None ≡ covered o → reserving (xaplain (length is)) 135 h.list i o
             ≡ storing (xaplain (length is)) 135 h.list i (store h.list i 0 reserved_word)
         go none q = refl
         go (some x) q = cc

@@ -1,10 +1,8 @@
 -- What the functions of this crate promise each other of slices, searches and moves.
-use Rattle.std.specs.Prelude.{ℕ, zero, suc, ◌+◌, ◌-◌, ◌/◌, ◌^◌, ◌≤◌, ◌<◌, ◌≡◌, ◌≢◌, Bool, true, false, not, List, [], ◌∷◌, ◌++◌, ltb, eqb, length, get_or, take, drop}
+use Rattle.std.specs.Prelude.{ℕ, zero, suc, ◌+◌, ◌-◌, ◌/◌, ◌^◌, ◌≤◌, ◌<◌, ◌≡◌, ◌≢◌, Bool, true, false, not, List, [], ◌∷◌, ◌++◌, ltb, eqb, length, get_or, take, drop, Option, None, Some}
 use Rattle.blocks.specs.Choice.{pick, both, either}
 use Rattle.blocks.specs.Blocks.{bit}
 use Rattle.model.specs.declared.Entry.{Entry}
-use Rattle.model.specs.declared.Covered.{Covered}
-use Rattle.model.specs.declared.Covered.TheVariants.{Nothing, By}
 use Rattle.model.specs.Model.{Valid, storable, reserved, reserved_word}
 use Rattle.model.specs.Matches.{any_mark}
 use Rattle.batch.specs.declared.Command.{Command}
@@ -150,14 +148,14 @@ accepts_by f w m = both (not (eqb w reserved_word)) (either (eqb f any_mark) (eq
 
 -- COMMANDS
 -- what load, mark and unmark see of what covers an index (R203)
-abbrev pub seen : Covered → Covered
-seen Nothing = Nothing
-seen (By e) = pick (reserved e) Nothing (By e)
+abbrev pub seen : Option Entry → Option Entry
+seen None = None
+seen (Some e) = pick (reserved e) None (Some e)
 
 -- a find's reply by what it found
-abbrev pub found_reply : Covered → Reply
-found_reply Nothing = answered 134 ended 0 0
-found_reply (By e) = answered_by 134 e 0
+abbrev pub found_reply : Option Entry → Reply
+found_reply None = answered 134 ended 0 0
+found_reply (Some e) = answered_by 134 e 0
 
 -- the command that sets a mark, or clears it
 abbrev pub remarking : (i m : ℕ) → Bool → Command

@@ -27,7 +27,7 @@ use commands::{
     ERASE_REPLY, FIND_REPLY, LOAD_REPLY, MARK_REPLY, RESERVE_REPLY, STORE_REPLY, UNMARK_REPLY,
     answered, answered_by, covered_reply, is_aligned, is_storable,
 };
-use model::{Covered, Entry, RESERVED};
+use model::{Entry, RESERVED};
 use words::pow2;
 
 // The most entries that the slices may have room for.
@@ -50,7 +50,7 @@ pub struct Turned {
 #[derive(Clone, Copy)]
 enum Stored {
     Short,
-    Done(Covered, usize),
+    Done(Option<Entry>, usize),
 }
 
 // How many of the first n entries start at i or before: by halves.
@@ -107,16 +107,16 @@ pub fn covering(
     marks: &[u64],
     n: usize,
     i: u64,
-) -> Covered
+) -> Option<Entry>
     requires { Holds index.now order.now word.now marks.now n }
     ensures { (h : Holds index.now order.now word.now marks.now n) →
         result ≡ covered (covering h.list i) }
 {
     let p = place(index, order, n, i);
     if p == 0 {
-        return Covered::Nothing;
+        return None;
     }
-    Covered::By(entry_at(index, order, word, marks, p - 1))
+    Some(entry_at(index, order, word, marks, p - 1))
 }
 
 // Moves the places from p to n - 1 one up.
@@ -448,7 +448,7 @@ fn store_new(
         marks: m,
     };
     put(index, order, word, marks, p, q, n, e);
-    Stored::Done(Covered::By(e), count)
+    Stored::Done(Some(e), count)
 }
 
 // Whether the entry before place p is over i and has order k or more.
@@ -512,7 +512,7 @@ fn store(
     let p = position(index, n, i);
     if is_over(index, order, p, i, k) {
         let e = store_over(index, order, word, marks, p - 1, w);
-        return Stored::Done(Covered::By(e), n);
+        return Stored::Done(Some(e), n);
     }
     store_new(index, order, word, marks, n, i, k, w)
 }
@@ -582,11 +582,11 @@ pub fn run_reserve(
         Executes h (Command.Reserve i) result index.new order.new word.new marks.new }
 {
     match covering(index, order, word, marks, n, i) {
-        Covered::Nothing => {
+        None => {
             let s = store(index, order, word, marks, n, i, 0, RESERVED);
             stored_turn(RESERVE_REPLY, n, s)
         }
-        Covered::By(_) => refused(RESERVE_REPLY, COVERED, n),
+        Some(_) => refused(RESERVE_REPLY, COVERED, n),
     }
 }
 
@@ -649,7 +649,7 @@ pub fn find(
     a: u64,
     z: u64,
     f: u64,
-) -> Covered
+) -> Option<Entry>
     requires holds { Holds index.now order.now word.now marks.now n }
     requires f_bound { f < 64 }
     ensures { (h : Holds index.now order.now word.now marks.now n) →
@@ -659,13 +659,13 @@ pub fn find(
     while k < n {
         let base = index[k];
         if z < base {
-            return Covered::Nothing;
+            return None;
         }
         let o = order[k];
         let w = word[k];
         let m = marks[k];
         if hits(f, a, base, o, w, m) {
-            return Covered::By(Entry {
+            return Some(Entry {
                 base: base,
                 order: o,
                 word: w,
@@ -674,7 +674,7 @@ pub fn find(
         }
         k += 1;
     }
-    Covered::Nothing
+    None
 }
 
 // COMMANDS
@@ -693,16 +693,16 @@ pub struct Sought {
 }
 
 // A reservation is absent to load, mark and unmark (R203).
-fn seen(c: Covered) -> Covered
+fn seen(c: Option<Entry>) -> Option<Entry>
     ensures { result ≡ seen c }
 {
     match c {
-        Covered::Nothing => Covered::Nothing,
-        Covered::By(e) => {
+        None => None,
+        Some(e) => {
             if e.word == RESERVED {
-                Covered::Nothing
+                None
             } else {
-                Covered::By(e)
+                Some(e)
             }
         }
     }
@@ -717,12 +717,12 @@ fn run_load(index: &[u64], order: &[u64], word: &[u64], marks: &[u64], n: usize,
     covered_reply(LOAD_REPLY, c)
 }
 
-fn found_reply(c: Covered) -> Reply
+fn found_reply(c: Option<Entry>) -> Reply
     ensures { result ≡ found_reply c }
 {
     match c {
-        Covered::Nothing => answered(FIND_REPLY, ENDED, 0, 0),
-        Covered::By(e) => answered_by(FIND_REPLY, e, 0),
+        None => answered(FIND_REPLY, ENDED, 0, 0),
+        Some(e) => answered_by(FIND_REPLY, e, 0),
     }
 }
 

@@ -1,7 +1,7 @@
 -- `covering`: what covers an index.
 use Prim.Native.Nat.{◌-◌}
 use mathlib.Core.Path.{sym, ap, ◌∙◌}
-use Rattle.model.specs.declared.Covered.TheVariants.{By}
+use Rattle.std.specs.Prelude.{Some}
 use Rattle.model.specs.Model.{covered}
 use Rattle.xaplain.proofs.PlaceLaws.{searchable, entry_is, place_none, place_in, place_some}
 use Rattle.xaplain.proofs.covering.Goals as goal
@@ -17,5 +17,5 @@ returns-then-p-eq0 c =
 pub returns : goal.returns
 returns c =
     λ h. let r = c.place-p.result in let d = c.place-p.ensures in let p = c.if-p-eq0.false in
-    ap By (c.entry_at.ensures ∙ entry_is h (r - 1) (place_in h c.args.i r d p)) ∙ sym (ap
+    ap Some (c.entry_at.ensures ∙ entry_is h (r - 1) (place_in h c.args.i r d p)) ∙ sym (ap
     covered (place_some h c.args.i r d p))
