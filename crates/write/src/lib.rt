@@ -106,8 +106,8 @@ fn fold_at(pool: &mut [u64], n: u64, m: u64, o: u64, c: u64)
     requires c_lt_slots { c < slots }
     ensures { pool.new ≡ Writes.fold_at pool.old (mark_place n m) o c }
 {
-    let w = mark_word(pool, n, m);
-    put_mark_word(pool, n, m, fold(w, o, c));
+    let w = fold(mark_word(pool, n, m), o, c);
+    put_mark_word(pool, n, m, w);
 }
 
 // Frees what the word of a slot leads to, of tier u. Each node that is freed enters the map.
@@ -119,17 +119,10 @@ fn free_slot(pool: &mut [u64], map: &mut [u64], top: u64, w: u64, u: u64)
     ensures pool_after { pool.new ≡ Writes.free_slot (Writes.free_tree top u) top pool.old w }
     ensures follows { Follows pool.old pool.new map.old map.new }
 {
-    let s = read_slot(w);
-    match s {
-        Slot::Child(n) => {
-            if n < top {
-                free_tree(pool, map, top, n, u);
-            }
+    if let Slot::Child(n) = read_slot(w) {
+        if n < top {
+            free_tree(pool, map, top, n, u);
         }
-        Slot::Empty => {}
-        Slot::Held => {}
-        Slot::Sibling(_) => {}
-        Slot::Reserved => {}
     }
 }
 
@@ -200,8 +193,7 @@ fn link(pool: &mut [u64], path: &[u64], index: u64, v: u64, top: u64)
     ensures { pool.new ≡ Writes.linked pool.old path.now index v top }
 {
     join_all(pool, path, index, v + 1, top);
-    let a = path[top as usize];
-    put_head(pool, a, top);
+    put_head(pool, path[top as usize], top);
 }
 
 // An entry that was the head goes to slot 0 of the lowest node of the chain.
@@ -211,8 +203,7 @@ fn put_bottom(pool: &mut [u64], chain: &[u64], h: u64, word: u64)
     ensures { pool.new ≡ Writes.bottomed pool.old chain.now h word }
 {
     if h == 0 {
-        let a = chain[1];
-        put_slot(pool, a, 0, word);
+        put_slot(pool, chain[1], 0, word);
     }
 }
 
@@ -283,24 +274,21 @@ pub fn settle(pool: &mut [u64], seat: Seat, word: u64)
     ensures { pool.new ≡ Writes.settled pool.old
         seat.node seat.slot seat.count word }
 {
-    let a = seat.node;
-    let f = filled_of(pool, a);
-    put_filled(pool, a, f + seat.count);
+    let f = filled_of(pool, seat.node);
+    put_filled(pool, seat.node, f + seat.count);
     put_entry(pool, seat, word);
 }
 
-// The three mark words of the entry's node: the marks of its slots give way to their OR in the first.
+// The three mark words of the entry's node: the marks of its slots give way to their OR in the first. Three calls, since a
+// loop over the marks takes as many lines, and an invariant.
 fn fold_all(pool: &mut [u64], seat: Seat)
     requires node_bound { last_place seat.node < length pool.old }
     requires slot_lt_slots { (seat.slot < slots) × (seat.count < slots) }
     ensures { pool.new ≡ Writes.fold_all pool.old seat.node seat.slot seat.count }
 {
-    let a = seat.node;
-    let o = seat.slot;
-    let c = seat.count;
-    fold_at(pool, a, 0, o, c);
-    fold_at(pool, a, 1, o, c);
-    fold_at(pool, a, 2, o, c);
+    fold_at(pool, seat.node, 0, seat.slot, seat.count);
+    fold_at(pool, seat.node, 1, seat.slot, seat.count);
+    fold_at(pool, seat.node, 2, seat.slot, seat.count);
 }
 
 // How many slots an entry takes.
@@ -324,12 +312,10 @@ pub fn seat_of(target: Target, node: u64) -> Seat
     ensures value { result ≡ Writes.seat_of target.index target.order node }
     ensures count_bound { (result.slot + result.count ≤ slots) × (1 ≤ result.count) × (result.count < slots) }
 {
-    let c = width_of(target.order);
-    let o = offset_of(target);
     Seat {
-        node: node,
-        slot: o,
-        count: c,
+        node,
+        slot: offset_of(target),
+        count: width_of(target.order),
         tier: target.order / SLOT_BITS,
     }
 }
