@@ -74,14 +74,13 @@ fn put_marks(pool: &mut [u64], n: u64, m: u64)
     put_mark_word(pool, n, 2, m / 4 % 2);
 }
 
-// The marks of the slots 0 of the tiers from to to.
+// The marks of the slots 0 of the tiers from from to to - 1.
 fn mark_all(pool: &mut [u64], nums: &[u64], m: u64, from: u64, to: u64)
-    requires to_le_top_tier { to ≤ top_tier }
-    requires to_in_bounds { to < length nums.now }
-    requires by_index { (u : ℕ) → from ≤ u → u ≤ to → last_place (get_or nums.now u 0) < length pool.old }
-    ensures { pool.new ≡ Writes.marked nums.now m pool.old from (to + 1 - from) }
+    requires to_in_bounds { to ≤ length nums.now }
+    requires by_index { (u : ℕ) → from ≤ u → u < to → last_place (get_or nums.now u 0) < length pool.old }
+    ensures { pool.new ≡ Writes.marked nums.now m pool.old from (to - from) }
 {
-    for u in from..=to {
+    for u in from..to {
         put_marks(pool, nums[u as usize], m);
     }
 }
@@ -219,7 +218,7 @@ fn put_chain(pool: &mut [u64], chain: &[u64], heads: Heads)
     let top = heads.new;
     put_bottom(pool, chain, h, heads.word);
     join_all(pool, chain, 0, at_least_1(h), top);
-    mark_all(pool, chain, heads.marks, h + 1, top);
+    mark_all(pool, chain, heads.marks, h + 1, top + 1);
 }
 
 // The nodes above the old head, which stays: the chain down to it, or, where there was none, the new head's marks alone.
@@ -233,7 +232,7 @@ fn grow(pool: &mut [u64], path: &[u64], chain: &[u64], heads: Heads)
         heads.marks heads.old heads.new heads.word }
 {
     if heads.word == 0 {
-        mark_all(pool, path, heads.marks, heads.new, heads.new);
+        mark_all(pool, path, heads.marks, heads.new, heads.new + 1);
         return;
     }
     put_chain(pool, chain, heads);
@@ -249,7 +248,7 @@ fn mark_top(pool: &mut [u64], path: &[u64], heads: Heads)
     if heads.old >= heads.new {
         return;
     }
-    mark_all(pool, path, heads.marks, heads.new, heads.new);
+    mark_all(pool, path, heads.marks, heads.new, heads.new + 1);
 }
 
 // An entry in its slots.

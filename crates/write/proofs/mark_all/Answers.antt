@@ -6,15 +6,15 @@ use mathlib.Core.List.{List}
 use Rattle.write.specs.Writes.{marked, mark_at}
 use Rattle.write.proofs.mark_all.Goals as goal
 
-step : (ns : List ℕ) (m : ℕ) (ws : List ℕ) (u to : ℕ) → u ≤ to →
-    marked ns m ws u (to + 1 - u) ≡ marked ns m (mark_at ws (get_or ns u 0) (m % 2) (m / 2 % 2) (m / 4 % 2)) (u + 1)
-    (to + 1 - (u + 1))
+step : (ns : List ℕ) (m : ℕ) (ws : List ℕ) (u to : ℕ) → u < to →
+    marked ns m ws u (to - u) ≡ marked ns m (mark_at ws (get_or ns u 0) (m % 2) (m / 2 % 2) (m / 4 % 2)) (u + 1)
+    (to - (u + 1))
 unfolding marked
-step ns m ws u to h = let e : to + 1 - u ≡ suc (to + 1 - (u + 1)) = omega arith in rw e
+step ns m ws u to h = let e : to - u ≡ suc (to - (u + 1)) = omega arith in rw e
 
-stop : (ns : List ℕ) (m : ℕ) (ws : List ℕ) (u to : ℕ) → to < u → marked ns m ws u (to + 1 - u) ≡ ws
+stop : (ns : List ℕ) (m : ℕ) (ws : List ℕ) (u to : ℕ) → to ≤ u → marked ns m ws u (to - u) ≡ ws
 unfolding marked
-stop ns m ws u to h = let e : to + 1 - u ≡ 0 = omega arith in rw e
+stop ns m ws u to h = let e : to - u ≡ 0 = omega arith in rw e
 
 pub loop-u-preserved : goal.loop-u-preserved
 loop-u-preserved c = c.loop-u.invariant ∙ step _ _ _ _ _ (omega arith) ∙ rw
@@ -23,10 +23,3 @@ loop-u-preserved c = c.loop-u.invariant ∙ step _ _ _ _ _ (omega arith) ∙ rw
 pub returns : goal.returns
 returns c =
     sym (c.loop-u.invariant ∙ stop _ _ _ _ _ (omega arith))
-
-pub returns-2 : goal.returns-2
-returns-2 c =
-    let e : marked c.args.nums.now c.args.m c.loop-u.pool c.loop-u.u (c.args.to + 1 - c.loop-u.u) ≡ marked c.args.nums.now
-        c.args.m c.put_marks.new.pool (c.loop-u.u + 1) (c.args.to + 1 - (c.loop-u.u + 1)) = step _ _ _ _ _ (omega arith) ∙ rw
-        c.put_marks.ensures in
-    sym (c.loop-u.invariant ∙ (e ∙ stop _ _ _ _ _ (omega arith)))

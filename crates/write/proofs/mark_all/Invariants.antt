@@ -1,7 +1,7 @@
--- `mark_all`: the marks of the slots 0 of the tiers from to to.
-use Rattle.std.proofs.Common.{◌+◌, ◌-◌, ◌≡◌}
+-- `mark_all`: the marks of the slots 0 of the tiers from from to to - 1.
+use Rattle.std.proofs.Common.{◌-◌, ◌≡◌}
 use Rattle.write.specs.Writes.{marked}
 use Rattle.write.proofs.mark_all.Given as goal
 
 abbrev pub invariant-loop-u : goal.invariant-loop-u
-invariant-loop-u l = marked l.nums l.m l.initial.pool l.from (l.to + 1 - l.from) ≡ marked l.nums l.m l.pool l.u (l.to + 1 - l.u)
+invariant-loop-u l = marked l.nums l.m l.initial.pool l.from (l.to - l.from) ≡ marked l.nums l.m l.pool l.u (l.to - l.u)
