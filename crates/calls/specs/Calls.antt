@@ -1,5 +1,6 @@
 -- The calls: the result, and every word and byte after the call (R68 to R72, R81 to R84, R87, R145 to R148).
-use Rattle.std.specs.Prelude.{ℕ, ◌*◌, List, ◌++◌, ltb, eqb, length, drop}
+use Rattle.std.specs.Prelude.{ℕ, ◌*◌, List, ◌++◌, ltb, eqb, length, drop, Ok, Err}
+use Rattle.std.specs.Prelude as L
 use Rattle.blocks.specs.Choice.{pick}
 use Rattle.model.specs.declared.Entry.{Entry}
 use Rattle.layout.specs.Places.{render}
@@ -11,8 +12,7 @@ use Rattle.batch.specs.Batch.{Parsed, Parsed.commands, Parsed.refused, parse}
 use Rattle.batch.specs.Reply.{reply_bytes}
 use Rattle.commands.specs.Batches.{replies_by}
 use Rattle.listing.specs.Listing.{listed, outcome, filled_with}
-use Rattle.listing.specs.declared.Listed.{Listed}
-use Rattle.listing.specs.declared.Listed.TheVariants.{Short, Done}
+use Rattle.listing.specs.declared.Short.{Short}
 use Rattle.execute.specs.Execute.{execute}
 use Rattle.execute.specs.State.{State, states}
 use Rattle.answers.specs.declared.Report.{Report}
@@ -81,9 +81,9 @@ abbrev pub refuse_list : List ℕ → ℕ → ℕ → Listing
 refuse_list bs a n = record { result = result_of a n; buffer = bs }
 
 -- R145, R146: where it does not fit, the answer is that of a reply space too small
-abbrev pub list_result : Listed → Report
-list_result (Short n) = result_of reply_space n
-list_result (Done n) = result_of done n
+abbrev pub list_result : L.Result ℕ Short → Report
+list_result (Err s) = result_of reply_space s.entries
+list_result (Ok n) = result_of done n
 
 -- R148: on a well-formed pool, of the list that it holds
 abbrev pub list_over : List Entry → (first last : ℕ) → (buffer : List ℕ) → Listing

@@ -25,7 +25,6 @@ ghost use Rattle.calls.specs.Running.{Turned, Ends};
 use answers::{Answer, Refusal};
 use batch::{Command, REPLY_BYTES, Read};
 use freemap::MAP_WORDS;
-use listing::Listed;
 
 const REPLY_SIZE: u64 = 24;
 
@@ -140,13 +139,11 @@ pub fn list(pool: &[u64], first: u64, last: u64, buffer: &mut [u8]) -> Result<u6
     if last < first {
         return Err(Refusal::from(Answer::FirstAboveLast));
     }
-    match listing::list(pool, first, last, buffer) {
-        Listed::Short(k) => Err(Refusal {
-            answer: Answer::ReplySpace,
-            number: k,
-        }),
-        Listed::Done(k) => Ok(k),
-    }
+    let k = listing::list(pool, first, last, buffer).map_err(|s| Refusal {
+        answer: Answer::ReplySpace,
+        number: s.entries,
+    })?;
+    Ok(k)
 }
 
 // Whether a command can change a pool.

@@ -1,7 +1,7 @@
 // Find: the first entry that a filter takes, in steps that are counted (R58 to R67).
 //
 // p, q: positions; n, k: steps made; budget: the most; the other letters are lib.rt's.
-ghost use Rattle.std.specs.Prelude.{ℕ, suc, ◌+◌, ◌-◌, ◌/◌, ◌%◌, ◌^◌, ◌<◌, ◌≤◌, ◌≡◌, length, get_or};
+ghost use Rattle.std.specs.Prelude.{IfSome, ℕ, suc, ◌+◌, ◌-◌, ◌/◌, ◌%◌, ◌^◌, ◌<◌, ◌≤◌, ◌≡◌, length, get_or};
 ghost use Rattle.blocks.specs.Blocks.{block};
 ghost use Rattle.model.specs.Model.{max_order, mark_count};
 ghost use Rattle.tree.specs.Tree.{slots, tier_order, top_tier};
@@ -23,13 +23,6 @@ use words::pow2;
 // The filter that takes any entry.
 const ANY_MARK: u64 = 3;
 
-// The way down stops, or goes on into a node.
-#[derive(Clone, Copy)]
-pub enum Down {
-    Here,
-    Into(u64),
-}
-
 // Where the way down stopped: a node, and the tier of its slots.
 #[derive(Clone, Copy)]
 pub struct Stop {
@@ -37,7 +30,7 @@ pub struct Stop {
     pub tier: u64,
 }
 
-// Slots of a node that find passes at once: the slot after them, and the steps that they count; 0 steps: none are.
+// Slots of a node that find passes at once: the slot after them, and the steps that they count.
 #[derive(Clone, Copy)]
 pub struct Passed {
     pub to: u64,
@@ -46,8 +39,8 @@ pub struct Passed {
 
 // THE WAY DOWN, AS THE FILTER LEADS
 
-// Whether the way down to p goes on through its slot in node n: it leads to a node and has the filter's mark.
-fn below(pool: &[u64], n: u64, v: u64, p: u64, filter: u64) -> Down
+// The node that the way down to p goes on into through its slot in node n: the slot leads there and has the filter's mark.
+fn below(pool: &[u64], n: u64, v: u64, p: u64, filter: u64) -> Option<u64>
     requires well_formed { WellFormed pool.now }
     requires v_lt_top_tier { v < top_tier }
     requires filter_le_any_mark { filter ≤ any_mark }
@@ -59,15 +52,14 @@ fn below(pool: &[u64], n: u64, v: u64, p: u64, filter: u64) -> Down
     match k {
         Sight::Below(m) => {
             if filter == ANY_MARK {
-                return Down::Into(m);
+                return Some(m);
             }
             if mark_bit(pool, n, filter, block_of(v, p) % SLOTS) == 1 {
-                return Down::Into(m);
+                return Some(m);
             }
-            Down::Here
+            None
         }
-        Sight::Gap => Down::Here,
-        Sight::Shows(_) => Down::Here,
+        Sight::Gap | Sight::Shows(_) => None,
     }
 }
 
@@ -83,18 +75,11 @@ fn descend(pool: &[u64], first: u64, top: u64, p: u64, filter: u64) -> Stop
 {
     let mut n = first;
     let mut v = top;
-    loop {
-        let d = below(pool, n, v, p, filter);
-        match d {
-            Down::Here => {
-                return Stop { node: n, tier: v };
-            }
-            Down::Into(m) => {
-                n = m;
-                v = v - 1;
-            }
-        }
+    while let Some(m) = below(pool, n, v, p, filter) {
+        n = m;
+        v -= 1;
     }
+    Stop { node: n, tier: v }
 }
 
 // ONE STEP
@@ -114,14 +99,7 @@ fn takes(filter: u64, e: Entry) -> bool
     requires { filter ≤ any_mark }
     ensures { result ≡ matches filter e }
 {
-    if is_reserved(e) {
-        return false;
-    }
-    if filter == ANY_MARK {
-        return true;
-    }
-    let m = e.marks;
-    (m >> filter) % 2 == 1
+    !is_reserved(e) && (filter == ANY_MARK || (e.marks >> filter) % 2 == 1)
 }
 
 // The step that comes to the entry e.
@@ -134,9 +112,7 @@ fn consider(e: Entry, last: u64, filter: u64) -> Turn
     if takes(filter, e) {
         return Turn::Hit(e);
     }
-    let k = e.order;
-    let b = e.base;
-    onward(b + (pow2(k) - 1), last)
+    onward(e.base + (pow2(e.order) - 1), last)
 }
 
 // The position after the slot of tier v that p lies in.
@@ -159,8 +135,7 @@ fn finish(pool: &[u64], n: u64, v: u64, p: u64, last: u64, filter: u64) -> Turn
 {
     let k = look(pool, n, v, p);
     match k {
-        Sight::Gap => pass(v, p, last),
-        Sight::Below(_) => pass(v, p, last),
+        Sight::Gap | Sight::Below(_) => pass(v, p, last),
         Sight::Shows(c) => consider(entry_at(pool, n, v, c), last, filter),
     }
 }
@@ -173,11 +148,9 @@ fn siblings_each(pool: &[u64], n: u64, o: u64, to: u64) -> u64
     requires o_le_to { (o ≤ to) × (to ≤ slots) }
     ensures { result ≡ sibling_count (λ j. get_or pool.now (slot_place n j) 0) o (to - o) }
 {
-    let mut j = o;
     let mut k = 0;
-    while j < to {
-        k = k + sibling_bit(slot_word(pool, n, j));
-        j = j + 1;
+    for j in o..to {
+        k += sibling_bit(slot_word(pool, n, j));
     }
     k
 }
@@ -200,47 +173,44 @@ fn siblings(pool: &[u64], n: u64, o: u64, to: u64) -> u64
     siblings_each(pool, n, o, to)
 }
 
-// The slots of node n from o on that are passed without a match, filter 0, 1 or 2.
-fn over_unmarked(pool: &[u64], n: u64, o: u64, m: u64) -> Passed
+// The slots of node n from o on that are passed without a match, if any are, filter 0, 1 or 2.
+fn over_unmarked(pool: &[u64], n: u64, o: u64, m: u64) -> Option<Passed>
     requires n_in_bounds { last_place n < length pool.now }
     requires o_lt_slots { o < slots }
     requires m_lt_mark_count { m < mark_count }
-    ensures o_le_to { (o ≤ result.to) × (result.to ≤ slots) × (result.steps ≤ slots) }
+    ensures o_le_to { IfSome result (λ g. (o ≤ g.to) × (g.to ≤ slots) × (0 < g.steps) × (g.steps ≤ slots)) }
     ensures leaps { (s : WellFormed pool.now) (v c : ℕ) → AtNode s.list (num s) v (c / slots) n →
-        o ≡ c % slots → 0 < result.steps → Leaps s.list (num s) m v c (c - o + result.to) result.steps }
+        o ≡ c % slots → IfSome result (λ g. Leaps s.list (num s) m v c (c - o + g.to) g.steps) }
 {
     let w = mark_word(pool, n, m);
     let to = next_marked(w, o);
-    if to == o {
-        return Passed { to: o, steps: 0 };
-    }
-    if sibling_bit(slot_word(pool, n, o)) == 1 {
-        return Passed { to: o, steps: 0 };
+    if to == o || sibling_bit(slot_word(pool, n, o)) == 1 {
+        return None;
     }
     let k = siblings(pool, n, o, to);
-    Passed {
-        to: to,
+    Some(Passed {
+        to,
         steps: to - o - k,
-    }
+    })
 }
 
-// The slots of node n from o on that are passed without a match.
-fn leap(pool: &[u64], n: u64, o: u64, filter: u64) -> Passed
+// The slots of node n from o on that are passed without a match, if any are.
+fn leap(pool: &[u64], n: u64, o: u64, filter: u64) -> Option<Passed>
     requires n_in_bounds { last_place n < length pool.now }
     requires o_lt_slots { o < slots }
     requires filter_le_any_mark { filter ≤ any_mark }
-    ensures o_le_to { (o ≤ result.to) × (result.to ≤ slots) × (result.steps ≤ slots) }
+    ensures o_le_to { IfSome result (λ g. (o ≤ g.to) × (g.to ≤ slots) × (0 < g.steps) × (g.steps ≤ slots)) }
     ensures leaps { (s : WellFormed pool.now) (v c : ℕ) → AtNode s.list (num s) v (c / slots) n →
-        o ≡ c % slots → 0 < result.steps → Leaps s.list (num s) filter v c (c - o + result.to) result.steps }
+        o ≡ c % slots → IfSome result (λ g. Leaps s.list (num s) filter v c (c - o + g.to) g.steps) }
 {
-    if filter == ANY_MARK {
-        let to = next_filled(pool, n, o, SLOTS);
-        return Passed {
-            to: to,
-            steps: to - o,
-        };
+    if filter != ANY_MARK {
+        return over_unmarked(pool, n, o, filter);
     }
-    over_unmarked(pool, n, o, filter)
+    let to = next_filled(pool, n, o, SLOTS);
+    if to == o {
+        return None;
+    }
+    Some(Passed { to, steps: to - o })
 }
 
 // STRIDES
@@ -279,11 +249,11 @@ fn stride(
     let c = block_of(u, p);
     let z = block_of(u, last);
     let o = c % SLOTS;
-    let g = leap(pool, m, o, filter);
-    let to = g.to;
-    let k = g.steps;
-    if 0 < k && k <= budget - n && c <= z && to - o <= z - c {
-        return Outcome::Paused((c + (to - o)) * pow2(SLOT_BITS * u), n + k);
+    if let Some(g) = leap(pool, m, o, filter) {
+        let d = g.to - o;
+        if g.steps <= budget - n && c <= z && d <= z - c {
+            return Outcome::Paused((c + d) * pow2(SLOT_BITS * u), n + g.steps);
+        }
     }
     counted(finish(pool, m, u, p, last, filter), n)
 }
@@ -315,21 +285,14 @@ fn walk_under(
         m = s.node;
         u = s.tier;
         let t = stride(pool, m, u, q, last, filter, k, budget);
-        match t {
-            Outcome::Found(e, j) => {
-                return Outcome::Found(e, j);
-            }
-            Outcome::Ended(j) => {
-                return Outcome::Ended(j);
-            }
-            Outcome::Paused(z, j) => {
-                if block_of(u, z) / SLOTS != block_of(u, q) / SLOTS {
-                    return Outcome::Paused(z, j);
-                }
-                q = z;
-                k = j;
-            }
+        let Outcome::Paused(z, j) = t else {
+            return t;
+        };
+        if block_of(u, z) / SLOTS != block_of(u, q) / SLOTS {
+            return t;
         }
+        q = z;
+        k = j;
     }
     Outcome::Paused(q, k)
 }
@@ -359,18 +322,11 @@ pub fn find(pool: &[u64], first: u64, last: u64, filter: u64, budget: u64) -> Ou
     let mut n = 0;
     while n < budget {
         let t = walk(pool, p, last, filter, n, budget);
-        match t {
-            Outcome::Found(e, m) => {
-                return Outcome::Found(e, m);
-            }
-            Outcome::Ended(m) => {
-                return Outcome::Ended(m);
-            }
-            Outcome::Paused(q, m) => {
-                p = q;
-                n = m;
-            }
-        }
+        let Outcome::Paused(q, m) = t else {
+            return t;
+        };
+        p = q;
+        n = m;
     }
     Outcome::Paused(p, n)
 }

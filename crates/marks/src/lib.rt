@@ -64,7 +64,7 @@ pub fn climb(pool: &mut [u64], i: u64, at: Spot, m: u64, on: bool)
         }
         n = (p - 1) / SLOTS;
         o = (p - 1) % SLOTS;
-        v = v + 1;
+        v += 1;
     }
     mark_anchor(pool, m, b);
 }
@@ -75,16 +75,9 @@ fn remarked(e: Entry, m: u64, on: bool) -> Entry
     requires e_value { reserved e ≡ false }
     ensures { (i : ℕ) → covers i e ≡ true → result ≡ with_mark i m on e }
 {
-    let b = e.base;
-    let k = e.order;
-    let w = e.word;
-    let x = e.marks;
-    let y = with_bit(x, m, on);
     Entry {
-        base: b,
-        order: k,
-        word: w,
-        marks: y,
+        marks: with_bit(e.marks, m, on),
+        ..e
     }
 }
 
@@ -98,8 +91,7 @@ pub fn set_mark(pool: &mut [u64], i: u64, m: u64, on: bool) -> Option<Entry>
 {
     let k = locate(pool, i);
     match k {
-        Located::Apart => None,
-        Located::Vacant(_, _, _) => None,
+        Located::Apart | Located::Vacant(_, _, _) => None,
         Located::AtHead(e) => {
             if is_reserved(e) {
                 return None;

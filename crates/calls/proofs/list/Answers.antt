@@ -33,28 +33,28 @@ pub list-listed-requires : goal.list-listed-requires
 list-listed-requires c =
     accepted _ (sym c.check-checked.ensures ∙ c.if-checked-ne-DONE.false)
 
-pub returns-in-Short-clause-value : goal.returns-in-Short-clause-value
-returns-in-Short-clause-value c =
+pub returns-in-Err-clause-value : goal.returns-in-Err-clause-value
+returns-in-Err-clause-value c =
     let ok = sym c.check-checked.ensures ∙ c.if-checked-ne-DONE.false in
-    ap list_result (sym c.in-Short.is) ∙ list_result_lem _ _ _ _ ok
+    ap list_result (sym c.in-Err.is) ∙ list_result_lem _ _ _ _ ok
     c.if-last-first.false _
     c.list-listed.ensures.value
 
-pub returns-in-Short-clause-buffer_after : goal.returns-in-Short-clause-buffer_after
-returns-in-Short-clause-buffer_after c =
+pub returns-in-Err-clause-buffer_after : goal.returns-in-Err-clause-buffer_after
+returns-in-Err-clause-buffer_after c =
     let ok = sym c.check-checked.ensures ∙ c.if-checked-ne-DONE.false in
     list_buffer _ _ _ _ ok c.if-last-first.false
     c.list-listed.ensures.buffer_after
 
-pub returns-in-Done-clause-value : goal.returns-in-Done-clause-value
-returns-in-Done-clause-value c =
+pub returns-in-Ok-clause-value : goal.returns-in-Ok-clause-value
+returns-in-Ok-clause-value c =
     let ok = sym c.check-checked.ensures ∙ c.if-checked-ne-DONE.false in
-    ap list_result (sym c.in-Done.is) ∙ list_result_lem _ _ _ _ ok
+    ap list_result (sym c.in-Ok.is) ∙ list_result_lem _ _ _ _ ok
     c.if-last-first.false _
     c.list-listed.ensures.value
 
-pub returns-in-Done-clause-buffer_after : goal.returns-in-Done-clause-buffer_after
-returns-in-Done-clause-buffer_after c =
+pub returns-in-Ok-clause-buffer_after : goal.returns-in-Ok-clause-buffer_after
+returns-in-Ok-clause-buffer_after c =
     let ok = sym c.check-checked.ensures ∙ c.if-checked-ne-DONE.false in
     list_buffer _ _ _ _ ok c.if-last-first.false
     c.list-listed.ensures.buffer_after
