@@ -1,10 +1,5 @@
-use native.Mathlib.Omega.{arith}
 use Rattle.passes.proofs.ByteLaws.{chained_on}
 use Rattle.passes.proofs.faults.Goals as goal
 
 pub loop-j-preserved : goal.loop-j-preserved
-loop-j-preserved c = (
-  omega arith,
-  chained_on c.args.a.now _ _ _
-      c.loop-j.invariant.1 c.fault-bad.ensures,
-)
+loop-j-preserved c = chained_on c.args.a.now _ _ _ c.loop-j.invariant c.fault-bad.ensures

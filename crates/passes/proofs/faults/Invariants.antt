@@ -6,7 +6,5 @@ use Rattle.passes.specs.Bytes.{ChainedTo}
 use Rattle.passes.proofs.faults.Given as goal
 
 abbrev pub invariant-loop-j : goal.invariant-loop-j
-invariant-loop-j l = (l.j ≤ slots) × (l.bad ≡ 0 → ChainedTo l.a l.j)
+invariant-loop-j l = l.bad ≡ 0 → ChainedTo l.a l.j
 
-abbrev pub decreases-loop-j : goal.decreases-loop-j
-decreases-loop-j l = slots - l.j

@@ -1,10 +1,11 @@
+use mathlib.Core.Path.{◌∙◌}
 use native.Mathlib.Omega.{arith}
-use Rattle.passes.proofs.ByteLaws.{off_next, off_all}
+use Rattle.passes.proofs.ByteLaws.{off_next, off_all, byte_pick}
 use Rattle.passes.proofs.loose.Goals as goal
 
 pub loop-t-preserved : goal.loop-t-preserved
 loop-t-preserved c =
-    off_next _ _ _ _ c.loop-t.invariant (omega arith) c.one_if.ensures.0
+    off_next _ _ _ _ c.loop-t.invariant (omega arith) (c.from.ensures ∙ byte_pick _)
 
 pub returns : goal.returns
 returns c =

@@ -7,5 +7,3 @@ use Rattle.passes.proofs.loose.Given as goal
 abbrev pub invariant-loop-t : goal.invariant-loop-t
 invariant-loop-t l = Off l.a l.t l.f
 
-abbrev pub decreases-loop-t : goal.decreases-loop-t
-decreases-loop-t l = slots - l.t
