@@ -9,7 +9,7 @@ ghost use Rattle.assoc_check.specs.Answers.{check_answer, clear_answer, clear_wo
 ghost use Rattle.assoc_calls.specs.Calls.{lookup};
 
 use answers::{ABSENT, BAD_KEY, DONE, Result};
-use assoc_lookup::{Looked, look_bytes};
+use assoc_lookup::look_bytes;
 
 const MAX_KEY: usize = 32;
 
@@ -58,11 +58,11 @@ pub fn lookup(pool: &[u64], key: &[u8]) -> Result
         };
     }
     match look_bytes(pool, key) {
-        Looked::Absent => Result {
+        None => Result {
             answer: ABSENT,
             number: 0,
         },
-        Looked::Present(w) => Result {
+        Some(w) => Result {
             answer: DONE,
             number: w,
         },
