@@ -9,7 +9,7 @@ pool_ok-requires-clause-set_of c =
 
 pub returns-then-not-pool_ok-clause-value : goal.returns-then-not-pool_ok-clause-value
 returns-then-not-pool_ok-clause-value c =
-    let fit : Words c.args.pool.now = λ i. omega (arith, c.shared_slice_known-1.given i) in
+    let fit : Words c.args.pool.now = λ i. omega (arith, c.type_inv.pool i) in
     answer_no c.args.pool.now _ c.blocks_in-n.ensures c.if-n-eq0.false fit (c.pool_ok.ensures.decides.1 c.if-not-pool_ok.true)
 
 pub returns-clause-value : goal.returns-clause-value
