@@ -9,7 +9,7 @@ ghost use Rattle.assoc_check.specs.Answers.{check_answer, clear_answer, clear_wo
 ghost use Rattle.assoc_calls.specs.Calls.{lookup};
 
 use answers::{Answer, Refusal};
-use assoc_lookup::{Looked, look_bytes};
+use assoc_lookup::look_bytes;
 
 const MAX_KEY: usize = 32;
 
@@ -35,11 +35,9 @@ pub fn lookup(pool: &[u64], key: &[u8]) -> Result<u64, Refusal>
     ensures { report_of result ≡ lookup pool.now key.now }
 {
     assoc_check::check(pool)?;
-    if key.len() < 1 || MAX_KEY < key.len() {
+    if key.is_empty() || MAX_KEY < key.len() {
         return Err(Refusal::from(Answer::BadKey));
     }
-    match look_bytes(pool, key) {
-        Looked::Absent => Err(Refusal::from(Answer::Absent)),
-        Looked::Present(w) => Ok(w),
-    }
+    let w = look_bytes(pool, key).ok_or(Answer::Absent)?;
+    Ok(w)
 }

@@ -28,7 +28,7 @@ use assoc_layout::{
 };
 use commands::is_storable;
 use freemap::{MAP_WORDS, enter, set_bit};
-use words::{WORD_BITS, fill, one_if, records_in};
+use words::{WORD_BITS, fill, records_in};
 
 // The bytes of the longest key; where the length byte stands, after the other words of a base.
 const MAX_KEY: u64 = 32;
@@ -177,12 +177,10 @@ fn leaves_ok(pool: &[u64], n: u64, m: u64, v: u64, count: u64) -> bool
     requires { Block pool.now n m × (v ≡ tier_of pool.now m) × (v ≤ top_tier) × (count ≤ slots) }
     ensures { Decides result (Leaves pool.now n m count) }
 {
-    let mut k = 0;
-    while k < count {
+    for k in 0..count {
         if !leaf_next(pool, n, m, v, k) {
             return false;
         }
-        k = k + 1;
     }
     true
 }
@@ -307,8 +305,7 @@ fn spread_ok(pool: &[u64], n: u64, m: u64, v: u64, count: u64) -> bool
 {
     let mut total = 0;
     let mut filled = 0;
-    let mut j = 0;
-    while j < SLOTS {
+    for j in 0..SLOTS {
         if !slot_ok(pool, n, m, v, j) {
             return false;
         }
@@ -317,9 +314,8 @@ fn spread_ok(pool: &[u64], n: u64, m: u64, v: u64, count: u64) -> bool
         if count - total < k {
             return false;
         }
-        total = total + k;
-        filled = filled + one_if(r != 0);
-        j = j + 1;
+        total += k;
+        filled += u64::from(r != 0);
     }
     if total != count {
         return false;
@@ -392,10 +388,8 @@ fn mark_slots(pool: &[u64], n: u64, m: u64, seen: &mut [u64])
     ensures { (f : ℕ → Bool) → SetOf f seen.old →
         SetOf (λ x. either (f x) (slot_names pool.now n m slots x)) seen.new }
 {
-    let mut j = 0;
-    while j < SLOTS {
+    for j in 0..SLOTS {
         mark_ref(seen, n, field(pool, m, SLOT_FIELD + j));
-        j = j + 1;
     }
 }
 
@@ -420,15 +414,13 @@ fn blocks_ok(pool: &[u64], n: u64, seen: &mut [u64], map: &mut [u64]) -> bool
     ensures decides { Decides result ((m : ℕ) → m < n → BlockOk pool.now n m) }
     ensures set_of_2 { result ≡ true → SetOf (named_to pool.now n n) seen.new × MapOf (free_to pool.now n) map.new }
 {
-    let mut m = 0;
-    while m < n {
+    for m in 0..n {
         let t = field(pool, m, TIER_FIELD);
         if !block_ok(pool, n, m, t) {
             return false;
         }
         note_slots(pool, n, m, t, seen);
         enter(map, m, t);
-        m = m + 1;
     }
     true
 }
@@ -468,12 +460,10 @@ fn all_named(pool: &[u64], n: u64, seen: &[u64]) -> bool
     ensures { (f : ℕ → Bool) → SetOf f seen.now →
         Decides result ((m : ℕ) → Live pool.now n m → f m ≡ true) }
 {
-    let mut m = 0;
-    while m < n {
+    for m in 0..n {
         if !named_ok(pool, m, seen) {
             return false;
         }
-        m = m + 1;
     }
     true
 }

@@ -1,6 +1,5 @@
 -- The calls: the result, and every word and byte after the call (R68 to R72, R81 to R84, R87, R145 to R148).
-use Rattle.std.specs.Prelude.{ℕ, ◌*◌, List, ◌++◌, ltb, eqb, length, drop, Ok, Err}
-use Rattle.std.specs.Prelude as L
+use Rattle.std.specs.Prelude.{ℕ, ◌*◌, List, ◌++◌, ltb, eqb, length, drop, Result, Ok, Err}
 use Rattle.blocks.specs.Choice.{pick}
 use Rattle.model.specs.declared.Entry.{Entry}
 use Rattle.layout.specs.Places.{render}
@@ -81,7 +80,7 @@ abbrev pub refuse_list : List ℕ → ℕ → ℕ → Listing
 refuse_list bs a n = record { result = result_of a n; buffer = bs }
 
 -- R145, R146: where it does not fit, the answer is that of a reply space too small
-abbrev pub list_result : L.Result ℕ Short → Report
+abbrev pub list_result : Result ℕ Short → Report
 list_result (Err s) = result_of reply_space s.entries
 list_result (Ok n) = result_of done n
 

@@ -52,10 +52,8 @@ fn sweep(rows: &mut [u64], v: u64, top: u64)
     requires { (v < top) × (top ≤ top_tier) × (pool_words row_count ≤ length rows.old) }
     ensures { Swept rows.old rows.new v (top + 1) }
 {
-    let mut u = v + 1;
-    while u <= top {
+    for u in v + 1..top + 1 {
         sweep_row(rows, u);
-        u = u + 1;
     }
 }
 

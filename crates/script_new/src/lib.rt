@@ -120,10 +120,8 @@ fn chain_rows(pool: &[u64], rows: &mut [u64], chain: &[u64], heads: Heads, low: 
     ensures chain_shown { (l' : List Entry) (μ : Numbering) → Chains pool.now heads chain.now l' μ →
         (u : ℕ) → low ≤ u → u < heads.new → ChainShown l' μ rows.new heads.new u }
 {
-    let mut u = low;
-    while u < heads.new {
+    for u in low..heads.new {
         chain_row(pool, rows, chain, heads, u);
-        u = u + 1;
     }
 }
 
@@ -163,10 +161,8 @@ fn number_rows(nums: &mut [u64], path: &[u64], chain: &[u64], v: u64, top: u64, 
     requires row_count_in_bounds { row_count ≤ length nums.old }
     ensures { NewNumbers nums.new path.now chain.now v top low n row_count }
 {
-    let mut r = 0;
-    while r < ROWS {
+    for r in 0..ROWS {
         nums[r as usize] = number_at(path, chain, r, v, top, low, n);
-        r = r + 1;
     }
 }
 

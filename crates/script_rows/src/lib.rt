@@ -48,10 +48,8 @@ fn clear_bits(w: u64, o: u64, c: u64) -> u64
     ensures { (f : ℕ → Bool) → w ≡ bits_to f slots → result ≡ bits_to (λ j. pick (in_run o c j) false (f j)) slots }
 {
     let mut y = w;
-    let mut t = 0;
-    while t < c {
+    for t in 0..c {
         y = with_bit(y, o + t, false);
-        t = t + 1;
     }
     y
 }
@@ -101,11 +99,9 @@ pub fn copy_node(pool: &[u64], n: u64, rows: &mut [u64], r: u64)
     requires r_bound { last_place r < length rows.old }
     ensures { Copies pool.now n rows.old rows.new r }
 {
-    let mut f = 0;
-    while f < NODE_WORDS {
+    for f in 0..NODE_WORDS {
         let w = pool[(ANCHOR_WORDS + NODE_WORDS * n + f) as usize];
         rows[(ANCHOR_WORDS + NODE_WORDS * r + f) as usize] = w;
-        f = f + 1;
     }
 }
 
@@ -114,12 +110,9 @@ fn count_row(rows: &[u64], r: u64) -> u64
     requires { last_place r < length rows.now }
     ensures { result ≡ filled_of (λ j. get_or rows.now (slot_place r j) 0) }
 {
-    let mut j = 0;
     let mut q = 0;
-    while j < SLOTS {
-        let w = slot_word(rows, r, j);
-        q = q + ((w != 0) as u64);
-        j = j + 1;
+    for j in 0..SLOTS {
+        q += u64::from(slot_word(rows, r, j) != 0);
     }
     q
 }
@@ -182,7 +175,7 @@ fn marks_up(rows: &[u64], u: u64) -> u64
     let a = mark_word(rows, u, 0);
     let b = mark_word(rows, u, 1);
     let c = mark_word(rows, u, 2);
-    ((a != 0) as u64) + 2 * ((b != 0) as u64) + 4 * ((c != 0) as u64)
+    u64::from(a != 0) + 2 * u64::from(b != 0) + 4 * u64::from(c != 0)
 }
 
 // The rows of the path begin as copies of its nodes.
@@ -190,11 +183,9 @@ pub fn begin_rows(pool: &[u64], rows: &mut [u64], path: &[u64], v: u64, top: u64
     requires { Roomy pool.now rows.old path.now v top }
     ensures { Copied pool.now path.now v rows.new top }
 {
-    let mut u = v;
-    while u < top {
+    for u in v..top {
         let n = path[(u + 1) as usize];
         copy_node(pool, n, rows, u + 1);
-        u = u + 1;
     }
 }
 
@@ -245,10 +236,8 @@ pub fn put_rows(rows: &mut [u64], path: &[u64], at: Range, top: u64)
 {
     low_row(rows, path, at, top);
     let i = at.base;
-    let mut u = at.order / SLOT_BITS + 1;
-    while u < top {
+    for u in at.order / SLOT_BITS + 1..top {
         up_row(rows, path, i, u, top);
-        u = u + 1;
     }
 }
 

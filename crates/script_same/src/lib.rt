@@ -38,10 +38,8 @@ pub fn number_rows(nums: &mut [u64], path: &[u64], v: u64, top: u64, n: u64)
     requires { (top ≤ top_tier) × (top_tier < length path.now) × (row_count ≤ length nums.old) }
     ensures { Numbered nums.new path.now v top n row_count }
 {
-    let mut r = 0;
-    while r < ROWS {
+    for r in 0..ROWS {
         nums[r as usize] = number_at(path, r, v, top, n);
-        r = r + 1;
     }
 }
 

@@ -9,7 +9,7 @@ ghost use Rattle.std.specs.Prelude.{ℕ, ◌+◌, ◌*◌, ◌-◌, ◌^◌, ◌
 ghost use Rattle.blocks.specs.Choice.{pick};
 ghost use Rattle.layout.specs.Words.{pool_words, last_place, max_nodes};
 ghost use Rattle.script.specs.Script.{script_from, script};
-ghost use Rattle.script_table.specs.Table.{laid, row_count, Tables, Lesser, NextNumber, RowOf, Agrees, Fits, Wrote, NodeFits, AllFits};
+ghost use Rattle.script_table.specs.Table.{laid, row_count, Tables, NextNumber, RowOf, Agrees, Fits, Wrote, NodeFits, AllFits};
 
 use layout::{ANCHOR_WORDS, NODE_WORDS};
 
@@ -35,58 +35,33 @@ pub fn span_length(pool: &[u64], rows: &[u64], p: u64, q: u64, c: u64, k: u64) -
         result + length (script_from pool.now ws' (p + c) (length pool.now - (p + c))) ≡
         k + length (script_from pool.now ws' p (length pool.now - p)) }
 {
-    let mut t = 0;
     let mut y = k;
-    while t < c {
+    for t in 0..c {
         let w = pool[(p + t) as usize];
         let x = rows[(q + t) as usize];
         y = counted(y, w, x);
-        t = t + 1;
     }
     y
 }
 
-// The lesser of best and m, if m is from or more.
-fn lesser(m: u64, from: u64, best: u64) -> u64
-    ensures { Lesser m from best result }
+// The least number of a row, from or more, if one is below n.
+pub fn next_number(nums: &[u64], from: u64, n: u64) -> Option<u64>
+    requires { row_count ≤ length nums.now }
+    ensures { NextNumber nums.now from n result }
 {
-    if m < from {
-        return best;
-    }
-    if best <= m {
-        return best;
-    }
-    m
+    nums[..ROWS as usize]
+        .iter()
+        .copied()
+        .filter(|m| from <= *m && *m < n)
+        .min()
 }
 
-// The least number of a row, from or more; n if there is none below it.
-pub fn next_number(nums: &[u64], from: u64, n: u64) -> u64
-    requires { (row_count ≤ length nums.now) × (from ≤ n) }
-    ensures { NextNumber nums.now from n result row_count }
-{
-    let mut best = n;
-    let mut q = 0;
-    while q < ROWS {
-        let m = nums[q as usize];
-        best = lesser(m, from, best);
-        q = q + 1;
-    }
-    best
-}
-
-// The row of node m; 24 if it has none.
-pub fn row_of(nums: &[u64], m: u64) -> u64
+// The row of node m, if it has one.
+pub fn row_of(nums: &[u64], m: u64) -> Option<usize>
     requires { row_count ≤ length nums.now }
     ensures { RowOf nums.now m result }
 {
-    let mut q = 0;
-    while q < ROWS {
-        if nums[q as usize] == m {
-            return q;
-        }
-        q = q + 1;
-    }
-    ROWS
+    nums[..ROWS as usize].iter().position(|x| *x == m)
 }
 
 // How many words the script has after node m, where it has k before it.
@@ -99,18 +74,17 @@ fn node_length(pool: &[u64], rows: &[u64], nums: &[u64], m: u64, k: u64) -> u64
         result + length (script_from pool.now ws' (pool_words (m + 1)) (length pool.now - pool_words (m + 1))) ≡
         k + length (script_from pool.now ws' (pool_words m) (length pool.now - pool_words m)) }
 {
-    let r = row_of(nums, m);
-    if r == ROWS {
-        return k;
+    match row_of(nums, m) {
+        None => k,
+        Some(r) => span_length(
+            pool,
+            rows,
+            ANCHOR_WORDS + NODE_WORDS * m,
+            ANCHOR_WORDS + NODE_WORDS * r as u64,
+            NODE_WORDS,
+            k,
+        ),
     }
-    span_length(
-        pool,
-        rows,
-        ANCHOR_WORDS + NODE_WORDS * m,
-        ANCHOR_WORDS + NODE_WORDS * r,
-        NODE_WORDS,
-        k,
-    )
 }
 
 // How many words the script has.
@@ -121,10 +95,10 @@ pub fn table_length(pool: &[u64], rows: &[u64], nums: &[u64], n: u64) -> u64
         result ≡ length (script pool.now ws') }
 {
     let mut k = span_length(pool, rows, 0, 0, ANCHOR_WORDS, 0);
-    let mut m = next_number(nums, 0, n);
-    while m < n {
+    let mut from = 0;
+    while let Some(m) = next_number(nums, from, n) {
         k = node_length(pool, rows, nums, m, k);
-        m = next_number(nums, m + 1, n);
+        from = m + 1;
     }
     k
 }
@@ -157,13 +131,11 @@ pub fn span_write(
     ensures { (ws' : List ℕ) → Agrees ws' rows.now p q c →
         Wrote pool.now ws' p (p + c) t result out.old out.new }
 {
-    let mut j = 0;
     let mut y = t;
-    while j < c {
+    for j in 0..c {
         let w = pool[(p + j) as usize];
         let x = rows[(q + j) as usize];
         y = emit(out, y, p + j, w, x);
-        j = j + 1;
     }
     y
 }
@@ -176,19 +148,18 @@ fn node_write(pool: &[u64], rows: &[u64], nums: &[u64], m: u64, out: &mut [u64],
         Tables pool.now rows.now nums.now ws' n → m < n →
         Wrote pool.now ws' (pool_words m) (pool_words (m + 1)) t result out.old out.new }
 {
-    let r = row_of(nums, m);
-    if r == ROWS {
-        return t;
+    match row_of(nums, m) {
+        None => t,
+        Some(r) => span_write(
+            pool,
+            rows,
+            ANCHOR_WORDS + NODE_WORDS * m,
+            ANCHOR_WORDS + NODE_WORDS * r as u64,
+            NODE_WORDS,
+            out,
+            t,
+        ),
     }
-    span_write(
-        pool,
-        rows,
-        ANCHOR_WORDS + NODE_WORDS * m,
-        ANCHOR_WORDS + NODE_WORDS * r,
-        NODE_WORDS,
-        out,
-        t,
-    )
 }
 
 // Writes the script, for which there is room.
@@ -200,9 +171,9 @@ pub fn table_write(pool: &[u64], rows: &[u64], nums: &[u64], n: u64, out: &mut [
         out.new ≡ laid out.old 0 (script pool.now ws') }
 {
     let mut t = span_write(pool, rows, 0, 0, ANCHOR_WORDS, out, 0);
-    let mut m = next_number(nums, 0, n);
-    while m < n {
+    let mut from = 0;
+    while let Some(m) = next_number(nums, from, n) {
         t = node_write(pool, rows, nums, m, out, t);
-        m = next_number(nums, m + 1, n);
+        from = m + 1;
     }
 }

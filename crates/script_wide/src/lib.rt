@@ -22,7 +22,7 @@ ghost use Rattle.script_wide.specs.Wide.{GoesAt};
 
 use freemap::give;
 use layout::{ANCHOR_WORDS, NODE_WORDS, SHIFT_DROP, SLOT_BITS, SLOTS, owner_of, shift_of};
-use script_table::{ROWS, next_number, row_of, span_length, span_write};
+use script_table::{next_number, row_of, span_length, span_write};
 use words::{WORD_BITS, next_bit, pow2};
 
 // WHICH NODES GO
@@ -87,15 +87,13 @@ pub fn mark_going(pool: &[u64], n: u64, base: u64, order: u64, map: &mut [u64])
     requires blank_map { BlankMap map.old }
     ensures { (s : WellFormed pool.now) → Going s map.new base order n }
 {
-    let mut m = 0;
-    while m < n {
+    for m in 0..n {
         mark(pool, m, base, order, map);
-        m = m + 1;
     }
 }
 
-// The next node that goes, from m on; end if there is none below it.
-fn next_going(map: &[u64], m: u64, end: u64) -> u64
+// The next node that goes, from m on, if there is one below end.
+fn next_going(map: &[u64], m: u64, end: u64) -> Option<u64>
     requires { (m ≤ end) × (end ≤ map_nodes) × (map_top ≤ length map.now) }
     ensures { NextGoing map.now m end result }
 {
@@ -105,14 +103,11 @@ fn next_going(map: &[u64], m: u64, end: u64) -> u64
         let j = next_bit(map[q as usize], x % WORD_BITS);
         if j < WORD_BITS {
             let r = WORD_BITS * q + j;
-            if r < end {
-                return r;
-            }
-            return end;
+            return if r < end { Some(r) } else { None };
         }
         x = WORD_BITS * (q + 1);
     }
-    end
+    None
 }
 
 // HOW MANY WORDS
@@ -140,14 +135,11 @@ fn frees_length(pool: &[u64], map: &[u64], m: u64, end: u64, k: u64) -> u64
 {
     let mut x = m;
     let mut y = k;
-    loop {
-        let q = next_going(map, x, end);
-        if q == end {
-            return y;
-        }
+    while let Some(q) = next_going(map, x, end) {
         y = free_length(pool, q, y);
         x = q + 1;
     }
+    y
 }
 
 // Node m, by its row if it has one.
@@ -160,18 +152,17 @@ fn node_length(pool: &[u64], rows: &[u64], nums: &[u64], map: &[u64], m: u64, k:
         WideBy pool.now rows.now nums.now map.now ws' →
         Counted pool.now ws' (pool_words m) (pool_words (m + 1)) k result }
 {
-    let r = row_of(nums, m);
-    if r == ROWS {
-        return frees_length(pool, map, m, m + 1, k);
+    match row_of(nums, m) {
+        None => frees_length(pool, map, m, m + 1, k),
+        Some(r) => span_length(
+            pool,
+            rows,
+            ANCHOR_WORDS + NODE_WORDS * m,
+            ANCHOR_WORDS + NODE_WORDS * r as u64,
+            NODE_WORDS,
+            k,
+        ),
     }
-    span_length(
-        pool,
-        rows,
-        ANCHOR_WORDS + NODE_WORDS * m,
-        ANCHOR_WORDS + NODE_WORDS * r,
-        NODE_WORDS,
-        k,
-    )
 }
 
 // How many words the script has.
@@ -185,15 +176,12 @@ pub fn wide_length(pool: &[u64], rows: &[u64], nums: &[u64], map: &[u64], n: u64
 {
     let mut k = span_length(pool, rows, 0, 0, ANCHOR_WORDS, 0);
     let mut m = 0;
-    loop {
-        let q = next_number(nums, m, n);
+    while let Some(q) = next_number(nums, m, n) {
         k = frees_length(pool, map, m, q, k);
-        if q == n {
-            return k;
-        }
         k = node_length(pool, rows, nums, map, q, k);
         m = q + 1;
     }
+    frees_length(pool, map, m, n, k)
 }
 
 // WRITING IT
@@ -221,14 +209,11 @@ fn frees_write(pool: &[u64], map: &[u64], m: u64, end: u64, out: &mut [u64], t: 
 {
     let mut x = m;
     let mut y = t;
-    loop {
-        let q = next_going(map, x, end);
-        if q == end {
-            return y;
-        }
+    while let Some(q) = next_going(map, x, end) {
         y = free_write(pool, q, out, y);
         x = q + 1;
     }
+    y
 }
 
 // That of node m, by its row if it has one.
@@ -249,19 +234,18 @@ fn node_write(
         WideBy pool.now rows.now nums.now map.now ws' →
         Wrote pool.now ws' (pool_words m) (pool_words (m + 1)) t result out.old out.new }
 {
-    let r = row_of(nums, m);
-    if r == ROWS {
-        return frees_write(pool, map, m, m + 1, out, t);
+    match row_of(nums, m) {
+        None => frees_write(pool, map, m, m + 1, out, t),
+        Some(r) => span_write(
+            pool,
+            rows,
+            ANCHOR_WORDS + NODE_WORDS * m,
+            ANCHOR_WORDS + NODE_WORDS * r as u64,
+            NODE_WORDS,
+            out,
+            t,
+        ),
     }
-    span_write(
-        pool,
-        rows,
-        ANCHOR_WORDS + NODE_WORDS * m,
-        ANCHOR_WORDS + NODE_WORDS * r,
-        NODE_WORDS,
-        out,
-        t,
-    )
 }
 
 // Writes the script, for which there is room.
@@ -276,13 +260,10 @@ pub fn wide_write(pool: &[u64], rows: &[u64], nums: &[u64], map: &[u64], n: u64,
 {
     let mut t = span_write(pool, rows, 0, 0, ANCHOR_WORDS, out, 0);
     let mut m = 0;
-    loop {
-        let q = next_number(nums, m, n);
+    while let Some(q) = next_number(nums, m, n) {
         t = frees_write(pool, map, m, q, out, t);
-        if q == n {
-            return;
-        }
         t = node_write(pool, rows, nums, map, q, out, t);
         m = q + 1;
     }
+    frees_write(pool, map, m, n, out, t);
 }

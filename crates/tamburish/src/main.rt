@@ -76,30 +76,22 @@ fn read_full<R: Read>(input: &mut R, space: &mut [u8]) -> usize
     let mut done = 0;
     while done < space.len() {
         match input.read(&mut space[done..]) {
-            Ok(n) => {
-                if n == 0 {
-                    return done;
-                }
-                done += n;
-            }
-            Err(_) => return done,
+            Ok(0) | Err(_) => return done,
+            Ok(n) => done += n,
         }
     }
     done
 }
 
-// Writes all of `bytes`, or stops at the first write that takes nothing or fails, which is told in no other way.
+// Writes all of `bytes`, or stops at the first write that takes nothing or fails, which is told in no other way. (std's `write_all`
+// tries again where a write was interrupted, and read_exact where a read was.)
 fn write_all<W: Write>(output: &mut W, bytes: &[u8]) {
-    let mut done = 0;
-    while done < bytes.len() {
-        let n = match output.write(&bytes[done..]) {
-            Ok(n) => n,
-            Err(_) => 0,
-        };
-        if n == 0 {
-            break;
+    let mut rest = bytes;
+    while !rest.is_empty() {
+        match output.write(rest) {
+            Ok(0) | Err(_) => return,
+            Ok(n) => rest = &rest[n..],
         }
-        done += n;
     }
 }
 
