@@ -14,15 +14,8 @@ use verify::nodes_in;
 fn places_below(script: &[u64], n: u64) -> bool
     ensures { result ≡ places_below n script.now }
 {
-    let len = script.len();
-    let mut t: usize = 0;
-    while 2 <= len - t {
-        if script[t] >= n {
-            return false;
-        }
-        t = t + 2;
-    }
-    true
+    let (pairs, _) = script.as_chunks::<2>();
+    pairs.iter().all(|[p, _]| *p < n)
 }
 
 // Writes each word of a script, also one that is there already: what stands before it may be anything.
@@ -30,13 +23,9 @@ fn write_all(pool: &mut [u64], script: &[u64])
     requires { places_below (length pool.old) script.now ≡ true }
     ensures { pool.new ≡ applied pool.old script.now }
 {
-    let len = script.len();
-    let mut t: usize = 0;
-    while 2 <= len - t {
-        let p = script[t];
-        let x = script[t + 1];
-        pool[p as usize] = x;
-        t = t + 2;
+    let (pairs, _) = script.as_chunks::<2>();
+    for [p, x] in pairs {
+        pool[*p as usize] = *x;
     }
 }
 
