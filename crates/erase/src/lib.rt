@@ -197,7 +197,8 @@ fn cut(pool: &mut [u64], map: &mut [u64], i: u64, at: Spot)
     shrink(pool, map, at.top);
 }
 
-// Takes out the entry that covers i and stands at a spot: its marks off first, so that then no mark word changes.
+// Takes out the entry that covers i and stands at a spot: its marks off first, so that then no mark word changes. Three
+// calls, since a loop over the marks takes as many lines, and an invariant.
 fn remove(pool: &mut [u64], map: &mut [u64], i: u64, at: Spot)
     requires free_map { FreeMap pool.old map.old }
     requires erasing { Erasing i at.node at.tier at.slot at.top pool.old }
