@@ -7,7 +7,4 @@ use Rattle.scan.specs.Passes.{OddTo}
 use Rattle.scan.proofs.all_odd.Given as goal
 
 abbrev pub invariant-loop-o : goal.invariant-loop-o
-invariant-loop-o l = (l.o ≤ slots) × (l.all % 2 ≡ 1 → OddTo (pool_of l.pool) l.n l.o)
-
-abbrev pub decreases-loop-o : goal.decreases-loop-o
-decreases-loop-o l = slots - l.o
+invariant-loop-o l = l.all % 2 ≡ 1 → OddTo (pool_of l.pool) l.n l.o

@@ -6,6 +6,3 @@ use Rattle.scan.proofs.filled_from.Given as goal
 
 abbrev pub invariant-loop-t : goal.invariant-loop-t
 invariant-loop-t l = Told (pool_of l.pool) l.n l.from l.t l.f
-
-abbrev pub decreases-loop-t : goal.decreases-loop-t
-decreases-loop-t l = 16 - l.t

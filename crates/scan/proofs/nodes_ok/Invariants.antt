@@ -9,8 +9,5 @@ use Rattle.local.specs.Local.{NodeOk}
 use Rattle.scan.proofs.nodes_ok.Given as goal
 
 abbrev pub invariant-loop-n : goal.invariant-loop-n
-invariant-loop-n l = (l.n ≤ get_or l.pool count_word 0) × ((k : ℕ) → k < l.n → NodeOk (pool_of l.pool) k) ×
+invariant-loop-n l = ((k : ℕ) → k < l.n → NodeOk (pool_of l.pool) k) ×
     MapOf (free_to l.n l.pool) l.map
-
-abbrev pub decreases-loop-n : goal.decreases-loop-n
-decreases-loop-n l = get_or l.pool count_word 0 - l.n

@@ -4,7 +4,4 @@ use Rattle.scan.proofs.TallyLaws.{OddPassed}
 use Rattle.scan.proofs.odd_part.Given as goal
 
 abbrev pub invariant-loop-o : goal.invariant-loop-o
-invariant-loop-o l = (l.o ≤ l.end) × OddPassed l.pool l.n l.from l.o l.even l.c
-
-abbrev pub decreases-loop-o : goal.decreases-loop-o
-decreases-loop-o l = l.end - l.o
+invariant-loop-o l = OddPassed l.pool l.n l.from l.o l.even l.c
