@@ -137,8 +137,8 @@ fn all_held(a: &[u8], m: u64) -> bool
     ensures { result ≡ true → HeldTo a.now m slots }
 {
     let mut f: u64 = 0;
-    for t in 0..SLOTS {
-        f = 2 * f + u64::from(a[(SLOTS - t) as usize] % 4 != 1);
+    for j in (0..SLOTS).rev() {
+        f = 2 * f + u64::from(a[(j + 1) as usize] % 4 != 1);
     }
     f & m == 0
 }

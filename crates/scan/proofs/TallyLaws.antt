@@ -8,7 +8,7 @@ use native.Mathlib.Omega.{arith}
 use native.Mathlib.Nat.{mod-eq_of_lt}
 use lib.Dec.{eqb, ltb}
 use lib.ListN.{get_or}
-use lib.Bits.{bit_and, bit_or, or_lt, or_add_and, and_le_l, and_le_r, and_shr}
+use lib.Bits.{bit_and, bit_or, or_lt, or_add_and, and_zero_l, and_le_l, and_le_r, and_shr}
 use borrow.Author.Tests.{eqb-true, eqb-false, eq-eqb, ne_eqb, ltb-true, ltb-false}
 use Rattle.blocks.specs.Choice.{pick}
 use Rattle.blocks.specs.Blocks.{bit, count_to, NextBit}
@@ -56,7 +56,7 @@ even_bits w f z e =
     sym (mod-eq_of_lt f) ∙ sym (mask_mod w (2 ^ 64) 64 refl) ∙ ap (bit_and w) (sym k) ∙ z
 
 -- THE LOWEST BIT OF A WORD
-pub lowest_zero : (w : ℕ) → w ≡ 0 → LowestBit w 0
+lowest_zero : (w : ℕ) → w ≡ 0 → LowestBit w 0
 lowest_zero w e = record {
   most = omega arith;
   none = λ z. refl;
@@ -65,7 +65,7 @@ lowest_zero w e = record {
   plain = λ z. refl;
 }
 
-pub lowest_of : (w : ℕ) → w < 2 ^ 64 → w ≢ 0 → LowestBit w (bit_and w (2 ^ 64 - 1 - w + 1))
+lowest_of : (w : ℕ) → w < 2 ^ 64 → w ≢ 0 → LowestBit w (bit_and w (2 ^ 64 - 1 - w + 1))
 lowest_of w f z = record {
   most = omega (arith, l, r);
   none = λ e. absurd (z e);
@@ -107,6 +107,15 @@ lowest_of w f z = record {
 
     min_r : (x y : ℕ) → y ≡ 0 → min x y ≡ 0
     min_r x y e = omega arith
+
+-- x is the number that w needs to 2^64
+pub lowest_by : (w x : ℕ) → w < 2 ^ 64 → x < 2 ^ 64 → (x + w) % 2 ^ 64 ≡ 0 → LowestBit w (bit_and w x)
+lowest_by w x f g e =
+    by_t (eqb w 0)
+    (λ t. let z : w ≡ 0 = eqb-true w 0 t in
+    subst (LowestBit w) (sym (ap (λ (y : ℕ). bit_and y x) z ∙ and_zero_l x)) (lowest_zero w z))
+    (λ t. let z : w ≢ 0 = eqb-false w 0 t in
+    let d : 2 ^ 64 - 1 - w + 1 ≡ x = omega arith in subst (λ (y : ℕ). LowestBit w (bit_and w y)) d (lowest_of w f z))
 
 -- 1 for a word that is not 0
 filled_one : (w u : ℕ) → LowestBit w u → (u + 9223372036854775807) / 2 ^ 63 ≡ pick (not (eqb w 0)) 1 0
