@@ -21,6 +21,7 @@ const RESERVED: u16 = 1030;
 
 // The byte of an internal word that is no sibling's: in a leaf a reservation, above the leaves a node.
 const LEAF: u8 = 4;
+
 const UPPER: u8 = 5;
 
 // Half a word has 32 bits.
@@ -76,7 +77,8 @@ fn is_large<const T: u8>(y: u16) -> bool
 fn weight_of<const T: u8>(y: u16) -> u16
     ensures { Weighs (large_at T) y result }
 {
-    u16::from(y != 0) + 64 * (u16::from(y % 4 == 2) & u16::from(y > 255) & u16::from(is_large::<T>(y)))
+    u16::from(y != 0)
+        + 64 * (u16::from(y % 4 == 2) & u16::from(y > 255) & u16::from(is_large::<T>(y)))
 }
 
 // The bytes of a node's slots, whose short numbers are s, from place 1 on. How many are filled, if no word is too large.

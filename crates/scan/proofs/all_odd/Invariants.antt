@@ -1,7 +1,6 @@
 -- `all_odd`: true only if every slot of node n has an odd word.
-use Prim.Native.Nat.{◌-◌, ◌%◌, ◌≤◌}
+use Prim.Native.Nat.{◌%◌}
 use mathlib.Core.Path.{◌≡◌}
-use Rattle.tree.specs.Tree.{slots}
 use Rattle.layout.specs.Pool.{pool_of}
 use Rattle.scan.specs.Passes.{OddTo}
 use Rattle.scan.proofs.all_odd.Given as goal

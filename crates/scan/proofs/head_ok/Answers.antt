@@ -8,8 +8,8 @@ use Rattle.scan.proofs.head_ok.Goals as goal
 pub returns-then-pool-eq0 : goal.returns-then-pool-eq0
 returns-then-pool-eq0 c =
     elim c.in-Empty.is [
-      inl e ↦ head_at_lem _ _ _ (sym c.read_slot.ensures ∙ e) (both_of _ c.if-pool-eq0.true c.none_used.ensures)
-    | inr e ↦ head_at_lem _ _ _ (sym c.read_slot.ensures ∙ e) (both_of _ c.if-pool-eq0.true c.none_used.ensures)
+      | inl e ↦ head_at_lem _ _ _ (sym c.read_slot.ensures ∙ e) (both_of _ c.if-pool-eq0.true c.none_used.ensures)
+      | inr e ↦ head_at_lem _ _ _ (sym c.read_slot.ensures ∙ e) (both_of _ c.if-pool-eq0.true c.none_used.ensures)
     ]
 
 pub returns-then-pool-lt8 : goal.returns-then-pool-lt8

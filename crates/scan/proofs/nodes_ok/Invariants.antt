@@ -1,7 +1,5 @@
 -- `nodes_ok`: whether each node is free or as it must be, and the map of the free ones.
-use Prim.Native.Nat.{ℕ, ◌-◌, ◌≤◌, ◌<◌}
-use lib.ListN.{get_or}
-use Rattle.layout.specs.Words.{count_word}
+use Prim.Native.Nat.{ℕ, ◌<◌}
 use Rattle.layout.specs.Pool.{pool_of}
 use Rattle.freemap.specs.FreeMap.{MapOf}
 use Rattle.freenodes.specs.FreeNodes.{free_to}

@@ -1,7 +1,5 @@
 -- `none_used`: whether every node is free, where each node is free or as it must be.
-use Prim.Native.Nat.{ℕ, ◌-◌, ◌≤◌, ◌<◌}
-use lib.ListN.{get_or}
-use Rattle.layout.specs.Words.{count_word}
+use Prim.Native.Nat.{ℕ, ◌<◌}
 use Rattle.layout.specs.Pool.{pool_of, Free}
 use Rattle.scan.proofs.none_used.Given as goal
 

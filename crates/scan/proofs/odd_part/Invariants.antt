@@ -1,5 +1,4 @@
 -- `odd_part`: how many slots of node n from one up to another are filled, where each of these has an odd word.
-use Prim.Native.Nat.{◌-◌, ◌≤◌}
 use Rattle.scan.proofs.TallyLaws.{OddPassed}
 use Rattle.scan.proofs.odd_part.Given as goal
 

@@ -1,5 +1,4 @@
 -- `plain_part`: how many slots of node n from one up to another are filled, where none has an internal word.
-use Prim.Native.Nat.{◌-◌, ◌≤◌}
 use Rattle.scan.proofs.TallyLaws.{Passed}
 use Rattle.scan.proofs.plain_part.Given as goal
 
