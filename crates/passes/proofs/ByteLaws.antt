@@ -357,7 +357,7 @@ off_start bs = record { most = omega arith; fits = omega arith; bits = λ k h. a
 pub off_small : (bs : List ℕ) (t f : ℕ) → Off bs t f → t < slots → f < 2 ^ 63
 off_small bs t f o l = let s : 2 ^ t ≤ 2 ^ 63 = pow_mono {i = t} {j = 63} (omega arith) in omega (arith, o.fits)
 
-pub off_next : (bs : List ℕ) (t f b : ℕ) → Off bs t f → t < slots → b ≡ pick (not (eqb (get_or bs (64 - t) 0 % 4) 1)) 1 0 →
+off_next : (bs : List ℕ) (t f b : ℕ) → Off bs t f → t < slots → b ≡ pick (not (eqb (get_or bs (64 - t) 0 % 4) 1)) 1 0 →
     Off bs (t + 1) (2 * f + b)
 off_next bs t f b o l e = record {
   most = omega arith;
@@ -378,6 +378,15 @@ off_next bs t f b o l e = record {
         let z : (2 * f + b) / 2 ≡ f = omega arith in
         let d : 65 - (t + 1) + suc k ≡ 65 - t + k = omega arith in
         bit_suc k (2 * f + b) ∙ ap (bit k) z ∙ o.bits k (omega arith) (subst (λ (x : ℕ). get_or bs x 0 % 4 ≢ 1) d ne)
+
+-- one slot further down
+pub off_down : (bs : List ℕ) (j f b : ℕ) → Off bs (64 - j) f → 0 < j → j ≤ slots → b ≡ from_bool (not (eqb (get_or bs (j - 1 + 1) 0 % 4) 1)) →
+    Off bs (64 - (j - 1)) (2 * f + b)
+off_down bs j f b o p l e =
+    let d : j - 1 + 1 ≡ 64 - (64 - j) = omega arith in
+    let x : 64 - j + 1 ≡ 64 - (j - 1) = omega arith in
+    subst (λ (t : ℕ). Off bs t (2 * f + b)) x (off_next bs (64 - j) f b o (omega arith)
+    (e ∙ byte_pick _ ∙ ap (λ (i : ℕ). pick (not (eqb (get_or bs i 0 % 4) 1)) 1 0) d))
 
 pub off_all : (bs : List ℕ) (m t f : ℕ) → Off bs t f → slots ≤ t → bit_and f m ≡ 0 → HeldTo bs m slots
 off_all bs m t f o l z i lt ne =

@@ -21,6 +21,7 @@ const RESERVED: u16 = 1030;
 
 // The byte of an internal word that is no sibling's: in a leaf a reservation, above the leaves a node.
 const LEAF: u8 = 4;
+
 const UPPER: u8 = 5;
 
 // Half a word has 32 bits.
@@ -76,7 +77,8 @@ fn is_large<const T: u8>(y: u16) -> bool
 fn weight_of<const T: u8>(y: u16) -> u16
     ensures { Weighs (large_at T) y result }
 {
-    u16::from(y != 0) + 64 * (u16::from(y % 4 == 2) & u16::from(y > 255) & u16::from(is_large::<T>(y)))
+    u16::from(y != 0)
+        + 64 * (u16::from(y % 4 == 2) & u16::from(y > 255) & u16::from(is_large::<T>(y)))
 }
 
 // The bytes of a node's slots, whose short numbers are s, from place 1 on. How many are filled, if no word is too large.
@@ -88,7 +90,7 @@ fn bytes_of<const T: u8>(s: &[u16], a: &mut [u8]) -> Option<u64>
     let mut c: u16 = 0;
     for (j, y) in s.iter().enumerate() {
         a[j + 1] = byte_by(T, *y);
-        c = c + weight_of::<T>(*y);
+        c += weight_of::<T>(*y);
     }
     let k = c as u64;
     if k > SLOTS {
@@ -118,29 +120,29 @@ fn fault(y: u8, x: u8, z: u8, j: u8) -> u8
     s & (u8::from(g == 0) | e)
 }
 
-// 0 only if no slot is at fault.
-fn faults(a: &[u8]) -> u8
+// True only if no slot is at fault.
+fn faultless(a: &[u8]) -> bool
     requires { length a.now ≡ 66 }
-    ensures { result ≡ 0 → ChainedTo a.now slots }
+    ensures { result ≡ true → ChainedTo a.now slots }
 {
     let mut bad: u8 = 0;
     for j in 0u8..64 {
         let p = j as usize;
-        bad = bad | fault(a[p], a[p + 1], a[p + 2], j);
+        bad |= fault(a[p], a[p + 1], a[p + 2], j);
     }
-    bad
+    bad == 0
 }
 
-// 0 only if each slot with a mark in m has an entry or leads to a node.
-fn loose(a: &[u8], m: u64) -> u64
+// True only if each slot with a mark in m has an entry or leads to a node.
+fn all_held(a: &[u8], m: u64) -> bool
     requires { length a.now ≡ 66 }
-    ensures { result ≡ 0 → HeldTo a.now m slots }
+    ensures { result ≡ true → HeldTo a.now m slots }
 {
     let mut f: u64 = 0;
-    for t in 0..SLOTS {
-        f = 2 * f + u64::from(a[(SLOTS - t) as usize] % 4 != 1);
+    for j in (0..SLOTS).rev() {
+        f = 2 * f + u64::from(a[(j + 1) as usize] % 4 != 1);
     }
-    f & m
+    f & m == 0
 }
 
 // True only if k slots of node n are filled, none has a word that is too large and none is at fault; a: the bytes of its slots.
@@ -154,7 +156,7 @@ fn read<const T: u8>(pool: &[u64], n: u64, k: u64, a: &mut [u8]) -> bool
     let Some(c) = bytes_of::<T>(&s, a) else {
         return false;
     };
-    c == k && faults(a) == 0
+    c == k && faultless(a)
 }
 
 // True only if the slots of node n, of level 0, are as they must be and k of them filled.
@@ -167,7 +169,7 @@ fn leaf_ok(pool: &[u64], n: u64, k: u64) -> bool
         return false;
     }
     let m = all_marks(pool, n);
-    m == 0 || loose(&a, m) == 0
+    m == 0 || all_held(&a, m)
 }
 
 // Whether node n looks like two entries of 32 slots: two steps, so soonest done step by step. A matter of time alone.
@@ -221,10 +223,7 @@ fn upper_ok(pool: &[u64], n: u64, v: u64, k: u64) -> bool
     if !read::<UPPER>(pool, n, k, &mut a) {
         return false;
     }
-    if loose(&a, all_marks(pool, n)) != 0 {
-        return false;
-    }
-    !a.contains(&UPPER) || children_ok(pool, n, v)
+    all_held(&a, all_marks(pool, n)) && (!a.contains(&UPPER) || children_ok(pool, n, v))
 }
 
 // Whether w is large and internal, as a node's word is. A matter of time alone.

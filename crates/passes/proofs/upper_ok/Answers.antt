@@ -12,7 +12,7 @@ returns-then-not-contains c =
     let g = c.read.ensures c.if-not-read.false in
     let s : length c.read.new.a ≡ 66 = g.bytes.framed.size in
     λ e. upper_filled _ _ _ _ _ _ g.bytes g.few
-    c.requires.fact_2 (c.loose.ensures c.if-loose-ne0.false)
+    c.requires.fact_2 (c.all_held.ensures c.if-all_held.true)
     (lead_none _ _ _ _ _ g.bytes (λ i lt q. eqb-false _ 5 (c.if-not-contains.ensures.cases (i + 1) 0 (omega arith) (omega arith)) q))
     g.chained c.all_marks.ensures _ refl
 
@@ -20,6 +20,6 @@ pub returns-else-not-contains : goal.returns-else-not-contains
 returns-else-not-contains c =
     let g = c.read.ensures c.if-not-read.false in
     λ e. upper_filled _ _ _ _ _ _ g.bytes g.few
-    c.requires.fact_2 (c.loose.ensures c.if-loose-ne0.false)
+    c.requires.fact_2 (c.all_held.ensures c.if-all_held.true)
     (c.children_ok.ensures e)
     g.chained c.all_marks.ensures _ refl

@@ -1,5 +1,5 @@
 -- `is_power`: whether p is a power of two up to 32.
-use Prim.Native.Nat.{ℕ, zero, suc, ◌^◌, ◌<◌}
+use Prim.Native.Nat.{ℕ, zero, suc, ◌<◌}
 use mathlib.Core.Path.{◌≡◌, refl}
 use mathlib.Core.Logic.{inl, inr}
 use native.Mathlib.Omega.{arith}
@@ -22,10 +22,10 @@ returns-in_default-2 c =
 pub returns-in-1 : goal.returns-in-1
 returns-in-1 c =
     yes! (elim c.in-1.is [
-      inl e ↦ (2, omega arith, e)
-    | inr (inl e) ↦ (3, omega arith, e)
-    | inr (inr (inl e)) ↦ (4, omega arith, e)
-    | inr (inr (inr e)) ↦ (5, omega arith, e)
+      | inl e ↦ (2, omega arith, e)
+      | inr (inl e) ↦ (3, omega arith, e)
+      | inr (inr (inl e)) ↦ (4, omega arith, e)
+      | inr (inr (inr e)) ↦ (5, omega arith, e)
     ])
 
 pub returns-in-1-2 : goal.returns-in-1-2

@@ -14,8 +14,7 @@ returns-then-j-p-ne0 c =
 
 pub returns : goal.returns
 returns c =
-    let k = c.is_power.ensures.0 c.if-not-is_power.false in
-    (
+    let k = c.is_power.ensures.0 c.if-not-is_power.false in (
       (λ t. record {
         power = k;
         short = omega (arith, c.width-w.ensures);

@@ -1,10 +1,7 @@
--- `faults`: 0 only if no slot is at fault.
+-- `faultless`: true only if no slot is at fault.
 use mathlib.Core.Path.{◌≡◌}
-use Prim.Native.Nat.{◌-◌, ◌≤◌}
-use Rattle.tree.specs.Tree.{slots}
 use Rattle.passes.specs.Bytes.{ChainedTo}
-use Rattle.passes.proofs.faults.Given as goal
+use Rattle.passes.proofs.faultless.Given as goal
 
 abbrev pub invariant-loop-j : goal.invariant-loop-j
 invariant-loop-j l = l.bad ≡ 0 → ChainedTo l.a l.j
-
