@@ -34,7 +34,7 @@ use answers::{Answer, Refusal};
 use batch::Command;
 use commands::{is_aligned, is_storable};
 use freemap::MAP_WORDS;
-use layout::{COUNT_WORD, HEAD_WORD, MARKS_WORD, SLOT_BITS, SPARE_WORD, mark_word, next_marked};
+use layout::{ANCHOR_WORDS, COUNT_WORD, HEAD_WORD, MARKS_WORD, NODE_WORDS, SLOT_BITS, SPARE_WORD, TOP_TIER, mark_word, next_marked};
 use lookup::{Located, locate};
 use model::{Entry, RESERVED, is_reserved};
 use plan::{Heads, Target, height_of, plan, starts_at_0, top_of};
@@ -44,8 +44,15 @@ use script_rows::Range;
 use script_same::same_rows;
 use script_table::{ROWS, table_length, table_write};
 use script_wide::{mark_going, wide_length, wide_write};
-use words::{fill, one_if, with_bit};
+use words::{fill, with_bit};
 use write::{offset_of, width_of};
+
+// The words of all rows, how many rows there are, and the tiers from 0 to the top one.
+const ROW_WORDS: usize = (ANCHOR_WORDS + NODE_WORDS * ROWS) as usize;
+
+const ROW_COUNT: usize = ROWS as usize;
+
+const TIERS: usize = (TOP_TIER + 1) as usize;
 
 // THE SCRIPT OF A TABLE, if there is room for it.
 fn yield_table(pool: &[u64], rows: &[u64], nums: &[u64], out: &mut [u64]) -> Result<u64, Refusal>
@@ -234,9 +241,9 @@ fn entry_script(pool: &[u64], at: Range, erase: bool, out: &mut [u64]) -> Result
         out.new ≡ (yielding (script pool.now ws') out.old).slice) }
 {
     let top = height_of(pool);
-    let mut rows = [0u64; 1684];
-    let mut nums = [0u64; 24];
-    let mut path = [0u64; 12];
+    let mut rows = [0u64; ROW_WORDS];
+    let mut nums = [0u64; ROW_COUNT];
+    let mut path = [0u64; TIERS];
     after_rows(pool, &mut rows, &mut nums, &mut path, at, top, erase);
     yield_table(pool, &rows, &nums, out)
 }
@@ -304,8 +311,7 @@ pub fn prepare_remark(pool: &[u64], i: u64, m: u64, on: bool, out: &mut [u64]) -
     }
     let k = locate(pool, i);
     match k {
-        Located::Apart => Err(Refusal::from(Answer::Absent)),
-        Located::Vacant(_, _, _) => Err(Refusal::from(Answer::Absent)),
+        Located::Apart | Located::Vacant(..) => Err(Refusal::from(Answer::Absent)),
         Located::AtHead(e) => remark_entry(pool, e, 0, i, m, on, out),
         Located::InNode(e, at, _) => remark_entry(pool, e, at.top, i, m, on, out),
     }
@@ -353,7 +359,7 @@ fn run_mark(pool: &[u64], n: u64, m: u64, o: u64, c: u64) -> u64
     ensures r_bound { result ≤ 1 }
 {
     let w = mark_word(pool, n, m);
-    one_if(next_marked(w, o) < o + c)
+    u64::from(next_marked(w, o) < o + c)
 }
 
 // Marks 0 and 1 of the slots that the target takes in node n.
@@ -416,8 +422,8 @@ fn head_script(pool: &[u64], word: u64, out: &mut [u64]) -> Result<u64, Refusal>
         out.new ≡ (yielding (script pool.now (set pool.now 1 word)) out.old).slice) }
 {
     let marks = pool[MARKS_WORD];
-    let mut rows = [0u64; 1684];
-    let mut nums = [0u64; 24];
+    let mut rows = [0u64; ROW_WORDS];
+    let mut nums = [0u64; ROW_COUNT];
     let at = Range {
         base: 0,
         order: 0,
@@ -455,8 +461,8 @@ fn new_script(
         word: target.word,
         marks,
     };
-    let mut rows = [0u64; 1684];
-    let mut nums = [0u64; 24];
+    let mut rows = [0u64; ROW_WORDS];
+    let mut nums = [0u64; ROW_COUNT];
     new_rows(pool, &mut rows, &mut nums, path, chain, at, heads);
     yield_wide(pool, &rows, &nums, at.base, at.order, out)
 }
@@ -482,8 +488,8 @@ fn prepare_new(
     if heads.new == 0 {
         return head_script(pool, target.word, out);
     }
-    let mut path = [0u64; 12];
-    let mut chain = [0u64; 12];
+    let mut path = [0u64; TIERS];
+    let mut chain = [0u64; TIERS];
     let enough = plan(pool, map, &mut path, &mut chain, target, heads);
     if !enough {
         return Err(Refusal::from(Answer::TooFewNodes));
@@ -532,8 +538,7 @@ fn store_taken(pool: &[u64], map: &mut [u64], target: Target, out: &mut [u64]) -
 {
     let k = locate(pool, target.index);
     match k {
-        Located::Apart => prepare_new(pool, map, target, false, out),
-        Located::Vacant(_, _, _) => prepare_new(pool, map, target, false, out),
+        Located::Apart | Located::Vacant(..) => prepare_new(pool, map, target, false, out),
         Located::AtHead(e) => store_over(pool, map, e, 0, target, out),
         Located::InNode(e, at, _) => store_over(pool, map, e, at.top, target, out),
     }
@@ -601,10 +606,8 @@ pub fn prepare_reserve(pool: &[u64], map: &mut [u64], i: u64, out: &mut [u64]) -
 {
     let k = locate(pool, i);
     match k {
-        Located::Apart => reserve_free(pool, map, i, out),
-        Located::Vacant(_, _, _) => reserve_free(pool, map, i, out),
-        Located::AtHead(_) => Err(Refusal::from(Answer::Covered)),
-        Located::InNode(_, _, _) => Err(Refusal::from(Answer::Covered)),
+        Located::Apart | Located::Vacant(..) => reserve_free(pool, map, i, out),
+        Located::AtHead(_) | Located::InNode(..) => Err(Refusal::from(Answer::Covered)),
     }
 }
 
@@ -638,19 +641,13 @@ pub fn prepare_erase(pool: &[u64], i: u64, out: &mut [u64]) -> Result<u64, Refus
 {
     let k = locate(pool, i);
     match k {
-        Located::Apart => Err(Refusal::from(Answer::Absent)),
-        Located::Vacant(_, _, _) => Err(Refusal::from(Answer::Absent)),
+        Located::Apart | Located::Vacant(..) => Err(Refusal::from(Answer::Absent)),
         Located::AtHead(e) => erase_entry(pool, e, 0, i, out),
         Located::InNode(e, at, _) => erase_entry(pool, e, at.top, i, out),
     }
 }
 
 // ANY CHANGING COMMAND
-
-// For the commands that change nothing, which prepare_command is not called with.
-fn nothing() -> Result<u64, Refusal> {
-    Err(Refusal::from(Answer::Absent))
-}
 
 pub fn prepare_command(pool: &[u64], map: &mut [u64], c: Command, out: &mut [u64]) -> Result<u64, Refusal>
     requires well_formed { WellFormed pool.now }
@@ -663,16 +660,11 @@ pub fn prepare_command(pool: &[u64], map: &mut [u64], c: Command, out: &mut [u64
         Command::Store { index, order, word } => {
             prepare_store(pool, map, index, order, word, out)
         }
-        Command::Load { index: _ } => nothing(),
         Command::Erase { index } => prepare_erase(pool, index, out),
         Command::Mark { index, mark } => prepare_remark(pool, index, mark, true, out),
         Command::Unmark { index, mark } => prepare_remark(pool, index, mark, false, out),
-        Command::Find {
-            first: _,
-            last: _,
-            filter: _,
-            budget: _,
-        } => nothing(),
         Command::Reserve { index } => prepare_reserve(pool, map, index, out),
+        // These change nothing: prepare_command is not called with them.
+        Command::Load { .. } | Command::Find { .. } => Err(Refusal::from(Answer::Absent)),
     }
 }
