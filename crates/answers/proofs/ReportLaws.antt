@@ -16,3 +16,6 @@ told a r e h q = handed_on a r h ∙ ap (λ (k : ℕ). result_of k 0) (sym (ap a
 
 pub went_on : {A : Type 0} {o : Result A Answer} {x : A} → o ≡ Ok x → {n : ℕ} → answer_of o ≡ n → 0 ≡ n
 went_on e q = sym (ap answer_of e) ∙ q
+
+pub of_refused : (a : Answer) {r : Refusal} → r ≡ refused a → {n : ℕ} → number_of a ≡ n → report_of (Err r) ≡ result_of n 0
+of_refused a e q = ap (λ (y : Refusal). report_of (Err y)) e ∙ ap (λ (k : ℕ). result_of k 0) q

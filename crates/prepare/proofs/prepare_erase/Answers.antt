@@ -1,3 +1,5 @@
+use Rattle.answers.proofs.ReportLaws.{of_refused}
+use Rattle.std.proofs.Common.{refl}
 use Rattle.answers.specs.Answers.{absent}
 use Rattle.lookup.proofs.HeadLaws.{at_head, at_spot}
 use Rattle.prepare.proofs.PrepareLaws.{gives_refused, uncovered}
@@ -15,9 +17,9 @@ erase_entry-requires-in-InNode-clause-i_value c =
 pub returns-in-Apart-clause-fact : goal.returns-in-Apart-clause-fact
 returns-in-Apart-clause-fact c =
     λ s. let q = uncovered (c.locate-k.ensures s) c.in-Apart.is in
-    (gives_refused absent c.refusal.ensures (erase_refused s c.args.out.now c.args.i q)).result_is
+    (gives_refused absent (of_refused _ c.from.ensures refl) (erase_refused s c.args.out.now c.args.i q)).result_is
 
 pub returns-in-Apart-clause-fact_2 : goal.returns-in-Apart-clause-fact_2
 returns-in-Apart-clause-fact_2 c =
     λ s. let q = uncovered (c.locate-k.ensures s) c.in-Apart.is in
-    (gives_refused absent c.refusal.ensures (erase_refused s c.args.out.now c.args.i q)).slice_is
+    (gives_refused absent (of_refused _ c.from.ensures refl) (erase_refused s c.args.out.now c.args.i q)).slice_is
