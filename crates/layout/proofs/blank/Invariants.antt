@@ -1,5 +1,4 @@
 -- `blank`: whether the words of node n from one field up to another are 0.
-use Prim.Native.Nat.{◌-◌, ◌≤◌}
 use lib.ListN.{get_or}
 use Rattle.layout.specs.Words.{place}
 use Rattle.words.proofs.OrLaws.{Ored}

@@ -1,5 +1,4 @@
 -- `next_filled`: the least slot of node n from o on, below end, that is not empty.
-use Prim.Native.Nat.{◌-◌, ◌≤◌}
 use Rattle.layout.specs.Reading.{Vacant}
 use Rattle.layout.proofs.next_filled.Given as goal
 

@@ -1,5 +1,4 @@
 -- `plain_slots`: whether no slot of node n from one up to another has an internal word.
-use Prim.Native.Nat.{◌-◌, ◌≤◌}
 use Rattle.layout.proofs.PassLaws.{Tested}
 use Rattle.layout.proofs.plain_slots.Given as goal
 
