@@ -33,8 +33,10 @@ pub const MAX_ROOM: usize = 4096;
 // The highest order of an entry.
 const MAX_ORDER: u64 = 63;
 
+// How many marks an entry has.
 const MARKS: u64 = 3;
 
+// The filter that any entry passes (R64).
 const ANY_MARK: u64 = 3;
 
 // Mark 2, which no store hands on (R190), is worth this; marks 0 and 1 are below it.
@@ -552,7 +554,7 @@ pub struct Sought {
 fn seen(c: Option<Entry>) -> Option<Entry>
     ensures { result ≡ seen c }
 {
-    c.filter(|e| e.word != RESERVED)
+    c.filter(|e| !is_reserved(*e))
 }
 
 fn run_load(index: &[u64], order: &[u64], word: &[u64], marks: &[u64], n: usize, i: u64) -> Reply
@@ -667,7 +669,7 @@ fn run_remark(
         return refused(tag, Answer::Absent, n);
     };
     let e = entry_at(index, order, word, marks, k);
-    if e.word == RESERVED {
+    if is_reserved(e) {
         return refused(tag, Answer::Absent, n);
     }
     let x = with_bit(e.marks, m, on);

@@ -1,6 +1,7 @@
 -- `run_remark`: a mark or an unmark, its reply and the marks.
 use mathlib.Core.Path.{refl, sym, ap, ◌∙◌}
 use native.Mathlib.Omega.{arith}
+use borrow.Author.Tests.{eqb-true, eqb-false}
 use Rattle.model.specs.declared.Entry.{Entry}
 use Rattle.model.specs.Model.{present}
 use Rattle.xaplain.proofs.PlainLaws.{marks_at, entry_ok}
@@ -20,11 +21,11 @@ returns-in_default c =
     λ h. remark_none h c.args.i c.args.m c.args.on c.if-m-ge-MARKS.false
     (ap present (place_none h c.args.i c.in_default.ensures)) c.remarked_tag-tag.ensures c.refused-in_default.ensures
 
-pub returns-then-e-eq-RESERVED : goal.returns-then-e-eq-RESERVED
-returns-then-e-eq-RESERVED c =
+pub returns-then-is_reserved : goal.returns-then-is_reserved
+returns-then-is_reserved c =
     λ h. remark_none h c.args.i c.args.m c.args.on c.if-m-ge-MARKS.false
     (place_reserved h c.args.i c.in-Some.k c.in-Some.ensures
-    (sym (ap (λ (e : Entry). e.word) c.entry_at-e.ensures) ∙ c.if-e-eq-RESERVED.true)) c.remarked_tag-tag.ensures c.refused-then-e-eq-RESERVED.ensures
+    (sym (ap (λ (e : Entry). e.word) c.entry_at-e.ensures) ∙ eqb-true _ _ (sym c.is_reserved.ensures ∙ c.if-is_reserved.true))) c.remarked_tag-tag.ensures c.refused-then-is_reserved.ensures
 
 pub with_bit-x-requires : goal.with_bit-x-requires
 with_bit-x-requires c =
@@ -44,4 +45,4 @@ returns c =
     λ h. let a = c.args in let k = c.in-Some.k in let d = c.in-Some.ensures in
     remarks h a.i a.m a.on c.if-m-ge-MARKS.false k c.with_bit-x.result
     (place_in h a.i k d) (place_some h a.i k d)
-    c.entry_at-e.result c.entry_at-e.ensures c.if-e-eq-RESERVED.false c.with_bit-x.ensures c.remarked_tag-tag.ensures c.answered_by.ensures refl
+    c.entry_at-e.result c.entry_at-e.ensures (eqb-false _ _ (sym c.is_reserved.ensures ∙ c.if-is_reserved.false)) c.with_bit-x.ensures c.remarked_tag-tag.ensures c.answered_by.ensures refl
