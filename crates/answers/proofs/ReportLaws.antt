@@ -1,7 +1,10 @@
 -- What a host gets where `?` hands an answer on as a refusal.
-use Rattle.std.proofs.Common.{ℕ, ◌≡◌, Result, Ok, Err, ap, sym, ◌∙◌, refl}
+use Rattle.std.proofs.Common.{ℕ, ◌≡◌, Result, Ok, Err, ap, sym, ◌∙◌, refl, arith}
 use Rattle.std.specs.Result.{IsErrAnd}
 use Rattle.answers.specs.declared.Answer.{Answer}
+use Rattle.answers.specs.declared.Answer.TheVariants.{
+  PoolLength, NotWellFormed, BadBatch, ReplySpace, BadOrder, BadEntry, BadMark, FirstAboveLast, NoBudget, Absent, TooFewNodes,
+  Ended, Paused, NotAligned, Covered, BadKey, BadScript, BadGate, NoTotal, PartAboveTotal}
 use Rattle.answers.specs.declared.Refusal.{Refusal}
 use Rattle.answers.specs.Answers.{number_of, refused, report_of, result_of, answer_of}
 
@@ -19,3 +22,29 @@ went_on e q = sym (ap answer_of e) ∙ q
 
 pub of_refused : (a : Answer) {r : Refusal} → r ≡ refused a → {n : ℕ} → number_of a ≡ n → report_of (Err r) ≡ result_of n 0
 of_refused a e q = ap (λ (y : Refusal). report_of (Err y)) e ∙ ap (λ (k : ℕ). result_of k 0) q
+
+-- no answer has the number of done
+pub not_done : (a : Answer) → number_of a ≡ 0 → ⊥
+not_done PoolLength e = absurd (omega arith)
+not_done NotWellFormed e = absurd (omega arith)
+not_done BadBatch e = absurd (omega arith)
+not_done ReplySpace e = absurd (omega arith)
+not_done BadOrder e = absurd (omega arith)
+not_done BadEntry e = absurd (omega arith)
+not_done BadMark e = absurd (omega arith)
+not_done FirstAboveLast e = absurd (omega arith)
+not_done NoBudget e = absurd (omega arith)
+not_done Absent e = absurd (omega arith)
+not_done TooFewNodes e = absurd (omega arith)
+not_done Ended e = absurd (omega arith)
+not_done Paused e = absurd (omega arith)
+not_done NotAligned e = absurd (omega arith)
+not_done Covered e = absurd (omega arith)
+not_done BadKey e = absurd (omega arith)
+not_done BadScript e = absurd (omega arith)
+not_done BadGate e = absurd (omega arith)
+not_done NoTotal e = absurd (omega arith)
+not_done PartAboveTotal e = absurd (omega arith)
+
+pub was_no : {A : Type 0} {o : Result A Answer} {a : Answer} → o ≡ Err a → {n : ℕ} → answer_of o ≡ n → n ≡ 0 → ⊥
+was_no {a = a} e q z = not_done a (sym (ap answer_of e) ∙ q ∙ z)

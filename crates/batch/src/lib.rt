@@ -8,9 +8,11 @@ ghost use Rattle.std.specs.Prelude.{◌≡◌, true, ◌≢◌, ◌+◌, ◌<◌
 ghost use Rattle.words.specs.Bytes.{number_at, overwrite};
 ghost use Rattle.batch.specs.Batch.{field_bytes, head_bytes, command_at, is_record, next_at, read_at, rest_at, counted, parse};
 ghost use Rattle.batch.specs.declared.Read.TheVariants.{Next};
+ghost use Rattle.batch.specs.Refusing.{refusal_of};
 ghost use Rattle.blocks.specs.Choice.{pick};
 ghost use Rattle.batch.specs.Reply.{reply_bytes, encode};
 
+use answers::{Answer, Refusal};
 use words::{number1, number2, number8, put1, put2, put8};
 
 // The longest batch, the bytes of a record before its fields, and the bytes of a reply.
@@ -79,6 +81,18 @@ pub struct Step {
 #[derive(Clone, Copy, PartialEq, Eq)]
 pub struct BadRecord {
     pub at: u64,
+}
+
+// A call refuses such a batch, with that place.
+impl From<BadRecord> for Refusal {
+    ghost from_gives = { λ bad r. r ≡ refusal_of bad };
+
+    fn from(bad: BadRecord) -> Refusal {
+        Refusal {
+            answer: Answer::BadBatch,
+            number: bad.at,
+        }
+    }
 }
 
 // The fields of a reply.

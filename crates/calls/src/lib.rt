@@ -108,10 +108,7 @@ pub fn run(pool: &mut [u64], batch: &[u8], reply: &mut [u8]) -> Result<u64, Refu
 {
     let mut map = [0u64; MAP_WORDS];
     verify::check_map(pool, &mut map)?;
-    let k = batch::count(batch).map_err(|bad| Refusal {
-        answer: Answer::BadBatch,
-        number: bad.at,
-    })?;
+    let k = batch::count(batch)?;
     run_counted(pool, &mut map, batch, reply, k)
 }
 
@@ -121,10 +118,7 @@ pub fn count(batch: &[u8]) -> Result<u64, Refusal>
     ensures value { report_of result ≡ count_result batch.now }
     ensures batch_value { batch.exit.now ≡ batch.entry.now }
 {
-    let k = reader::count_through(batch).map_err(|bad| Refusal {
-        answer: Answer::BadBatch,
-        number: bad.at,
-    })?;
+    let k = reader::count_through(batch)?;
     Ok(k)
 }
 
@@ -139,10 +133,7 @@ pub fn list(pool: &[u64], first: u64, last: u64, buffer: &mut [u8]) -> Result<u6
     if last < first {
         return Err(Refusal::from(Answer::FirstAboveLast));
     }
-    let k = listing::list(pool, first, last, buffer).map_err(|s| Refusal {
-        answer: Answer::ReplySpace,
-        number: s.entries,
-    })?;
+    let k = listing::list(pool, first, last, buffer)?;
     Ok(k)
 }
 

@@ -12,8 +12,10 @@ ghost use Rattle.tree.specs.Tree.{slots, tier_order, top_tier};
 ghost use Rattle.layout.specs.WellFormed.{WellFormed, num};
 ghost use Rattle.words.specs.Bytes.{overwrite};
 ghost use Rattle.listing.specs.Listing.{entry_bytes, encode_entry, listed, outcome, filled_with};
+ghost use Rattle.listing.specs.Refusing.{refusal_of};
 ghost use Rattle.listing.specs.Visits.{between, Emits, Ready};
 
+use answers::{Answer, Refusal};
 use layout::{SLOT_BITS, SLOTS, block_of};
 use lookup::{Entered, Sight, enter, entry_at, look};
 use model::{Entry, shown_word};
@@ -37,6 +39,18 @@ pub struct Wanted {
 #[derive(Clone, Copy, PartialEq, Eq)]
 pub struct Short {
     pub entries: u64,
+}
+
+// A call refuses it as a reply space too small, with the number of entries.
+impl From<Short> for Refusal {
+    ghost from_gives = { λ short r. r ≡ refusal_of short };
+
+    fn from(short: Short) -> Refusal {
+        Refusal {
+            answer: Answer::ReplySpace,
+            number: short.entries,
+        }
+    }
 }
 
 // The bytes of an entry, from a place on.

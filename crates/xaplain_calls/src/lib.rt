@@ -144,9 +144,6 @@ pub fn run(
     ensures batch_value { batch.exit.now ≡ batch.entry.now }
 {
     xaplain::check(index, order, word, marks)?;
-    let k = reader::count_through(batch).map_err(|bad| Refusal {
-        answer: Answer::BadBatch,
-        number: bad.at,
-    })?;
+    let k = reader::count_through(batch)?;
     run_counted(index, order, word, marks, batch, reply, k)
 }
