@@ -48,3 +48,8 @@ not_done PartAboveTotal e = absurd (omega arith)
 
 pub was_no : {A : Type 0} {o : Result A Answer} {a : Answer} → o ≡ Err a → {n : ℕ} → answer_of o ≡ n → n ≡ 0 → ⊥
 was_no {a = a} e q z = not_done a (sym (ap answer_of e) ∙ q ∙ z)
+
+-- a refusal handed on as it is
+pub of_err : (x : Refusal) (r : Result ℕ Refusal) → IsErrAnd r (λ y. y ≡ x) → report_of r ≡ result_of (number_of x.answer) x.number
+of_err x (Ok n) h = elim h [ ]
+of_err x (Err y) h = ap (λ (z : Refusal). report_of (Err z)) h
