@@ -107,7 +107,7 @@ pub fn run(pool: &mut [u64], batch: &[u8], reply: &mut [u8]) -> Result<u64, Refu
     ensures batch_value { batch.exit.now ≡ batch.entry.now }
 {
     let mut map = [0u64; MAP_WORDS];
-    verify::check_map(pool, &mut map)?;
+    verify::check_map(pool, &mut map)?; // what is refused is refused before the first write
     let k = batch::count(batch)?;
     run_counted(pool, &mut map, batch, reply, k)
 }

@@ -143,7 +143,7 @@ pub fn run(
         batch.now reply.old).reply }
     ensures batch_value { batch.exit.now ≡ batch.entry.now }
 {
-    xaplain::check(index, order, word, marks)?;
+    xaplain::check(index, order, word, marks)?; // what is refused is refused before the first write
     let k = reader::count_through(batch)?;
     run_counted(index, order, word, marks, batch, reply, k)
 }

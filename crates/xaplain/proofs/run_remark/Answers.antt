@@ -27,19 +27,6 @@ returns-then-is_reserved c =
     (place_reserved h c.args.i c.in-Some.k c.in-Some.ensures
     (sym (ap (λ (e : Entry). e.word) c.entry_at-e.ensures) ∙ eqb-true _ _ (sym c.is_reserved.ensures ∙ c.if-is_reserved.true))) c.remarked_tag-tag.ensures c.refused-then-is_reserved.ensures
 
-pub with_bit-x-requires : goal.with_bit-x-requires
-with_bit-x-requires c =
-    let h = c.requires in let k = c.in-Some.k in
-    let g = place_in h c.args.i k c.in-Some.ensures in (
-      c.if-m-ge-MARKS.false,
-      omega (
-        arith,
-        ap (λ (e : Entry). e.marks) c.entry_at-e.ensures,
-        marks_at h k g,
-        (entry_ok h k g).marks_fit,
-      ),
-    )
-
 pub returns : goal.returns
 returns c =
     λ h. let a = c.args in let k = c.in-Some.k in let d = c.in-Some.ensures in
