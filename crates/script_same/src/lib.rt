@@ -20,17 +20,14 @@ use script_rows::{Range, anchor_row, path_rows};
 use script_table::ROWS;
 
 // The number of the node of row r, n where it has none.
-fn number_at(path: &[u64], r: u64, v: u64, top: u64, n: u64) -> u64
+pub fn number_at(path: &[u64], r: u64, v: u64, top: u64, n: u64) -> u64
     requires { (top ≤ top_tier) × (top_tier < length path.now) }
     ensures { NumberAt path.now r v top n result }
 {
-    if r <= v {
-        return n;
+    if v < r && r <= top {
+        return path[r as usize];
     }
-    if top < r {
-        return n;
-    }
-    path[r as usize]
+    n
 }
 
 // The numbers of all rows.
