@@ -6,10 +6,9 @@ use mathlib.Core.Bool.{Bool, true}
 use native.Mathlib.Omega.{arith}
 use lib.Dec.{eqb}
 use lib.ListN.{length, get_or, set, take}
-use borrow.Author.Tests.{eqb-true, eqb-false, ltb-true, ltb-false}
-use Rattle.std.specs.Prelude.{nat_le, nat_lt, ltb, ◌&&◌, None, Some}
+use borrow.Author.Tests.{eqb-true, eqb-false, le-leb}
+use Rattle.std.specs.Prelude.{nat_le, None, Some}
 use Rattle.std.specs.List.{All, filter, position, position_or_len}
-use Rattle.std.proofs.lemmas.Bool.Decides.{nat_tests}
 use Rattle.std.proofs.lemmas.Grind.{common_steps}
 use Rattle.std.proofs.lemmas.List.{get_or-take, length-take-le}
 use Rattle.std.proofs.lemmas.List.Quantifiers.{position-Some}
@@ -19,7 +18,7 @@ use Rattle.blocks.proofs.BoolLaws.{by_t}
 use Rattle.layout.specs.Words.{anchor_words, node_words, pool_words, place, node_of, field_in}
 use Rattle.script.specs.Script.{script_from, script}
 use Rattle.script_table.proofs.LaidLaws.{next_same, next_pair, laid_pair, laid_none, script_end, script_start}
-use Rattle.script_table.specs.Table.{laid, row_count, Tables, Agrees, NextNumber, RowOf, numbers_in, Wrote}
+use Rattle.script_table.specs.Table.{laid, row_count, Tables, Agrees, NextNumber, RowOf, numbers_from, Wrote}
 
 module _ (ws ws' : List ℕ) (len : ℕ) where
   abbrev pub after : ℕ → List ℕ
@@ -70,12 +69,6 @@ pub record NoneBelow (ns : List ℕ) (from r : ℕ) : Type 0 where
   pub least : from ≤ r
   pub between : (t : ℕ) → t < row_count → from ≤ get_or ns t 0 → r ≤ get_or ns t 0
 
-not-lt : {a b : ℕ} → (a < b → ⊥) → b ≤ a
-not-lt f = omega arith
-
-by_lt : {P : Type 0} (a b : ℕ) → (a < b → P) → (b ≤ a → P) → P
-by_lt a b f g = by_t (ltb a b) (λ e. f (ltb-true a b e)) (λ e. g (omega (arith, ltb-false a b e)))
-
 no_position : (p : ℕ → Bool) (xs : List ℕ) → position p xs ≡ None → length xs ≤ position_or_len p xs
 no_position p xs e = grind (arith, common_steps)
 
@@ -88,29 +81,19 @@ filter_each p P (x ∷ xs) (suc i) h t a =
     by_t (p x) (λ e. filter_each p P xs i (omega arith) t (λ k d lt. (rw e at a) (suc k) d (omega arith)))
     (λ e. filter_each p P xs i (omega arith) t (rw e at a))
 
-in_range : (from x n : ℕ) → from ≤ x → x < n → (nat_le from x && nat_lt x n) ≡ true
-in_range from x n a b = grind (arith, nat_tests)
-
-module _ (ns : List ℕ) (from n : ℕ) (P : ℕ → Type 0) (h : row_count ≤ length ns) (a : All P (numbers_in ns from n)) where
-  number_each : (t : ℕ) → t < row_count → from ≤ get_or ns t 0 → get_or ns t 0 < n → P (get_or ns t 0)
-  number_each t lt le below =
+module _ (ns : List ℕ) (from : ℕ) (P : ℕ → Type 0) (h : row_count ≤ length ns) (a : All P (numbers_from ns from)) where
+  number_each : (t : ℕ) → t < row_count → from ≤ get_or ns t 0 → P (get_or ns t 0)
+  number_each t lt le =
       let same : get_or (take row_count ns) t 0 ≡ get_or ns t 0 = get_or-take row_count ns t 0 lt in
-      subst P same (filter_each (λ x. nat_le from x && nat_lt x n) P (take row_count ns) t
+      subst P same (filter_each (λ x. nat_le from x) P (take row_count ns) t
       (omega (arith, length-take-le row_count ns h))
-      (subst (λ (x : ℕ). (nat_le from x && nat_lt x n) ≡ true) (sym same) (in_range from (get_or ns t 0) n le below)) a)
+      (subst (λ (x : ℕ). nat_le from x ≡ true) (sym same) (le-leb from (get_or ns t 0) le)) a)
 
 pub none_below : {ns : List ℕ} {from n : ℕ} → row_count ≤ length ns → from ≤ n → NextNumber ns from n None → NoneBelow ns from n
-none_below {ns} {from} {n} h f e = record {
-  least = f;
-  between = λ t lt le. not-lt (λ below. number_each ns from n (λ (_ : ℕ). ⊥) h (subst (All (λ (_ : ℕ). ⊥)) (sym e) (λ k d none. absurd (omega arith))) t lt le below);
-}
+none_below {ns} {from} {n} h f x = record { least = f; between = number_each ns from (λ (y : ℕ). n ≤ y) h x }
 
 pub some_below : {ns : List ℕ} {from n m : ℕ} → row_count ≤ length ns → NextNumber ns from n (Some m) → NoneBelow ns from m
-some_below {ns} {from} {n} {m} h x = record {
-  least = x.0;
-  between = λ t lt le. by_lt (get_or ns t 0) n (λ below. number_each ns from n (λ (y : ℕ). m ≤ y) h x.2 t lt le below)
-      (λ above. omega (arith, x.1));
-}
+some_below {ns} {from} {n} {m} h x = record { least = x.0; between = number_each ns from (λ (y : ℕ). m ≤ y) h x.2 }
 
 pub row_some : (ns : List ℕ) (m r : ℕ) → row_count ≤ length ns → RowOf ns m (Some r) → (r < row_count) × (get_or ns r 0 ≡ m)
 row_some ns m r h x =

@@ -52,8 +52,9 @@ pub fn next_number(nums: &[u64], from: u64, n: u64) -> Option<u64>
     nums[..ROWS as usize]
         .iter()
         .copied()
-        .filter(|m| from <= *m && *m < n)
+        .filter(|m| from <= *m)
         .min()
+        .filter(|m| *m < n)
 }
 
 // The row of node m, if it has one.
