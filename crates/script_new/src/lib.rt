@@ -146,7 +146,7 @@ fn number_at(path: &[u64], chain: &[u64], r: u64, v: u64, top: u64, low: u64, n:
     script_same::number_at(path, r, v, top, n)
 }
 
-// The numbers of all rows.
+// The numbers of all rows, one by one for the reason of script_same's.
 fn number_rows(nums: &mut [u64], path: &[u64], chain: &[u64], v: u64, top: u64, low: u64, n: u64)
     requires v_le_top_tier { (v ≤ top_tier) × (top ≤ top_tier) × (low ≤ top_tier) × (top_tier < length path.now) × (top_tier < length chain.now) }
     requires row_count_in_bounds { row_count ≤ length nums.old }

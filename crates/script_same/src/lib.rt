@@ -30,7 +30,7 @@ pub fn number_at(path: &[u64], r: u64, v: u64, top: u64, n: u64) -> u64
     n
 }
 
-// The numbers of all rows.
+// The numbers of all rows, one by one: a copy of a part of the path would be a call of memcpy, and the library is to need memset alone.
 pub fn number_rows(nums: &mut [u64], path: &[u64], v: u64, top: u64, n: u64)
     requires { (top ≤ top_tier) × (top_tier < length path.now) × (row_count ≤ length nums.old) }
     ensures { Numbered nums.new path.now v top n row_count }
