@@ -4,7 +4,7 @@
 // A test's contract is `Decides r A`: true with A, false with the refutation of A.
 #![tactic(auto)]
 
-ghost use Rattle.std.specs.Prelude.{◌≡◌, Bool, true, false, ℕ, suc, ◌+◌, ◌-◌, ◌≤◌, ◌<◌, get_or, length, OnOk};
+ghost use Rattle.std.specs.Prelude.{◌≡◌, Bool, true, false, MatchOption, ℕ, suc, ◌+◌, ◌-◌, ◌≤◌, ◌<◌, get_or, length, OnOk};
 ghost use Rattle.answers.specs.Answers.{answer_of};
 ghost use Rattle.blocks.specs.Choice.{either};
 ghost use Rattle.blocks.specs.Deciding.{Decides};
@@ -107,6 +107,13 @@ fn cut_to(pool: &[u64], m: u64, x: u64) -> bool
     together(pool, x, m, 0)
 }
 
+// The block that a slot's word r leads to, if it is one of n.
+fn named(n: u64, r: u64) -> Option<u64>
+    ensures { MatchOption result (1 ≤ r → n < r) (λ x. (r ≡ suc x) × (x < n)) }
+{
+    r.checked_sub(1).filter(|x| *x < n)
+}
+
 // The shortcut m.
 fn cut_ok(pool: &[u64], n: u64, m: u64) -> bool
     requires { Block pool.now n m × Head pool.now n m × (1 ≤ skip_of pool.now m) }
@@ -118,14 +125,10 @@ fn cut_ok(pool: &[u64], n: u64, m: u64) -> bool
     if !blank(pool, m, SLOT_FIELD + 1, BLOCK_WORDS) {
         return false;
     }
-    let r = field(pool, m, SLOT_FIELD);
-    if r < 1 {
-        return false;
+    match named(n, field(pool, m, SLOT_FIELD)) {
+        Some(x) => cut_to(pool, m, x),
+        None => false,
     }
-    if n < r {
-        return false;
-    }
-    cut_to(pool, m, r - 1)
 }
 
 // Slot j of node m, of tier v, has a leaf of its block.
@@ -133,14 +136,9 @@ fn leaf_in(pool: &[u64], n: u64, m: u64, v: u64, j: u64) -> bool
     requires { Block pool.now n m × (v ≡ tier_of pool.now m) × (v ≤ top_tier) × (j < slots) }
     ensures { Decides result (LeafIn pool.now n m j) }
 {
-    let r = field(pool, m, SLOT_FIELD + j);
-    if r < 1 {
+    let Some(x) = named(n, field(pool, m, SLOT_FIELD + j)) else {
         return false;
-    }
-    if n < r {
-        return false;
-    }
-    let x = r - 1;
+    };
     if field(pool, x, TIER_FIELD) != 1 {
         return false;
     }
@@ -373,13 +371,9 @@ fn mark_ref(seen: &mut [u64], n: u64, r: u64)
     requires { Seen seen.old × (n ≤ max_blocks) }
     ensures { (f : ℕ → Bool) → SetOf f seen.old → SetOf (λ x. either (f x) (names n r x)) seen.new }
 {
-    if r == 0 {
-        return;
+    if let Some(x) = named(n, r) {
+        mark(seen, x);
     }
-    if n < r {
-        return;
-    }
-    mark(seen, r - 1);
 }
 
 // Those that the slots of block m lead to.

@@ -56,10 +56,7 @@ fn child(pool: &[u64], key: &[u64], r: u64, w: u64) -> Option<Step>
     requires { 1 ≤ r → HasBlock pool.now key.now (r - 1) }
     ensures { result ≡ child_step pool.now key.now r w }
 {
-    if r == 0 {
-        return None;
-    }
-    let x = r - 1;
+    let x = r.checked_sub(1)?;
     if field(pool, x, TIER_FIELD) == 1 {
         return single(pool, key, x);
     }
@@ -108,11 +105,7 @@ pub fn look(pool: &[u64], key: &[u64]) -> Option<u64>
     ensures { (s : WellFormed pool.now) →
         result ≡ looked_for (find (key_at key.now 0) s.list) }
 {
-    let r = pool[ROOT_WORD];
-    if r == 0 {
-        return None;
-    }
-    let mut m = r - 1;
+    let mut m = pool[ROOT_WORD].checked_sub(1)?;
     let mut v = TOP_TIER;
     while 0 < v {
         match step_at(pool, key, m, v)? {

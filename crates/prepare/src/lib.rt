@@ -434,7 +434,8 @@ fn head_script(pool: &[u64], word: u64, out: &mut [u64]) -> Result<u64, Refusal>
     yield_table(pool, &rows, &nums, out)
 }
 
-// The entry goes into nodes, whose numbers are planned.
+// The entry goes into nodes, whose numbers are planned. reserve: which command the clauses speak of; the code does not look at it. (As a
+// `ghost` value it would take the clauses' names from the proofs.)
 fn new_script(
     pool: &[u64],
     path: &[u64],

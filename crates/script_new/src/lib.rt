@@ -135,27 +135,18 @@ fn low_chain(heads: Heads, beside: bool) -> u64
     at_least_1(heads.old)
 }
 
-// The number of the node of row r, n where it has none.
+// The number of the node of row r: one over index 0, or as where the nodes stay; n where it has none.
 fn number_at(path: &[u64], chain: &[u64], r: u64, v: u64, top: u64, low: u64, n: u64) -> u64
     requires { (v ≤ top_tier) × (top ≤ top_tier) × (low ≤ top_tier) × (top_tier < length path.now) × (top_tier < length chain.now) }
     ensures { NewNumber path.now chain.now r v top low n result }
 {
-    if r <= v {
-        return n;
-    }
-    if r <= top {
-        return path[r as usize];
-    }
-    if r < CHAIN_ROW + low {
-        return n;
-    }
-    if r < CHAIN_ROW + top {
+    if CHAIN_ROW + low <= r && r < CHAIN_ROW + top {
         return chain[(r - CHAIN_ROW) as usize];
     }
-    n
+    script_same::number_at(path, r, v, top, n)
 }
 
-// The numbers of all rows.
+// The numbers of all rows, one by one for the reason of script_same's.
 fn number_rows(nums: &mut [u64], path: &[u64], chain: &[u64], v: u64, top: u64, low: u64, n: u64)
     requires v_le_top_tier { (v ≤ top_tier) × (top ≤ top_tier) × (low ≤ top_tier) × (top_tier < length path.now) × (top_tier < length chain.now) }
     requires row_count_in_bounds { row_count ≤ length nums.old }

@@ -92,7 +92,8 @@ pub fn edit_run(rows: &mut [u64], r: u64, o: u64, c: u64, word: u64, m: u64)
     put_bits(rows, r, 2, o, c, has_bit(m, 2));
 }
 
-// Row r becomes the words of node n. Where this is inlined LLVM makes a call of memcpy of the loop, and the library is to need memset alone.
+// Row r becomes the words of node n. Where this is inlined LLVM makes a call of memcpy of the loop, as `copy_from_slice` would be, and the
+// library is to need memset alone.
 #[inline(never)]
 pub fn copy_node(pool: &[u64], n: u64, rows: &mut [u64], r: u64)
     requires n_in_bounds { last_place n < length pool.now }

@@ -20,20 +20,17 @@ use script_rows::{Range, anchor_row, path_rows};
 use script_table::ROWS;
 
 // The number of the node of row r, n where it has none.
-fn number_at(path: &[u64], r: u64, v: u64, top: u64, n: u64) -> u64
+pub fn number_at(path: &[u64], r: u64, v: u64, top: u64, n: u64) -> u64
     requires { (top ≤ top_tier) × (top_tier < length path.now) }
     ensures { NumberAt path.now r v top n result }
 {
-    if r <= v {
-        return n;
+    if v < r && r <= top {
+        return path[r as usize];
     }
-    if top < r {
-        return n;
-    }
-    path[r as usize]
+    n
 }
 
-// The numbers of all rows.
+// The numbers of all rows, one by one: a copy of a part of the path would be a call of memcpy, and the library is to need memset alone.
 pub fn number_rows(nums: &mut [u64], path: &[u64], v: u64, top: u64, n: u64)
     requires { (top ≤ top_tier) × (top_tier < length path.now) × (row_count ≤ length nums.old) }
     ensures { Numbered nums.new path.now v top n row_count }

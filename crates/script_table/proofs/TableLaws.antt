@@ -1,17 +1,18 @@
 -- The script by nodes: those without a row are passed at once.
-use Prim.Native.Nat.{ℕ, zero, suc, ◌+◌, ◌-◌, ◌≤◌, ◌<◌}
+use Prim.Native.Nat.{ℕ, zero, suc, ◌+◌, ◌*◌, ◌-◌, ◌≤◌, ◌<◌}
 use mathlib.Core.Path.{◌≡◌, refl, sym, ap, subst, ◌∙◌}
 use mathlib.Core.List.{List, [], ◌∷◌}
 use mathlib.Core.Bool.{Bool, true}
 use native.Mathlib.Omega.{arith}
 use lib.Dec.{eqb}
-use lib.ListN.{length, get_or, set, take}
-use borrow.Author.Tests.{eqb-true, eqb-false, ltb-true, ltb-false}
-use Rattle.std.specs.Prelude.{nat_le, nat_lt, ltb, ◌&&◌, None, Some}
-use Rattle.std.specs.List.{All, filter, position, position_or_len}
-use Rattle.std.proofs.lemmas.Bool.Decides.{nat_tests}
+use lib.ListN.{length, get_or, set, take, drop}
+use lib.Seq.{drop-cons}
+use borrow.Author.Tests.{eqb-true, eqb-false, le-leb}
+use Rattle.std.specs.Prelude.{nat_le, nat_eq, not, cond, None, Some}
+use Rattle.std.specs.List.{All, filter, count_by, zip, position, position_or_len}
 use Rattle.std.proofs.lemmas.Grind.{common_steps}
 use Rattle.std.proofs.lemmas.List.{get_or-take, length-take-le}
+use Rattle.std.proofs.lemmas.List.Sums.{sum_by-cons}
 use Rattle.std.proofs.lemmas.List.Quantifiers.{position-Some}
 use Rattle.std.proofs.lemmas.List.Sums.{fails_before_first}
 use Rattle.blocks.specs.Choice.{pick}
@@ -19,7 +20,7 @@ use Rattle.blocks.proofs.BoolLaws.{by_t}
 use Rattle.layout.specs.Words.{anchor_words, node_words, pool_words, place, node_of, field_in}
 use Rattle.script.specs.Script.{script_from, script}
 use Rattle.script_table.proofs.LaidLaws.{next_same, next_pair, laid_pair, laid_none, script_end, script_start}
-use Rattle.script_table.specs.Table.{laid, row_count, Tables, Agrees, NextNumber, RowOf, numbers_in, Wrote}
+use Rattle.script_table.specs.Table.{laid, row_count, Tables, Agrees, NextNumber, RowOf, numbers_from, Wrote}
 
 module _ (ws ws' : List ℕ) (len : ℕ) where
   abbrev pub after : ℕ → List ℕ
@@ -44,6 +45,32 @@ module _ (ws ws' : List ℕ) (len : ℕ) where
       let b : after p ≡ after (p + 1) = next_same ws ws' len p h (d ∙ sym (eqb-true _ _ t)) in omega (arith, ap length b))
       (λ t. let a : r ≡ n + 2 = q ∙ rw t in
       let b = next_pair ws ws' len p h (λ z. eqb-false _ _ t (sym (sym d ∙ z))) in omega (arith, ap length b))
+
+  -- the places of a span, counted
+  pub span_counted : (rs : List ℕ) (c p q : ℕ) → len ≡ length ws → p + c ≤ len → q + c ≤ length rs →
+      ((t : ℕ) → t < c → get_or ws' (p + t) 0 ≡ get_or rs (q + t) 0) →
+      2 * count_by (λ x. not (nat_eq x.0 x.1)) (zip (take c (drop p ws)) (take c (drop q rs))) + length (after (p + c)) ≡ length (after p)
+  span_counted rs zero p q e h g s = let z : after (p + 0) ≡ after p = ap after (omega arith) in omega (arith, ap length z)
+  span_counted rs (suc c) p q e h g s =
+      let a : drop p ws ≡ get_or ws p 0 ∷ drop (suc p) ws = drop-cons ws p 0 (omega arith) in
+      let b : drop q rs ≡ get_or rs q 0 ∷ drop (suc q) rs = drop-cons rs q 0 (omega arith) in
+      let ih = span_counted rs c (suc p) (suc q) e (omega arith) (omega arith)
+      (λ t lt. let y : p + suc t ≡ suc p + t = omega arith in
+      let z : q + suc t ≡ suc q + t = omega arith in rw (← y, ← z) (s (suc t) (omega arith))) in
+      let d : get_or ws' p 0 ≡ get_or rs q 0 = let y : p + 0 ≡ p = omega arith in
+      let z : q + 0 ≡ q = omega arith in subst (λ (x : ℕ). get_or ws' p 0 ≡ get_or rs x 0) z
+      (subst (λ (x : ℕ). get_or ws' x 0 ≡ get_or rs (q + 0) 0) y (s 0 (omega arith))) in
+      let u : after (p + 1) ≡ after (suc p) = ap after (omega arith) in
+      let v : after (p + suc c) ≡ after (suc p + c) = ap after (omega arith) in
+      let f : ℕ × ℕ → ℕ = λ x. cond (not (nat_eq x.0 x.1)) 1 0 in
+      let k = sum_by-cons f (get_or ws p 0, get_or rs q 0) (zip (take c (drop (suc p) ws)) (take c (drop (suc q) rs))) in
+      rw (a, b) (by_t (eqb (get_or ws p 0) (get_or rs q 0))
+      (λ t. let n = next_same ws ws' len p (omega arith) (d ∙ sym (eqb-true _ _ t)) in
+      let m : f (get_or ws p 0, get_or rs q 0) ≡ 0 = rw t refl in
+      omega (arith, k, m, ih, ap length n, ap length u, ap length v))
+      (λ t. let n = next_pair ws ws' len p (omega arith) (λ z. eqb-false _ _ t (sym (sym d ∙ z))) in
+      let m : f (get_or ws p 0, get_or rs q 0) ≡ 1 = rw t refl in
+      omega (arith, k, m, ih, ap length n, ap length u, ap length v)))
 
   -- one place, written
   pub write_room : (p t N x : ℕ) → p < len → t + length (after p) ≤ N → get_or ws' p 0 ≡ x → (get_or ws p 0 ≡ x → ⊥) → t + 2 ≤ N
@@ -70,12 +97,6 @@ pub record NoneBelow (ns : List ℕ) (from r : ℕ) : Type 0 where
   pub least : from ≤ r
   pub between : (t : ℕ) → t < row_count → from ≤ get_or ns t 0 → r ≤ get_or ns t 0
 
-not-lt : {a b : ℕ} → (a < b → ⊥) → b ≤ a
-not-lt f = omega arith
-
-by_lt : {P : Type 0} (a b : ℕ) → (a < b → P) → (b ≤ a → P) → P
-by_lt a b f g = by_t (ltb a b) (λ e. f (ltb-true a b e)) (λ e. g (omega (arith, ltb-false a b e)))
-
 no_position : (p : ℕ → Bool) (xs : List ℕ) → position p xs ≡ None → length xs ≤ position_or_len p xs
 no_position p xs e = grind (arith, common_steps)
 
@@ -88,29 +109,19 @@ filter_each p P (x ∷ xs) (suc i) h t a =
     by_t (p x) (λ e. filter_each p P xs i (omega arith) t (λ k d lt. (rw e at a) (suc k) d (omega arith)))
     (λ e. filter_each p P xs i (omega arith) t (rw e at a))
 
-in_range : (from x n : ℕ) → from ≤ x → x < n → (nat_le from x && nat_lt x n) ≡ true
-in_range from x n a b = grind (arith, nat_tests)
-
-module _ (ns : List ℕ) (from n : ℕ) (P : ℕ → Type 0) (h : row_count ≤ length ns) (a : All P (numbers_in ns from n)) where
-  number_each : (t : ℕ) → t < row_count → from ≤ get_or ns t 0 → get_or ns t 0 < n → P (get_or ns t 0)
-  number_each t lt le below =
+module _ (ns : List ℕ) (from : ℕ) (P : ℕ → Type 0) (h : row_count ≤ length ns) (a : All P (numbers_from ns from)) where
+  number_each : (t : ℕ) → t < row_count → from ≤ get_or ns t 0 → P (get_or ns t 0)
+  number_each t lt le =
       let same : get_or (take row_count ns) t 0 ≡ get_or ns t 0 = get_or-take row_count ns t 0 lt in
-      subst P same (filter_each (λ x. nat_le from x && nat_lt x n) P (take row_count ns) t
+      subst P same (filter_each (λ x. nat_le from x) P (take row_count ns) t
       (omega (arith, length-take-le row_count ns h))
-      (subst (λ (x : ℕ). (nat_le from x && nat_lt x n) ≡ true) (sym same) (in_range from (get_or ns t 0) n le below)) a)
+      (subst (λ (x : ℕ). nat_le from x ≡ true) (sym same) (le-leb from (get_or ns t 0) le)) a)
 
 pub none_below : {ns : List ℕ} {from n : ℕ} → row_count ≤ length ns → from ≤ n → NextNumber ns from n None → NoneBelow ns from n
-none_below {ns} {from} {n} h f e = record {
-  least = f;
-  between = λ t lt le. not-lt (λ below. number_each ns from n (λ (_ : ℕ). ⊥) h (subst (All (λ (_ : ℕ). ⊥)) (sym e) (λ k d none. absurd (omega arith))) t lt le below);
-}
+none_below {ns} {from} {n} h f x = record { least = f; between = number_each ns from (λ (y : ℕ). n ≤ y) h x }
 
 pub some_below : {ns : List ℕ} {from n m : ℕ} → row_count ≤ length ns → NextNumber ns from n (Some m) → NoneBelow ns from m
-some_below {ns} {from} {n} {m} h x = record {
-  least = x.0;
-  between = λ t lt le. by_lt (get_or ns t 0) n (λ below. number_each ns from n (λ (y : ℕ). m ≤ y) h x.2 t lt le below)
-      (λ above. omega (arith, x.1));
-}
+some_below {ns} {from} {n} {m} h x = record { least = x.0; between = number_each ns from (λ (y : ℕ). m ≤ y) h x.2 }
 
 pub row_some : (ns : List ℕ) (m r : ℕ) → row_count ≤ length ns → RowOf ns m (Some r) → (r < row_count) × (get_or ns r 0 ≡ m)
 row_some ns m r h x =

@@ -1,5 +1,5 @@
 -- Words after a command, given by the words before it and by rows for the nodes that change.
-use Rattle.std.specs.Prelude.{ℕ, suc, ◌+◌, ◌-◌, ◌≤◌, ◌<◌, ◌≡◌, List, [], ◌∷◌, length, get_or, set, Option, MatchOption, take, eqb, ◌&&◌, nat_le, nat_lt}
+use Rattle.std.specs.Prelude.{ℕ, suc, ◌+◌, ◌-◌, ◌≤◌, ◌<◌, ◌≡◌, List, [], ◌∷◌, length, get_or, set, Option, MatchOption, take, eqb, nat_le}
 use Rattle.std.specs.List.{All, position, filter}
 use Rattle.script.specs.Script.{script_from, script}
 use Rattle.layout.specs.Words.{anchor_words, pool_words, place, IsField}
@@ -20,14 +20,14 @@ pub record Tables (ws rs ns ws' : List ℕ) (n : ℕ) : Type 0 where
 pub record Agrees (ws' rs : List ℕ) (p q c : ℕ) : Type 0 where
   pub words : (t : ℕ) → t < c → get_or ws' (p + t) 0 ≡ get_or rs (q + t) 0
 
--- the numbers of the rows that are from or more and below n
-abbrev pub numbers_in : (ns : List ℕ) (from n : ℕ) → List ℕ
-numbers_in ns from n = filter (λ x. nat_le from x && nat_lt x n) (take row_count ns)
+-- the numbers of the rows that are from or more
+abbrev pub numbers_from : (ns : List ℕ) (from : ℕ) → List ℕ
+numbers_from ns from = filter (λ x. nat_le from x) (take row_count ns)
 
--- the least of them, if there is one
+-- the least of them, if one is below n
 abbrev pub NextNumber : (ns : List ℕ) (from n : ℕ) → Option ℕ → Type 0
-NextNumber ns from n o = MatchOption o (numbers_in ns from n ≡ [])
-    (λ m. (from ≤ m) × (m < n) × All (λ x. m ≤ x) (numbers_in ns from n))
+NextNumber ns from n o = MatchOption o (All (λ x. n ≤ x) (numbers_from ns from))
+    (λ m. (from ≤ m) × (m < n) × All (λ x. m ≤ x) (numbers_from ns from))
 
 -- the row whose number is m, if there is one
 abbrev pub RowOf : (ns : List ℕ) (m : ℕ) → Option ℕ → Type 0

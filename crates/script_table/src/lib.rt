@@ -5,7 +5,8 @@
 // nums: the number of the node of each row, n or more where there is none; k: words of the script so far.
 #![tactic(auto)]
 
-ghost use Rattle.std.specs.Prelude.{ℕ, ◌+◌, ◌*◌, ◌-◌, ◌^◌, ◌<◌, ◌≤◌, ◌≡◌, List, eqb, get_or, length, set};
+ghost use Rattle.std.specs.Prelude.{ℕ, not, nat_eq, ◌+◌, ◌*◌, ◌-◌, ◌^◌, ◌<◌, ◌≤◌, ◌≡◌, List, eqb, get_or, length, set};
+ghost use Rattle.std.specs.List.{count_by, zip};
 ghost use Rattle.blocks.specs.Choice.{pick};
 ghost use Rattle.layout.specs.Words.{pool_words, last_place, max_nodes};
 ghost use Rattle.script.specs.Script.{script_from, script};
@@ -16,15 +17,12 @@ use layout::{ANCHOR_WORDS, NODE_WORDS};
 // How many rows there are.
 pub const ROWS: u64 = 24;
 
-// k, and two more if a word changes.
-fn counted(n: u64, w: u64, x: u64) -> u64
-    requires { n < 2 ^ 63 }
-    ensures { (result ≡ pick (eqb w x) n (n + 2)) × (result ≤ n + 2) }
+// How many words change.
+fn changes(old: &[u64], new: &[u64]) -> usize
+    ensures value { result ≡ count_by (λ p. not (nat_eq p.0 p.1)) (zip old.now new.now) }
+    ensures upper_bound { result ≤ length old.now }
 {
-    if w == x {
-        return n;
-    }
-    n + 2
+    old.iter().zip(new).filter(|p| *p.0 != *p.1).count()
 }
 
 // How many words the script has after c places from p on, whose new words are those of rows from q on.
@@ -35,13 +33,9 @@ pub fn span_length(pool: &[u64], rows: &[u64], p: u64, q: u64, c: u64, k: u64) -
         result + length (script_from pool.now ws' (p + c) (length pool.now - (p + c))) ≡
         k + length (script_from pool.now ws' p (length pool.now - p)) }
 {
-    let mut y = k;
-    for t in 0..c {
-        let w = pool[(p + t) as usize];
-        let x = rows[(q + t) as usize];
-        y = counted(y, w, x);
-    }
-    y
+    let old = &pool[p as usize..(p + c) as usize];
+    let new = &rows[q as usize..(q + c) as usize];
+    k + 2 * changes(old, new) as u64
 }
 
 // The least number of a row, from or more, if one is below n.
@@ -52,8 +46,9 @@ pub fn next_number(nums: &[u64], from: u64, n: u64) -> Option<u64>
     nums[..ROWS as usize]
         .iter()
         .copied()
-        .filter(|m| from <= *m && *m < n)
+        .filter(|m| from <= *m)
         .min()
+        .filter(|m| *m < n)
 }
 
 // The row of node m, if it has one.
@@ -117,7 +112,8 @@ fn emit(out: &mut [u64], t: usize, p: u64, w: u64, x: u64) -> usize
     t + 2
 }
 
-// Writes the script's part of c places from p on, whose new words are those of rows from q on, at t.
+// Writes the script's part of c places from p on, whose new words are those of rows from q on, at t. (Places are written too: over
+// pairs of words the loop would need their index beside them, and be no plainer.)
 pub fn span_write(
     pool: &[u64],
     rows: &[u64],

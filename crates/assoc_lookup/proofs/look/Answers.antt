@@ -1,3 +1,4 @@
+use Prim.Native.Nat.{◌≤◌}
 use mathlib.Core.Path.{refl, sym, ap, ◌∙◌}
 use native.Mathlib.Omega.{arith}
 use lib.ListN.{get_or}
@@ -17,7 +18,8 @@ use Rattle.assoc_lookup.proofs.look.Goals as goal
 
 pub loop-v-init : goal.loop-v-init
 loop-v-init c =
-    λ s. (start c.args.key.now s (get_or c.args.pool.now root_word 0) refl c.requires.key_bound).1 c.if-r-eq0.false
+    let h : 1 ≤ get_or c.args.pool.now root_word 0 = c.in_ok-m.ensures.0 in
+    λ s. rw c.in_ok-m.ensures.1 ((start c.args.key.now s (get_or c.args.pool.now root_word 0) refl c.requires.key_bound).1 (λ z. omega arith))
 
 pub step_at-requires : goal.step_at-requires
 step_at-requires c =
@@ -25,7 +27,7 @@ step_at-requires c =
 
 pub returns-in_err-x : goal.returns-in_err-x
 returns-in_err-x c =
-    λ s. c.from_residual.ensures
+    λ s. c.from_residual-in_err-x.ensures
     ∙ sym (ap looked_for (ok_nothing (step_ok c.args.key.now s (c.loop-v.invariant s)) (sym c.step_at.ensures ∙ c.in_err-x.was)))
 
 pub field-requires : goal.field-requires

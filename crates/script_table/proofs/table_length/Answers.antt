@@ -1,24 +1,13 @@
 use Prim.Native.Nat.{ℕ, ◌+◌}
-use mathlib.Core.Path.{◌≡◌, refl, sym, ap, ◌∙◌}
+use mathlib.Core.Path.{sym, ap, ◌∙◌}
 use mathlib.Core.List.{List}
 use native.Mathlib.Omega.{arith}
 use lib.ListN.{length}
-use native.Mathlib.Nat.{zero-add, le_refl}
+use native.Mathlib.Nat.{le_refl}
 use Rattle.layout.specs.Words.{pool_words}
-use Rattle.script_table.proofs.LaidLaws.{script_start, script_end}
-use Rattle.script_table.proofs.TableLaws.{after, NoneBelow, pass_nodes, anchor_agrees, some_below, none_below}
+use Rattle.script_table.proofs.LaidLaws.{script_end}
+use Rattle.script_table.proofs.TableLaws.{NoneBelow, pass_nodes, some_below, none_below}
 use Rattle.script_table.proofs.table_length.Goals as goal
-
-pub loop-m-init : goal.loop-m-init
-loop-m-init c = (
-  omega arith,
-  omega (arith, c.span_length-k.ensures.upper_bound),
-  λ ws' T.
-      let z : 0 + 4 ≡ pool_words 0 = omega arith in
-      ap (λ (q : ℕ). c.span_length-k.result + length (after c.args.pool.now ws' (length c.args.pool.now) q)) (sym z)
-      ∙ (c.span_length-k.ensures.by_index ws' (anchor_agrees T) ∙ (zero-add _ ∙ ap length (sym (script_start c.args.pool.now ws' (length c.args.pool.now)
-      refl)))),
-)
 
 pub loop-m-preserved : goal.loop-m-preserved
 loop-m-preserved c =
