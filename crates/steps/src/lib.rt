@@ -59,7 +59,7 @@ fn is_power(p: u64) -> bool
     matches!(p, 1 | 2 | 4 | 8 | 16 | 32)
 }
 
-// Whether an entry may take p slots from slot j on.
+// Whether an entry may take p slots from slot j on. (c) Test by test, as child_ok.
 fn run_fits(v: u64, j: u64, p: u64) -> bool
     requires fact_1 { j + p ≤ slots }
     requires fact_2 { 0 < p }
@@ -148,6 +148,7 @@ fn agrees(pool: &[u64], n: u64, j: u64, m: u64, k: u64) -> bool
 }
 
 // Whether slot j may lead to node m.
+// (c) Test by test: of a chain of `&&` the proof has the tests by case alone, and did not close.
 pub fn child_ok(pool: &[u64], n: u64, v: u64, j: u64, m: u64) -> bool
     requires fact_1 { HasNode n pool.now }
     requires fact_2 { j < slots }
