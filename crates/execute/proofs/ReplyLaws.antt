@@ -25,10 +25,9 @@ use Rattle.layout.proofs.PlacesLaws.{free_places}
 use Rattle.layout.proofs.StayLaws.{same_places, places_prune}
 use Rattle.lookup.specs.Load.{load, loaded, depth}
 use Rattle.lookup.specs.Find.{any_mark, find}
-use Rattle.std.specs.Prelude.{Some, None, Ok, Err}
+use Rattle.std.specs.Prelude.{Some, Ok, Err}
 use Rattle.std.proofs.lemmas.Option.{none-some, same_Some}
 use Rattle.store.specs.declared.Refused.{Refused}
-use Rattle.store.specs.declared.Refused.TheVariants.{Short, Taken}
 use Rattle.store.specs.Stored.{Stored, Holding, Stores, Reserves, taken, tried}
 use Rattle.store.proofs.AfterLaws.{after_done}
 use Rattle.freenodes.proofs.FollowLaws.{map_stays}

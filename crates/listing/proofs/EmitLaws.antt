@@ -12,7 +12,7 @@ use Rattle.model.specs.declared.Entry.{Entry}
 use Rattle.model.specs.Model.{meets, shown}
 use Rattle.words.specs.Bytes.{write_from, overwrite, bytes_then}
 use Rattle.words.proofs.WriteLaws.{written, overwrite_append, overwrite_all}
-use Rattle.listing.specs.Listing.{Short, listed_tag, listed_length, entry_bytes, encode_entry, listed, listing, fits, outcome, filled_with}
+use Rattle.listing.specs.Listing.{listed_tag, listed_length, entry_bytes, encode_entry, listed, listing, fits, outcome, filled_with}
 use Rattle.listing.specs.Visits.{put_at, emit, Emits}
 
 -- the six numbers of an entry, one after the other

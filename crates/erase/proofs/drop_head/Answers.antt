@@ -60,7 +60,7 @@ returns-in-Empty-clause-by_index c =
     (λ k l os w t q. record {
       yes = λ e. absurd (clash e refl);
       no = λ _. elim c.in-Empty.is [
-        inl e ↦ stay_empty w c.requires.le_h t q c.slot_word-x.ensures c.read_slot-k.ensures e
+        | inl e ↦ stay_empty w c.requires.le_h t q c.slot_word-x.ensures c.read_slot-k.ensures e
             (sym c.filled_of.ensures ∙ c.if-filled_of-ne1.false)
         | inr x ↦ absurd (not_sibling w c.requires.le_h t q c.slot_word-x.ensures c.read_slot-k.ensures _ x.1)
       ];

@@ -1,8 +1,5 @@
-use Prim.Native.Nat.{◌<◌}
-use mathlib.Core.Path.{refl, ◌∙◌}
+use mathlib.Core.Path.{refl}
 use native.Mathlib.Omega.{arith}
-use lib.ListN.{get_or}
-use Rattle.layout.specs.Words.{max_nodes, count_word}
 use Rattle.erase.proofs.LowerLaws.{under_fits, tall_flat, top_child, top_bare}
 use Rattle.erase.proofs.FreedLaws.{sheds_given, sheds_kept}
 use Rattle.erase.proofs.shrink.Goals as goal

@@ -1,5 +1,5 @@
 use Prim.Native.Nat.{ℕ, suc, ◌+◌, ◌*◌, ◌-◌, ◌^◌, ◌≤◌, ◌<◌}
-use mathlib.Core.Path.{◌≡◌, refl, sym, ap, subst, ◌∙◌}
+use mathlib.Core.Path.{◌≡◌, sym, ap, subst, ◌∙◌}
 use mathlib.Core.List.{List, [], ◌∷◌}
 use native.Mathlib.Omega.{arith}
 use Rattle.blocks.specs.Blocks.{block}
@@ -66,7 +66,7 @@ visit_node-loop-o-preserved t c =
     let a = c.args in
     let l = c.loop-o in
     λ s. node_goes_on s.valid a.range.room a.range.first a.range.last a.v a.b l.o (l.invariant s)
-        (c.visit_slot-at.ensures s)
+    (c.visit_slot-at.ensures s)
 
 pub visit_node-returns : goal.visit_node-returns
 visit_node-returns t c =

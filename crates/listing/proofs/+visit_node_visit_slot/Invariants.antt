@@ -1,5 +1,5 @@
 -- `visit_node` and `visit_slot`, which call each other: the entries that start in a node's block, slot by slot.
-use Rattle.std.proofs.Common.{◌≡◌, ◌+◌, ◌*◌, ◌-◌, ◌^◌, ◌≤◌, suc, length}
+use Rattle.std.proofs.Common.{◌+◌, ◌*◌, ◌^◌, suc}
 use Rattle.tree.specs.Tree.{slots, tier_order}
 use Rattle.layout.specs.WellFormed.{WellFormed}
 use Rattle.listing.specs.Listing.{listed}

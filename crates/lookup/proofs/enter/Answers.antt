@@ -15,6 +15,6 @@ enter_node-requires-clause-head_node c =
 pub returns-in-Empty : goal.returns-in-Empty
 returns-in-Empty c =
     λ s. elim c.in-Empty.is [
-      inl e ↦ head_empty s _ (head_view s refl c.read_slot-k.ensures) e
+      | inl e ↦ head_empty s _ (head_view s refl c.read_slot-k.ensures) e
       | inr x ↦ absurd (head_sibling s _ (head_view s refl c.read_slot-k.ensures) x.1)
     ]

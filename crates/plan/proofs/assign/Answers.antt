@@ -15,9 +15,9 @@ pub loop-u-preserved : goal.loop-u-preserved
 loop-u-preserved c =
     let g : 1 ≤ c.loop-u.u = omega arith in
     let e₁ : c.one_if-j.result ≡ pick (in_chain c.args.chained c.args.h c.args.v c.args.d c.args.top c.loop-u.u) 1 0 =
-        c.one_if-j.ensures.0 ∙ ap (λ (b : Bool). pick {A = ℕ} b 1 0) c.in_chain-c.ensures in
+    c.one_if-j.ensures.0 ∙ ap (λ (b : Bool). pick {A = ℕ} b 1 0) c.in_chain-c.ensures in
     let e₂ : c.one_if-j-in-loop-u.result ≡ pick (on_path c.args.chained c.args.h c.args.v c.args.d c.args.top c.loop-u.u) 1 0 =
-        c.one_if-j-in-loop-u.ensures.0 ∙ ap (λ (b : Bool). pick {A = ℕ} b 1 0) c.on_path-p.ensures in (
+    c.one_if-j-in-loop-u.ensures.0 ∙ ap (λ (b : Bool). pick {A = ℕ} b 1 0) c.on_path-p.ensures in (
       omega (arith, c.one_if-j.ensures.1, c.one_if-j-in-loop-u.ensures.1, c.loop-u.invariant.0),
       ap₂ (λ (x y : ℕ). x + y) (ap₂ (λ (x y : ℕ). x + y) c.loop-u.invariant.1 e₁) e₂ ∙ (add_assoc _ _ _ ∙ sym
           (before_tier c.args.chained c.args.h c.args.v c.args.d c.args.top c.loop-u.u g c.loop-u.auto.u)),

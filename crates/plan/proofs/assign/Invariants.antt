@@ -1,5 +1,5 @@
 -- `assign`: gives the new nodes their numbers: widest tier first, then lowest block.
-use Rattle.std.proofs.Common.{◌*◌, ◌-◌, ◌≤◌, ◌≡◌, length}
+use Rattle.std.proofs.Common.{◌*◌, ◌-◌, ◌≤◌, ◌≡◌}
 use Rattle.plan.specs.Plan.{before, Assigning}
 use Rattle.plan.proofs.assign.Given as goal
 

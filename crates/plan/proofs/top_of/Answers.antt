@@ -12,10 +12,10 @@ new a b v n = record { valid = v; index_fits = a; order_le = b; is_new = n }
 pub returns-then-fits_run : goal.returns-then-fits_run
 returns-then-fits_run c =
     λ l w v n e. top_is {w = w} (new c.ranges.index.fits c.requires.order_le_max_order v n) _ _ e c.loop-t.auto.t c.loop-t.invariant
-        (sym c.fits_run.ensures ∙ c.if-fits_run.true)
+    (sym c.fits_run.ensures ∙ c.if-fits_run.true)
 
 pub returns : goal.returns
 returns c =
     λ l w v n e. top_is {w = w} (new c.ranges.index.fits c.requires.order_le_max_order v n) _ _ e
-        c.requires.h_le_top_tier (λ x a b. c.loop-t.invariant x a (omega arith))
-        (fits_top _ _ c.ranges.index.fits c.requires.order_le_max_order)
+    c.requires.h_le_top_tier (λ x a b. c.loop-t.invariant x a (omega arith))
+    (fits_top _ _ c.ranges.index.fits c.requires.order_le_max_order)

@@ -28,18 +28,18 @@ pub returns-then-not-is_node : goal.returns-then-not-is_node
 returns-then-not-is_node c =
     let e : c.loop-u.u - 1 + 1 ≡ c.loop-u.u = omega arith in
     λ s. rw e (walk_stop s c.args.index c.args.v c.args.h (c.loop-u.invariant s) c.slot_word-w.result
-        (read _ s c.args.index c.args.v c.args.h c.block_of.result c.slot_word-w.result (c.loop-u.invariant s)
-        c.block_of.ensures c.slot_word-w.ensures) (sym c.is_node.ensures ∙ c.if-not-is_node.true))
+    (read _ s c.args.index c.args.v c.args.h c.block_of.result c.slot_word-w.result (c.loop-u.invariant s)
+    c.block_of.ensures c.slot_word-w.ensures) (sym c.is_node.ensures ∙ c.if-not-is_node.true))
 
 pub loop-u-preserved : goal.loop-u-preserved
 loop-u-preserved c =
     λ s. walk_next s c.args.index c.args.v c.args.h (c.loop-u.invariant s) c.slot_word-w.result
-        (read _ s c.args.index c.args.v c.args.h c.block_of.result c.slot_word-w.result (c.loop-u.invariant s)
-        c.block_of.ensures c.slot_word-w.ensures) (sym c.is_node.ensures ∙ c.if-not-is_node.false)
-        (omega (arith, c.loop-u-test.true))
-        (omega (arith, c.loop-u.auto.path, length-set c.args.path.now c.args.h c.args.first, c.loop-u.auto.u, c.requires.v_lt_h))
-        (c.requires.h_value s).0 _
-        c.node_number-n.ensures
+    (read _ s c.args.index c.args.v c.args.h c.block_of.result c.slot_word-w.result (c.loop-u.invariant s)
+    c.block_of.ensures c.slot_word-w.ensures) (sym c.is_node.ensures ∙ c.if-not-is_node.false)
+    (omega (arith, c.loop-u-test.true))
+    (omega (arith, c.loop-u.auto.path, length-set c.args.path.now c.args.h c.args.first, c.loop-u.auto.u, c.requires.v_lt_h))
+    (c.requires.h_value s).0 _
+    c.node_number-n.ensures
 
 pub returns : goal.returns
 returns c =

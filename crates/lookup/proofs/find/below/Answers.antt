@@ -55,6 +55,6 @@ returns-else-mark_bit-eq1 c =
 pub returns-in-Gap : goal.returns-in-Gap
 returns-in-Gap c =
     λ s. elim c.in-Gap.is [
-      inl e ↦ down_leaf _ _ _ _ _ 0 (is_gap (c.look-k.ensures s) e).0
+      | inl e ↦ down_leaf _ _ _ _ _ 0 (is_gap (c.look-k.ensures s) e).0
       | inr x ↦ down_leaf _ _ _ _ _ 0 (is_entry_lem _ (c.look-k.ensures s) x.1).1
     ]

@@ -54,7 +54,7 @@ consider-requires-clause-order_bound c =
 pub returns-in-Gap : goal.returns-in-Gap
 returns-in-Gap c =
     λ s. elim c.in-Gap.is [
-      inl e ↦ (let (t, q) = is_gap (c.look-k.ensures s) e in c.pass.ensures ∙ sym (turn_none s.list _ _ _ _ t q))
+      | inl e ↦ (let (t, q) = is_gap (c.look-k.ensures s) e in c.pass.ensures ∙ sym (turn_none s.list _ _ _ _ t q))
       | inr x ↦ (let (t, q) = is_node_lem _ (c.look-k.ensures s) x.1 in c.pass.ensures ∙ sym (turn_node s.list _ _ _ _ t))
     ]
 

@@ -1,5 +1,5 @@
 -- `over_unmarked`: the slots of node n from o on that are passed without a match, filter 0, 1 or 2.
-use Prim.Native.Nat.{ℕ, ◌-◌, ◌≤◌, ◌<◌}
+use Prim.Native.Nat.{ℕ, ◌-◌, ◌<◌}
 use mathlib.Core.Path.{◌≡◌, sym, ap, subst, ◌∙◌}
 use native.Mathlib.Omega.{arith}
 use lib.ListN.{get_or}
@@ -16,8 +16,12 @@ use Rattle.lookup.proofs.find.over_unmarked.Goals as goal
 -- slot o is no sibling
 first : (c : goal.After-siblings-k) → sibling_bit (get_or c.args.pool.now (slot_place c.args.n c.args.o) 0) ≡ 0
 first c =
-    let z : sibling_bit c.slot_word.result ≡ 0 = omega (arith, c.if-sibling_bit-eq1.false, c.sibling_bit.ensures,
-    sibling_bit_le c.slot_word.result) in
+    let z : sibling_bit c.slot_word.result ≡ 0 = omega (
+      arith,
+      c.if-sibling_bit-eq1.false,
+      c.sibling_bit.ensures,
+      sibling_bit_le c.slot_word.result,
+    ) in
     ap sibling_bit (sym c.slot_word.ensures) ∙ z
 
 pub overflow_sub-result-2 : goal.overflow_sub-result-2

@@ -31,5 +31,5 @@ loop-k-preserved c =
 pub returns-in_default : goal.returns-in_default
 returns-in_default c =
     λ s. walks_out s.list _ _ _ _ _ _
-        (walked_out s.list _ _ _ _ _ _ (c.stride-t.ensures s) c.in_default.not-Paused ∙ (c.loop-k.invariant.3 s).1)
-        c.in_default.not-Paused
+    (walked_out s.list _ _ _ _ _ _ (c.stride-t.ensures s) c.in_default.not-Paused ∙ (c.loop-k.invariant.3 s).1)
+    c.in_default.not-Paused
