@@ -110,7 +110,7 @@ pub fn covering(
     Some(entry_at(index, order, word, marks, k))
 }
 
-// Moves the places from p to n - 1 one up.
+// Moves the places from p to n - 1 one up. Place by place: slices have no copy_within here, and the library calls no memmove.
 fn open(xs: &mut [u64], p: usize, n: usize)
     requires p_le_n { p ≤ n }
     requires n_in_bounds { n < length xs.old }
