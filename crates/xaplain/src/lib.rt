@@ -498,7 +498,7 @@ fn reaches(a: u64, e: Entry) -> bool
 }
 
 // Whether a filter accepts an entry: no reservation, and any mark or the one named. Test by test: joined by `||`, they cost a find's
-// loop 25 instructions an entry in place of 16.
+// loop 26 instructions an entry in place of 16.
 fn accepts(f: u64, e: Entry) -> bool
     requires { f < 64 }
     ensures { result ≡ matches f e }
