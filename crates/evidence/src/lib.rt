@@ -32,7 +32,7 @@ pub struct Malformed;
 // What a look-up in one sheet comes to.
 pub type Sought = Result<Option<Span>, Malformed>;
 
-// What a look-up in both comes to.
+// What a look-up in both comes to: the answers of R256 to R259, which xapool hands on by these names.
 #[derive(Clone, Copy)]
 pub enum Found {
     Nowhere,

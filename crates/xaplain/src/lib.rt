@@ -107,7 +107,7 @@ pub fn covering(
     Some(entry_at(index, order, word, marks, k))
 }
 
-// Moves the places from p to n - 1 one up.
+// Moves the places from p to n - 1 one up. Place by place: slices have no copy_within here, and the library calls no memmove.
 fn open(xs: &mut [u64], p: usize, n: usize)
     requires p_le_n { p ≤ n }
     requires n_in_bounds { n < length xs.old }
@@ -494,12 +494,19 @@ fn reaches(a: u64, e: Entry) -> bool
     a < e.base || (a - e.base) >> e.order == 0
 }
 
-// Whether a filter accepts an entry: no reservation, and any mark or the one named.
+// Whether a filter accepts an entry: no reservation, and any mark or the one named. Test by test: joined by `||`, they cost a find's
+// loop 26 instructions an entry in place of 16.
 fn accepts(f: u64, e: Entry) -> bool
     requires { f < 64 }
     ensures { result ≡ matches f e }
 {
-    !is_reserved(e) && (f == ANY_MARK || (e.marks >> f) % 2 == 1)
+    if is_reserved(e) {
+        return false;
+    }
+    if f == ANY_MARK {
+        return true;
+    }
+    (e.marks >> f) % 2 == 1
 }
 
 // Where a find from a begins: the last entry that starts at a or before, or the first.
