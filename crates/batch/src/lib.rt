@@ -189,38 +189,24 @@ fn rest_at(s: &[u8], tag: u64, at: usize) -> Command
     }
 }
 
-// The place after the record at a place, whose tag has fields of a length wanted and whose length is given, unless the
-// record is bad.
-fn skip_of(batch: &[u8], at: usize, size: u64, want: usize) -> Option<usize>
-    requires head_bytes_in_bounds { at + head_bytes ≤ length batch.now }
-    requires size_value { (size ≡ number_at batch.now (at + 1) 2) × (want ≡ field_bytes (number_at batch.now at 1)) }
-    requires want_nonzero { (0 < want) × (want ≤ 19) }
-    ensures { result ≡ pick (is_record batch.now at) (Some (next_at batch.now at).at) None }
-{
-    if size != want as u64 {
-        return None;
-    }
-    if batch.len() - at < HEAD_BYTES + want {
-        return None;
-    }
-    Some(at + HEAD_BYTES + want)
-}
-
 // The place after the record at a place, by its tag and length alone, unless the record is bad. Each tag has an arm with
-// its own length: with a table of them every record would wait for the one before it.
+// its own length, and with the head's three bytes: joined, or by a table, every record would wait for the one before it.
 fn skip_at(batch: &[u8], at: usize) -> Option<usize>
     requires { at < length batch.now }
     ensures { result ≡ pick (is_record batch.now at) (Some (next_at batch.now at).at) None }
 {
-    if batch.len() - at < HEAD_BYTES {
+    let room = batch.len() - at;
+    if room < HEAD_BYTES {
         return None;
     }
-    let size = number2(batch, at + 1);
-    match number1(batch, at) {
-        1 => skip_of(batch, at, size, 17),
-        2 | 3 | 7 => skip_of(batch, at, size, 8),
-        4 | 5 => skip_of(batch, at, size, 9),
-        6 => skip_of(batch, at, size, 19),
+    match (number1(batch, at), number2(batch, at + 1)) {
+        (1, 17) if 20 <= room => Some(at + 20),
+        (2, 8) if 11 <= room => Some(at + 11),
+        (3, 8) if 11 <= room => Some(at + 11),
+        (4, 9) if 12 <= room => Some(at + 12),
+        (5, 9) if 12 <= room => Some(at + 12),
+        (6, 19) if 22 <= room => Some(at + 22),
+        (7, 8) if 11 <= room => Some(at + 11),
         _ => None,
     }
 }

@@ -7,6 +7,7 @@ use native.Mathlib.Nat.{add-zero, add_assoc, mul-one, mul-suc, zero-mul}
 use native.Mathlib.Omega.{arith}
 use lib.Bits.{bit_xor, xor_zero_r}
 use Rattle.std.specs.Int.Bits.{xor_shifted}
+use Rattle.std.specs.Simd.{first_chunks}
 use Rattle.std.proofs.lemmas.Nat.{xor_comm}
 use lib.ListN.{length, get_or, take, drop, length-drop, take-append-drop}
 use lib.Seq.{take-suc, get_or-drop, drop-drop, take-add}
@@ -78,6 +79,23 @@ register_on c s i n =
     ap (register (register c (take n (drop i s)))) (sym (drop-drop n i s))
     ∙ sym (register_append c (take n (drop i s)) (drop n (drop i s)))
     ∙ ap (register c) (take-append-drop n (drop i s))
+
+-- the chunks of n bytes, each by its place
+pub chunk_at : (n k : ℕ) (xs : List ℕ) (i : ℕ) (d : List ℕ) → i < k → get_or (first_chunks n k xs) i d ≡ take n (drop (i * n) xs)
+chunk_at n zero xs i d h = absurd (omega arith)
+chunk_at n (suc k) xs zero d h = ap (λ (m : ℕ). take n (drop m xs)) (sym (zero-mul n))
+chunk_at n (suc k) xs (suc i) d h =
+    let e : n + i * n ≡ suc i * n = omega arith in
+    chunk_at n k (drop n xs) i d (omega arith) ∙ ap (take n) (drop-drop (i * n) n xs ∙ ap (λ (m : ℕ). drop m xs) e)
+
+-- one chunk of eight more
+pub chunk_step : {cs : List (List ℕ)} {r a : ℕ} (s d : List ℕ) (i c : ℕ) → cs ≡ first_chunks 8 (length s / 8) s →
+    i < length s / 8 → r ≡ register c (get_or cs i d) → register c (drop (i * 8) s) ≡ a → register r (drop ((i + 1) * 8) s) ≡ a
+chunk_step {cs} {r} {a} s d i c q h e f =
+    let n : (i + 1) * 8 ≡ i * 8 + 8 = omega arith in
+    ap₂ (λ (x m : ℕ). register x (drop m s))
+    (e ∙ ap (λ (xs : List (List ℕ)). register c (get_or xs i d)) q ∙ ap (register c) (chunk_at 8 (length s / 8) s i d h)) n
+    ∙ register_on c s (i * 8) 8 ∙ f
 
 -- eight bytes as two numbers of four
 pub by_two : (s : List ℕ) (at c : ℕ) → at + 8 ≤ length s

@@ -91,15 +91,14 @@ fn four(t: &[u32], f: &[u32], level: usize, x: u32) -> u32
     a ^ b ^ c ^ d
 }
 
-// The register after the eight bytes from `at` on.
-fn eight(t: &[u32], f: &[u32], c: u32, s: &[u8], at: usize) -> u32
+// The register after eight bytes.
+fn eight(t: &[u32], f: &[u32], c: u32, s: &[u8; 8]) -> u32
     requires table { Table t.now }
     requires further { Further t.now f.now }
-    requires at_in_bounds { at + 8 ≤ length s.now }
-    ensures { result ≡ register c (take 8 (drop at s.now)) }
+    ensures { result ≡ register c s.now }
 {
-    let x = c ^ word(s, at);
-    let y = word(s, at + 4);
+    let x = c ^ word(s, 0);
+    let y = word(s, 4);
     four(t, f, 4, x) ^ four(t, f, 0, y)
 }
 
@@ -109,12 +108,11 @@ fn by_eights(t: &[u32], f: &[u32], mut c: u32, s: &[u8]) -> u32
     requires further { Further t.now f.now }
     ensures { result ≡ register c s.now }
 {
-    let mut i: usize = 0;
-    while 8 <= s.len() - i {
-        c = eight(t, f, c, s, i);
-        i += 8;
+    let (eights, rest) = s.as_chunks::<8>();
+    for part in eights {
+        c = eight(t, f, c, part);
     }
-    by_bytes(t, c, &s[i..])
+    by_bytes(t, c, rest)
 }
 
 /// The digest of a region that goes on from `crc`, 0 to begin.
