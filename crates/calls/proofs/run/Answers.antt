@@ -25,16 +25,13 @@ returns-in_err-check_map-clause-reply_after c =
 
 pub returns-in_err-k-clause-value : goal.returns-in_err-k-clause-value
 returns-in_err-k-clause-value c =
-    let ok = sym (went_on c.in_ok-check_map.was c.check_map.ensures.value) in
     of_err _ _ c.from_residual-in_err-k.ensures.1
-    ∙ (as_ensures (comes_refused (run_bad _ _ _ ok (sym c.in_err-k.was ∙ c.count.ensures)))).0
+    ∙ (as_ensures (comes_refused (run_bad _ _ _ (sym (went_on c.in_ok-check_map.was c.check_map.ensures.value)) (sym c.in_err-k.was ∙ c.count.ensures)))).0
 
 pub returns-in_err-k-clause-pool_after : goal.returns-in_err-k-clause-pool_after
 returns-in_err-k-clause-pool_after c =
-    let ok = sym (went_on c.in_ok-check_map.was c.check_map.ensures.value) in
-    (as_ensures (comes_refused (run_bad _ _ _ ok (sym c.in_err-k.was ∙ c.count.ensures)))).1.0
+    (as_ensures (comes_refused (run_bad _ _ _ (sym (went_on c.in_ok-check_map.was c.check_map.ensures.value)) (sym c.in_err-k.was ∙ c.count.ensures)))).1.0
 
 pub returns-in_err-k-clause-reply_after : goal.returns-in_err-k-clause-reply_after
 returns-in_err-k-clause-reply_after c =
-    let ok = sym (went_on c.in_ok-check_map.was c.check_map.ensures.value) in
-    (as_ensures (comes_refused (run_bad _ _ _ ok (sym c.in_err-k.was ∙ c.count.ensures)))).1.1
+    (as_ensures (comes_refused (run_bad _ _ _ (sym (went_on c.in_ok-check_map.was c.check_map.ensures.value)) (sym c.in_err-k.was ∙ c.count.ensures)))).1.1

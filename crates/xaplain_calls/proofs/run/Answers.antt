@@ -19,16 +19,13 @@ returns-in_err-check-clause-reply_after c =
 
 pub returns-in_err-k-clause-value : goal.returns-in_err-k-clause-value
 returns-in_err-k-clause-value c =
-    let ok = sym (went_on c.in_ok-check.was c.check.ensures) in
     of_err _ _ c.from_residual-in_err-k.ensures.1
-    ∙ (as_ensures (comes_refused (run_bad _ _ _ ok (sym c.in_err-k.was ∙ c.count_through.ensures)))).0
+    ∙ (as_ensures (comes_refused (run_bad _ _ _ (sym (went_on c.in_ok-check.was c.check.ensures)) (sym c.in_err-k.was ∙ c.count_through.ensures)))).0
 
 pub returns-in_err-k-clause-marks_after : goal.returns-in_err-k-clause-marks_after
 returns-in_err-k-clause-marks_after c =
-    let ok = sym (went_on c.in_ok-check.was c.check.ensures) in
-    (as_ensures (comes_refused (run_bad _ _ _ ok (sym c.in_err-k.was ∙ c.count_through.ensures)))).1.0
+    (as_ensures (comes_refused (run_bad _ _ _ (sym (went_on c.in_ok-check.was c.check.ensures)) (sym c.in_err-k.was ∙ c.count_through.ensures)))).1.0
 
 pub returns-in_err-k-clause-reply_after : goal.returns-in_err-k-clause-reply_after
 returns-in_err-k-clause-reply_after c =
-    let ok = sym (went_on c.in_ok-check.was c.check.ensures) in
-    (as_ensures (comes_refused (run_bad _ _ _ ok (sym c.in_err-k.was ∙ c.count_through.ensures)))).1.1
+    (as_ensures (comes_refused (run_bad _ _ _ (sym (went_on c.in_ok-check.was c.check.ensures)) (sym c.in_err-k.was ∙ c.count_through.ensures)))).1.1
