@@ -3,8 +3,27 @@ use Rattle.std.proofs.Common.{ℕ, ◌≡◌, Result, Ok, Err, ap, sym, ◌∙�
 use Rattle.std.specs.Result.{IsErrAnd}
 use Rattle.answers.specs.declared.Answer.{Answer}
 use Rattle.answers.specs.declared.Answer.TheVariants.{
-  PoolLength, NotWellFormed, BadBatch, ReplySpace, BadOrder, BadEntry, BadMark, FirstAboveLast, NoBudget, Absent, TooFewNodes,
-  Ended, Paused, NotAligned, Covered, BadKey, BadScript, BadGate, NoTotal, PartAboveTotal}
+  PoolLength,
+  NotWellFormed,
+  BadBatch,
+  ReplySpace,
+  BadOrder,
+  BadEntry,
+  BadMark,
+  FirstAboveLast,
+  NoBudget,
+  Absent,
+  TooFewNodes,
+  Ended,
+  Paused,
+  NotAligned,
+  Covered,
+  BadKey,
+  BadScript,
+  BadGate,
+  NoTotal,
+  PartAboveTotal,
+}
 use Rattle.answers.specs.declared.Refusal.{Refusal}
 use Rattle.answers.specs.Answers.{number_of, refused, report_of, result_of, answer_of}
 

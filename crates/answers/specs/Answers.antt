@@ -3,8 +3,27 @@
 use Rattle.std.specs.Prelude.{ℕ, Result, Ok, Err}
 use Rattle.answers.specs.declared.Answer.{Answer}
 use Rattle.answers.specs.declared.Answer.TheVariants.{
-  PoolLength, NotWellFormed, BadBatch, ReplySpace, BadOrder, BadEntry, BadMark, FirstAboveLast, NoBudget, Absent,
-  TooFewNodes, Ended, Paused, NotAligned, Covered, BadKey, BadScript, BadGate, NoTotal, PartAboveTotal}
+  PoolLength,
+  NotWellFormed,
+  BadBatch,
+  ReplySpace,
+  BadOrder,
+  BadEntry,
+  BadMark,
+  FirstAboveLast,
+  NoBudget,
+  Absent,
+  TooFewNodes,
+  Ended,
+  Paused,
+  NotAligned,
+  Covered,
+  BadKey,
+  BadScript,
+  BadGate,
+  NoTotal,
+  PartAboveTotal,
+}
 pub use Rattle.answers.specs.declared.Refusal.{Refusal}
 pub use Rattle.answers.specs.declared.Report.{Report}
 

@@ -62,7 +62,13 @@ fn run_all(pool: &mut [u64], map: &mut [u64], batch: &[u8], reply: &mut [u8])
 }
 
 // A batch of k commands, on a pool that the check passed.
-fn run_counted(pool: &mut [u64], map: &mut [u64], batch: &[u8], reply: &mut [u8], k: u64) -> Result<u64, Refusal>
+fn run_counted(
+    pool: &mut [u64],
+    map: &mut [u64],
+    batch: &[u8],
+    reply: &mut [u8],
+    k: u64,
+) -> Result<u64, Refusal>
     requires pool_value { check_answer pool.old ≡ 0 }
     requires free_map { FreeMap pool.old map.old }
     requires k_value { Ok k ≡ counted (parse batch.now) }

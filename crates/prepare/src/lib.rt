@@ -34,7 +34,10 @@ use answers::{Answer, Refusal};
 use batch::Command;
 use commands::{is_aligned, is_storable};
 use freemap::MAP_WORDS;
-use layout::{ANCHOR_WORDS, COUNT_WORD, HEAD_WORD, MARKS_WORD, NODE_WORDS, SLOT_BITS, SPARE_WORD, TOP_TIER, mark_word, next_marked};
+use layout::{
+    ANCHOR_WORDS, COUNT_WORD, HEAD_WORD, MARKS_WORD, NODE_WORDS, SLOT_BITS, SPARE_WORD, TOP_TIER,
+    mark_word, next_marked,
+};
 use lookup::{Located, locate};
 use model::{Entry, RESERVED, is_reserved};
 use plan::{Heads, Target, height_of, plan, starts_at_0, top_of};
@@ -299,7 +302,13 @@ fn remark_entry(
 }
 
 // Mark m of the entry that covers i set or cleared.
-pub fn prepare_remark(pool: &[u64], i: u64, m: u64, on: bool, out: &mut [u64]) -> Result<u64, Refusal>
+pub fn prepare_remark(
+    pool: &[u64],
+    i: u64,
+    m: u64,
+    on: bool,
+    out: &mut [u64],
+) -> Result<u64, Refusal>
     requires { WellFormed pool.now }
     ensures fact { ((s : WellFormed pool.now) →
         report_of result ≡ (preparing s out.old (remarking i m on)).result) }
@@ -528,7 +537,12 @@ fn store_over(
 }
 
 // A store whose order, index and word are taken.
-fn store_taken(pool: &[u64], map: &mut [u64], target: Target, out: &mut [u64]) -> Result<u64, Refusal>
+fn store_taken(
+    pool: &[u64],
+    map: &mut [u64],
+    target: Target,
+    out: &mut [u64],
+) -> Result<u64, Refusal>
     requires well_formed { WellFormed pool.now }
     requires free_map { FreeMap pool.now map.old }
     requires storable { Storable target × Puttable target.order target.word false }
@@ -597,7 +611,12 @@ fn reserve_free(pool: &[u64], map: &mut [u64], i: u64, out: &mut [u64]) -> Resul
 }
 
 // A reservation of the index i.
-pub fn prepare_reserve(pool: &[u64], map: &mut [u64], i: u64, out: &mut [u64]) -> Result<u64, Refusal>
+pub fn prepare_reserve(
+    pool: &[u64],
+    map: &mut [u64],
+    i: u64,
+    out: &mut [u64],
+) -> Result<u64, Refusal>
     requires well_formed { WellFormed pool.now }
     requires free_map { FreeMap pool.now map.old }
     ensures fact { ((s : WellFormed pool.now) →
@@ -650,7 +669,12 @@ pub fn prepare_erase(pool: &[u64], i: u64, out: &mut [u64]) -> Result<u64, Refus
 
 // ANY CHANGING COMMAND
 
-pub fn prepare_command(pool: &[u64], map: &mut [u64], c: Command, out: &mut [u64]) -> Result<u64, Refusal>
+pub fn prepare_command(
+    pool: &[u64],
+    map: &mut [u64],
+    c: Command,
+    out: &mut [u64],
+) -> Result<u64, Refusal>
     requires well_formed { WellFormed pool.now }
     requires free_map { FreeMap pool.now map.old }
     requires c_value { changing c ≡ true }

@@ -278,7 +278,12 @@ pub fn check(index: &[u64], order: &[u64], word: &[u64], marks: &[u64]) -> Resul
 }
 
 // Four slices of one length become those of the empty list: answers 0, or 1 with nothing written.
-pub fn init(index: &mut [u64], order: &mut [u64], word: &mut [u64], marks: &mut [u64]) -> Result<(), Answer>
+pub fn init(
+    index: &mut [u64],
+    order: &mut [u64],
+    word: &mut [u64],
+    marks: &mut [u64],
+) -> Result<(), Answer>
     ensures value { answer_of result ≡ init_answer (slices index.old order.old word.old marks.old) }
     ensures marks_after { slices index.new order.new word.new marks.new
         ≡ init_slices (slices index.old order.old word.old marks.old) }

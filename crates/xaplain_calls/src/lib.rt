@@ -106,7 +106,12 @@ fn run_counted(
 }
 
 // Makes the list in the slices empty. Answers 0, or 1 with nothing written.
-pub fn init(index: &mut [u64], order: &mut [u64], word: &mut [u64], marks: &mut [u64]) -> Result<u64, Refusal>
+pub fn init(
+    index: &mut [u64],
+    order: &mut [u64],
+    word: &mut [u64],
+    marks: &mut [u64],
+) -> Result<u64, Refusal>
     ensures value { report_of result ≡ init_result (slices index.old order.old word.old marks.old) }
     ensures marks_after { slices index.new order.new word.new marks.new ≡
         init_slices (slices index.old order.old word.old marks.old) }
