@@ -14,32 +14,43 @@ use Rattle.lookup.proofs.LeapLaws.{step_at_lem}
 use Rattle.lookup.proofs.WalkLaws.{counted_walks, leap_walks, end_le}
 use Rattle.lookup.proofs.find.stride.Goals as goal
 
-pub leap-requires-clause-n_in_bounds : goal.leap-requires-clause-n_in_bounds
-leap-requires-clause-n_in_bounds c =
+ends : (c : goal.After-pow2) → c.block_of-c.result +
+    (c.leap-g.result.to - c.block_of-c.result % slots) ≤ block (tier_order c.args.u)
+    c.args.last
+ends c =
+    let z : ℕ = c.block_of-z.result in
+    let d : ℕ = c.block_of-c.result in
+    let to : ℕ = c.leap-g.result.to in
+    let i3 : d ≤ z = c.if-c-z.true in
+    let i4 : to - d % slots ≤ z - d = c.if-to-o.true in
+    let e : z ≡ block (tier_order c.args.u)
+    c.args.last =
+    c.block_of-z.ensures in
+    omega arith
+
+pub leap-g-requires-clause-n_in_bounds : goal.leap-g-requires-clause-n_in_bounds
+leap-g-requires-clause-n_in_bounds c =
     let t = c.requires in
     (node_fits_lem t.well_formed (t.stops_at t.well_formed).on_way_lem.at_node_lem).0
 
-pub returns-then-d-z : goal.returns-then-d-z
-returns-then-d-z c =
+pub returns-then-to-o : goal.returns-then-to-o
+returns-then-to-o c =
     λ s.
     let a = c.args in
     let st = c.requires.stops_at s in
     let d : ℕ = c.block_of-c.result in
-    let z : ℕ = c.block_of-z.result in
-    let to : ℕ = c.in-Some.g.to in
-    let k : ℕ = c.in-Some.g.steps in
+    let to : ℕ = c.leap-g.result.to in
+    let k : ℕ = c.leap-g.result.steps in
     let e : d ≡ block (tier_order a.u) a.p = c.block_of-c.ensures in
+    let pos : 0 < k = c.if-k-gt0.true in
     let at : AtNode s.list (num s) a.u (d / slots) a.m = subst
     (λ (x : ℕ). AtNode s.list (num s) a.u (x / slots) a.m) (sym e) (at_slot a.p st.on_way_lem.at_node_lem) in
-    let ge : d % slots ≤ to = c.in-Some.ensures.o_le_to.0 in
-    let pos : 0 < k = c.in-Some.ensures.o_le_to.2 in
+    let ge : d % slots ≤ to = c.leap-g.ensures.o_le_to.0 in
     let y : d - d % slots + to ≡ d + (to - d % slots) = omega arith in
-    let lp : Leaps s.list (num s) a.filter a.u d (d - d % slots + to) k = c.in-Some.ensures.leaps s a.u d at refl in
-    let i3 : d ≤ z = c.if-c-z.true in
-    let i4 : to - d % slots ≤ z - d = c.if-d-z.true in
-    let ez : z ≡ block (tier_order a.u) a.last = c.block_of-z.ensures in
-    let le : d - d % slots + to ≤ block (tier_order a.u) a.last = omega arith in
-    let i2 : k ≤ a.budget - a.n = c.if-g-budget.true in
+    let lp : Leaps s.list (num s) a.filter a.u d (d - d % slots + to) k = c.leap-g.ensures.leaps s a.u d at
+    refl pos in
+    let le : d - d % slots + to ≤ block (tier_order a.u) a.last = rw y (ends c) in
+    let i2 : k ≤ a.budget - a.n = c.if-k-budget.true in
     subst (λ (x : ℕ). Walks s.list a.filter a.last a.budget a.p a.n (Paused x (a.n + k)))
     (ap (λ (x : ℕ). x * 2 ^ (tier_order a.u)) y ∙ ap (λ (x : ℕ). (d + (to - d % slots)) * x) (sym c.pow2.ensures))
     (leap_walks s.valid (num s) a.filter a.last a.budget a.p a.n a.m a.u d (d - d % slots + to) k st
