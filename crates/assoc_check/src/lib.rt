@@ -107,11 +107,12 @@ fn cut_to(pool: &[u64], m: u64, x: u64) -> bool
     together(pool, x, m, 0)
 }
 
-// The block that a slot's word r leads to, if it is one of n.
+// The block that a slot's word r leads to, if it is one of n: 0 leads to none, and wraps to a number above all.
 fn named(n: u64, r: u64) -> Option<u64>
     ensures { MatchOption result (1 ≤ r → n < r) (λ x. (r ≡ suc x) × (x < n)) }
 {
-    r.checked_sub(1).filter(|x| *x < n)
+    let x = r.wrapping_sub(1);
+    if x < n { Some(x) } else { None }
 }
 
 // The shortcut m.

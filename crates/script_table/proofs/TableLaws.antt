@@ -1,18 +1,16 @@
 -- The script by nodes: those without a row are passed at once.
-use Prim.Native.Nat.{ℕ, zero, suc, ◌+◌, ◌*◌, ◌-◌, ◌≤◌, ◌<◌}
+use Prim.Native.Nat.{ℕ, zero, suc, ◌+◌, ◌-◌, ◌≤◌, ◌<◌}
 use mathlib.Core.Path.{◌≡◌, refl, sym, ap, subst, ◌∙◌}
 use mathlib.Core.List.{List, [], ◌∷◌}
 use mathlib.Core.Bool.{Bool, true}
 use native.Mathlib.Omega.{arith}
 use lib.Dec.{eqb}
-use lib.ListN.{length, get_or, set, take, drop}
-use lib.Seq.{drop-cons}
+use lib.ListN.{length, get_or, set, take}
 use borrow.Author.Tests.{eqb-true, eqb-false, le-leb}
-use Rattle.std.specs.Prelude.{nat_le, nat_eq, not, cond, None, Some}
-use Rattle.std.specs.List.{All, filter, count_by, zip, position, position_or_len}
+use Rattle.std.specs.Prelude.{nat_le, None, Some}
+use Rattle.std.specs.List.{All, filter, position, position_or_len}
 use Rattle.std.proofs.lemmas.Grind.{common_steps}
 use Rattle.std.proofs.lemmas.List.{get_or-take, length-take-le}
-use Rattle.std.proofs.lemmas.List.Sums.{sum_by-cons}
 use Rattle.std.proofs.lemmas.List.Quantifiers.{position-Some}
 use Rattle.std.proofs.lemmas.List.Sums.{fails_before_first}
 use Rattle.blocks.specs.Choice.{pick}
@@ -45,32 +43,6 @@ module _ (ws ws' : List ℕ) (len : ℕ) where
       let b : after p ≡ after (p + 1) = next_same ws ws' len p h (d ∙ sym (eqb-true _ _ t)) in omega (arith, ap length b))
       (λ t. let a : r ≡ n + 2 = q ∙ rw t in
       let b = next_pair ws ws' len p h (λ z. eqb-false _ _ t (sym (sym d ∙ z))) in omega (arith, ap length b))
-
-  -- the places of a span, counted
-  pub span_counted : (rs : List ℕ) (c p q : ℕ) → len ≡ length ws → p + c ≤ len → q + c ≤ length rs →
-      ((t : ℕ) → t < c → get_or ws' (p + t) 0 ≡ get_or rs (q + t) 0) →
-      2 * count_by (λ x. not (nat_eq x.0 x.1)) (zip (take c (drop p ws)) (take c (drop q rs))) + length (after (p + c)) ≡ length (after p)
-  span_counted rs zero p q e h g s = let z : after (p + 0) ≡ after p = ap after (omega arith) in omega (arith, ap length z)
-  span_counted rs (suc c) p q e h g s =
-      let a : drop p ws ≡ get_or ws p 0 ∷ drop (suc p) ws = drop-cons ws p 0 (omega arith) in
-      let b : drop q rs ≡ get_or rs q 0 ∷ drop (suc q) rs = drop-cons rs q 0 (omega arith) in
-      let ih = span_counted rs c (suc p) (suc q) e (omega arith) (omega arith)
-      (λ t lt. let y : p + suc t ≡ suc p + t = omega arith in
-      let z : q + suc t ≡ suc q + t = omega arith in rw (← y, ← z) (s (suc t) (omega arith))) in
-      let d : get_or ws' p 0 ≡ get_or rs q 0 = let y : p + 0 ≡ p = omega arith in
-      let z : q + 0 ≡ q = omega arith in subst (λ (x : ℕ). get_or ws' p 0 ≡ get_or rs x 0) z
-      (subst (λ (x : ℕ). get_or ws' x 0 ≡ get_or rs (q + 0) 0) y (s 0 (omega arith))) in
-      let u : after (p + 1) ≡ after (suc p) = ap after (omega arith) in
-      let v : after (p + suc c) ≡ after (suc p + c) = ap after (omega arith) in
-      let f : ℕ × ℕ → ℕ = λ x. cond (not (nat_eq x.0 x.1)) 1 0 in
-      let k = sum_by-cons f (get_or ws p 0, get_or rs q 0) (zip (take c (drop (suc p) ws)) (take c (drop (suc q) rs))) in
-      rw (a, b) (by_t (eqb (get_or ws p 0) (get_or rs q 0))
-      (λ t. let n = next_same ws ws' len p (omega arith) (d ∙ sym (eqb-true _ _ t)) in
-      let m : f (get_or ws p 0, get_or rs q 0) ≡ 0 = rw t refl in
-      omega (arith, k, m, ih, ap length n, ap length u, ap length v))
-      (λ t. let n = next_pair ws ws' len p (omega arith) (λ z. eqb-false _ _ t (sym (sym d ∙ z))) in
-      let m : f (get_or ws p 0, get_or rs q 0) ≡ 1 = rw t refl in
-      omega (arith, k, m, ih, ap length n, ap length u, ap length v)))
 
   -- one place, written
   pub write_room : (p t N x : ℕ) → p < len → t + length (after p) ≤ N → get_or ws' p 0 ≡ x → (get_or ws p 0 ≡ x → ⊥) → t + 2 ≤ N

@@ -1,18 +1,15 @@
-use Prim.Native.Nat.{◌+◌, ◌-◌}
-use mathlib.Core.Path.{◌≡◌, refl}
+use Prim.Native.Nat.{ℕ, ◌+◌}
+use mathlib.Core.Path.{◌≡◌, sym, ap, ◌∙◌}
 use native.Mathlib.Omega.{arith}
-use lib.ListN.{length}
-use Rattle.script_table.proofs.TableLaws.{span_counted}
+use lib.ListN.{length, get_or}
+use Rattle.script_table.proofs.TableLaws.{after, count_step}
 use Rattle.script_table.proofs.span_length.Goals as goal
 
-pub returns-clause-by_index : goal.returns-clause-by_index
-returns-clause-by_index c =
-    let a : c.args.p + c.args.c - c.args.p ≡ c.args.c = omega arith in
-    let b : c.args.q + c.args.c - c.args.q ≡ c.args.c = omega arith in
-    let v = rw (a, b) at c.changes.ensures.value in
-    λ ws' g. omega (
-      arith,
-      v,
-      span_counted c.args.pool.now ws' (length c.args.pool.now) c.args.rows.now c.args.c c.args.p c.args.q
-          refl (omega arith) (omega arith) g.words,
-    )
+pub loop-t-preserved : goal.loop-t-preserved
+loop-t-preserved c = (
+  omega (arith, c.counted-y.ensures.1),
+  λ ws' g. let z : c.args.p + c.loop-t.t + 1 ≡ c.args.p + (c.loop-t.t + 1) = omega arith in
+      ap (λ (x : ℕ). c.counted-y.result + length (after c.args.pool.now ws' (length c.args.pool.now) x)) (sym z)
+      ∙ count_step c.args.pool.now ws' (length c.args.pool.now) (c.args.p + c.loop-t.t) c.loop-t.y _ c.counted-y.result (get_or c.args.rows.now (c.args.q + c.loop-t.t) 0)
+      (omega arith) (c.loop-t.invariant.1 ws' g) (g.words c.loop-t.t (omega arith)) c.counted-y.ensures.0,
+)
