@@ -124,8 +124,7 @@ pub fn count(batch: &[u8]) -> Result<u64, Refusal>
     ensures value { report_of result ≡ count_result batch.now }
     ensures batch_value { batch.exit.now ≡ batch.entry.now }
 {
-    let k = reader::count_through(batch)?;
-    Ok(k)
+    Ok(reader::count_through(batch)?)
 }
 
 // Lists the entries whose run meets first to last, in index order, 21 bytes each. Answers 0, 1, 2, 4 or 8; writes nothing
@@ -139,32 +138,14 @@ pub fn list(pool: &[u64], first: u64, last: u64, buffer: &mut [u8]) -> Result<u6
     if last < first {
         return Err(Refusal::from(Answer::FirstAboveLast));
     }
-    let k = listing::list(pool, first, last, buffer)?;
-    Ok(k)
+    Ok(listing::list(pool, first, last, buffer)?)
 }
 
 // Whether a command can change a pool.
 fn changes(c: Command) -> bool
     ensures { result ≡ changing c }
 {
-    match c {
-        Command::Store {
-            index: _,
-            order: _,
-            word: _,
-        } => true,
-        Command::Load { index: _ } => false,
-        Command::Erase { index: _ } => true,
-        Command::Mark { index: _, mark: _ } => true,
-        Command::Unmark { index: _, mark: _ } => true,
-        Command::Find {
-            first: _,
-            last: _,
-            filter: _,
-            budget: _,
-        } => false,
-        Command::Reserve { index: _ } => true,
-    }
+    !matches!(c, Command::Load { .. } | Command::Find { .. })
 }
 
 // The command that was read at the start of the bytes and ends at a place, on a pool that the check passed.
@@ -202,8 +183,7 @@ pub fn prepare(pool: &[u64], bytes: &[u8], script: &mut [u64]) -> Result<u64, Re
     let mut map = [0u64; MAP_WORDS];
     verify::check_map(pool, &mut map)?;
     match batch::read_at(bytes, 0) {
-        Read::End => Err(Refusal::from(Answer::BadBatch)),
-        Read::Bad => Err(Refusal::from(Answer::BadBatch)),
+        Read::End | Read::Bad => Err(Refusal::from(Answer::BadBatch)),
         Read::Next(c, k) => prepare_read(pool, &mut map, bytes, c, k.at, script),
     }
 }

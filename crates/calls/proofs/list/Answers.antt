@@ -30,21 +30,21 @@ pub list-requires : goal.list-requires
 list-requires c =
     accepted _ (sym (went_on c.in_ok-check.was c.check.ensures))
 
-pub returns-in_err-k-clause-value : goal.returns-in_err-k-clause-value
-returns-in_err-k-clause-value c =
+pub returns-in_err-list-clause-value : goal.returns-in_err-list-clause-value
+returns-in_err-list-clause-value c =
     let ok = sym (went_on c.in_ok-check.was c.check.ensures) in
-    of_err _ _ c.from_residual-in_err-k.ensures.1
-    ∙ ap list_result (sym c.in_err-k.was) ∙ list_result_lem _ _ _ _ ok c.if-last-first.false _ c.list.ensures.value
+    of_err _ _ c.from_residual-in_err-list.ensures.1
+    ∙ ap list_result (sym c.in_err-list.was) ∙ list_result_lem _ _ _ _ ok c.if-last-first.false _ c.list.ensures.value
 
-pub returns-in_err-k-clause-buffer_after : goal.returns-in_err-k-clause-buffer_after
-returns-in_err-k-clause-buffer_after c =
+pub returns-in_err-list-clause-buffer_after : goal.returns-in_err-list-clause-buffer_after
+returns-in_err-list-clause-buffer_after c =
     let ok = sym (went_on c.in_ok-check.was c.check.ensures) in
     list_buffer _ _ _ _ ok c.if-last-first.false c.list.ensures.buffer_after
 
 pub returns-clause-value : goal.returns-clause-value
 returns-clause-value c =
     let ok = sym (went_on c.in_ok-check.was c.check.ensures) in
-    ap list_result (sym c.in_ok-k.was) ∙ list_result_lem _ _ _ _ ok c.if-last-first.false _ c.list.ensures.value
+    ap list_result (sym c.in_ok-list.was) ∙ list_result_lem _ _ _ _ ok c.if-last-first.false _ c.list.ensures.value
 
 pub returns-clause-buffer_after : goal.returns-clause-buffer_after
 returns-clause-buffer_after c =
