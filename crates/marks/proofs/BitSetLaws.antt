@@ -1,18 +1,16 @@
 -- One bit of a word set or cleared, and the words whose bits are the marks.
-use Prim.Native.Nat.{ℕ, suc, ◌+◌, ◌*◌, ◌-◌, ◌/◌, ◌^◌, ◌≤◌, ◌<◌}
-use mathlib.Core.Path.{◌≡◌, refl, sym, ap, ◌∙◌}
+use Prim.Native.Nat.{ℕ, ◌+◌, ◌*◌, ◌-◌, ◌/◌, ◌^◌, ◌≤◌, ◌<◌}
+use mathlib.Core.Path.{◌≡◌, refl, sym, ◌∙◌}
 use mathlib.Core.Bool.{Bool, true, false}
 use native.Mathlib.Omega.{arith}
-use native.Mathlib.Nat.{div-eq_of_lt, mul_assoc, pow-succ'}
+use native.Mathlib.Nat.{div-eq_of_lt}
 use lib.Dec.{ltb, eqb}
 use borrow.Author.Tests.{eqb-true, eqb-false, ltb-true, ltb-false, eq-eqb, ne_eqb}
 use Rattle.blocks.specs.Choice.{pick}
-use Rattle.blocks.specs.Blocks.{block, bit, bits_to, set_bit}
+use Rattle.blocks.specs.Blocks.{bit, bits_to, set_bit}
 use Rattle.blocks.proofs.BoolLaws.{by_t}
-use Rattle.blocks.proofs.BlockLaws.{pow_pos, block_block, block_hi}
+use Rattle.blocks.proofs.BlockLaws.{pow_pos}
 use Rattle.blocks.proofs.BitLaws.{bits_read, bits_change}
-use Rattle.tree.specs.Tree.{slots}
-use Rattle.lookup.proofs.StandLaws.{end_fits}
 
 pub bit_kept : (j w : ℕ) (b : Bool) → set_bit j b w ≡ w → bit j w ≡ pick b 1 0
 bit_kept j w true h = by_t (eqb (bit j w) 1) (λ t. eqb-true _ _ t)

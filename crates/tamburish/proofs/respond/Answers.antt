@@ -65,4 +65,3 @@ returns-in-Ok-clause-pool_after c =
     let w = sym (ap report_of c.in-Ok.is) ∙ c.run.ensures.value in
     (did c.args.pool.now c.init.new.pool c.args.batch.now c.args.reply.now (omega (arith, c.if-batch-gt-MAX_INPUT.false)) c.init.ensures.pool_after
     w c.run.ensures.pool_after c.run.ensures.reply_after refl).1.1.1
-
