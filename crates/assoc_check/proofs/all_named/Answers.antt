@@ -15,8 +15,8 @@ returns-then-not-named_ok c =
 
 pub loop-m-preserved : goal.loop-m-preserved
 loop-m-preserved c =
-  λ f s. below_next (λ k. 1 ≤ word c.args.pool.now k tier_field → f k ≡ true) c.loop-m.m (c.loop-m.invariant f s)
-      ((c.named_ok.ensures f s).0 c.if-not-named_ok.false)
+    λ f s. below_next (λ k. 1 ≤ word c.args.pool.now k tier_field → f k ≡ true) c.loop-m.m (c.loop-m.invariant f s)
+    ((c.named_ok.ensures f s).0 c.if-not-named_ok.false)
 
 pub returns : goal.returns
 returns c =

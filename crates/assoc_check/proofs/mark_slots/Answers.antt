@@ -17,8 +17,8 @@ mark_ref-requires c =
 
 pub loop-j-preserved : goal.loop-j-preserved
 loop-j-preserved c =
-  λ f s. slots_next c.args.pool.now c.args.n c.args.m f c.loop-j.j c.field.result c.field.ensures
-      (c.mark_ref.ensures _ (c.loop-j.invariant f s))
+    λ f s. slots_next c.args.pool.now c.args.n c.args.m f c.loop-j.j c.field.result c.field.ensures
+    (c.mark_ref.ensures _ (c.loop-j.invariant f s))
 
 pub returns : goal.returns
 returns c =

@@ -17,7 +17,6 @@ from-tier : (v x y : ℕ) → block (4 * (16 * (v / 16) + v % 16)) x ≡ block (
     block (4 * v) x ≡ block (4 * v) y
 from-tier v x y e = ap (λ (j : ℕ). block j x) (sym (tier_is v)) ∙ e ∙ ap (λ (j : ℕ). block j y) (tier_is v)
 
-
 pub returns-then-a-i : goal.returns-then-a-i
 returns-then-a-i c =
     no! (λ e. c.if-a-i.true (agree_no c.args.a.now c.args.b.now
