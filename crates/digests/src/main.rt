@@ -23,8 +23,19 @@ fn write_all<W: Write>(out: &mut W, bytes: &[u8]) {
 }
 
 fn put<W: Write>(out: &mut W, x: u32) {
-    let high = [digit(x >> 28), digit(x >> 24), digit(x >> 20), digit(x >> 16)];
-    let low = [digit(x >> 12), digit(x >> 8), digit(x >> 4), digit(x), b'\n'];
+    let high = [
+        digit(x >> 28),
+        digit(x >> 24),
+        digit(x >> 20),
+        digit(x >> 16),
+    ];
+    let low = [
+        digit(x >> 12),
+        digit(x >> 8),
+        digit(x >> 4),
+        digit(x),
+        b'\n',
+    ];
     write_all(out, &high);
     write_all(out, &low);
 }

@@ -37,7 +37,10 @@ use answers::{
 use batch::Command;
 use commands::{is_aligned, is_storable};
 use freemap::MAP_WORDS;
-use layout::{ANCHOR_WORDS, COUNT_WORD, HEAD_WORD, MARKS_WORD, NODE_WORDS, SLOT_BITS, SPARE_WORD, TOP_TIER, mark_word, next_marked};
+use layout::{
+    ANCHOR_WORDS, COUNT_WORD, HEAD_WORD, MARKS_WORD, NODE_WORDS, SLOT_BITS, SPARE_WORD, TOP_TIER,
+    mark_word, next_marked,
+};
 use lookup::{Located, locate};
 use marks::with_bit;
 use model::{Entry, RESERVED, is_reserved};
