@@ -133,7 +133,8 @@ fn byte_of(key: &[u8], i: usize) -> u64
     }
 }
 
-// Eight bytes of a key from a place on, the highest first.
+// Eight bytes of a key from a place on, the highest first. (The key may end among them, where words::number8 and `from_be_bytes` want all
+// eight; a copy into a longer array would be a call of memcpy.)
 fn word_of(key: &[u8], at: usize) -> u64
     requires { at ≤ 24 }
     ensures { result ≡ number_at key.now at 8 }
