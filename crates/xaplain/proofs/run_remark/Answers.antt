@@ -1,5 +1,6 @@
 -- `run_remark`: a mark or an unmark, its reply and the marks.
 use mathlib.Core.Path.{refl, sym, ap, ◌∙◌}
+use borrow.Author.Tests.{eqb-true, eqb-false}
 use Rattle.model.specs.declared.Entry.{Entry}
 use Rattle.model.specs.Model.{present}
 use Rattle.xaplain.proofs.PlaceLaws.{searchable, place_none, place_in, place_some, place_reserved}
