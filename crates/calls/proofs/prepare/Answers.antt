@@ -1,5 +1,7 @@
 -- `prepare`: the script of the words that a run of one record would change.
-use Rattle.std.proofs.Common.{sym, ◌∙◌, ap, refl}
+use Rattle.std.proofs.Common.{sym, ◌∙◌, refl, ◌≡◌, inl, inr}
+use Rattle.std.proofs.Math.Option.{none}
+use Rattle.preparing.specs.Prepare.{the_one}
 use Rattle.answers.proofs.ReportLaws.{told, went_on, was_no, of_err, of_refused}
 use Rattle.freemap.proofs.MapLaws.{blank_map_lem}
 use Rattle.preparing.proofs.OneLaws.{end_none, bad_none}
@@ -21,22 +23,13 @@ returns-in_err-check_map-clause-script_after c =
 
 pub returns-in-End-clause-value : goal.returns-in-End-clause-value
 returns-in-End-clause-value c =
+    let none_is : the_one c.args.bytes.now ≡ none =
+    elim c.in-End.is [ inl e ↦ end_none _ (sym e ∙ c.read_at.ensures) | inr e ↦ bad_none _ (sym e ∙ c.read_at.ensures) ] in
     of_refused _ c.from.ensures refl
-    ∙ (told_none _ _ _ (sym (went_on c.in_ok-check_map.was c.check_map.ensures.value))
-    (end_none _ (sym c.in-End.is ∙ c.read_at.ensures))).0
+    ∙ (told_none _ _ _ (sym (went_on c.in_ok-check_map.was c.check_map.ensures.value)) none_is).0
 
 pub returns-in-End-clause-script_after : goal.returns-in-End-clause-script_after
 returns-in-End-clause-script_after c =
-    (told_none _ _ _ (sym (went_on c.in_ok-check_map.was c.check_map.ensures.value))
-    (end_none _ (sym c.in-End.is ∙ c.read_at.ensures))).1
-
-pub returns-in-Bad-clause-value : goal.returns-in-Bad-clause-value
-returns-in-Bad-clause-value c =
-    of_refused _ c.from-in-Bad.ensures refl
-    ∙ (told_none _ _ _ (sym (went_on c.in_ok-check_map.was c.check_map.ensures.value))
-    (bad_none _ (sym c.in-Bad.is ∙ c.read_at.ensures))).0
-
-pub returns-in-Bad-clause-script_after : goal.returns-in-Bad-clause-script_after
-returns-in-Bad-clause-script_after c =
-    (told_none _ _ _ (sym (went_on c.in_ok-check_map.was c.check_map.ensures.value))
-    (bad_none _ (sym c.in-Bad.is ∙ c.read_at.ensures))).1
+    let none_is : the_one c.args.bytes.now ≡ none =
+    elim c.in-End.is [ inl e ↦ end_none _ (sym e ∙ c.read_at.ensures) | inr e ↦ bad_none _ (sym e ∙ c.read_at.ensures) ] in
+    (told_none _ _ _ (sym (went_on c.in_ok-check_map.was c.check_map.ensures.value)) none_is).1
