@@ -26,7 +26,7 @@ ghost use Rattle.words.specs.Fill.{filled};
 ghost use Rattle.script_rows.specs.Row.{in_run, OtherRows, Copies, BitsPut, RunPut, Finishes, marks_up, AnchorPut};
 
 use layout::{
-    ANCHOR_WORDS, COUNT_WORD, HEAD_WORD, MARKS_WORD, NODE_WORDS, SLOT_BITS, SLOTS, SPARE_WORD,
+    ANCHOR_WORDS, COUNT_WORD, HEAD_WORD, MARKS_WORD, NODE_WORDS, SLOT_BITS, SLOTS, SPARE_WORD, TOP_TIER,
     block_of, fill_slots, filled_of, mark_word, node_word, owner_word, put_filled, put_mark_word,
     put_owner, put_shift, put_slot, shift_word, sibling_word, slot_word,
 };
@@ -130,6 +130,9 @@ pub fn finish_row(rows: &mut [u64], r: u64, shift: u64, owner: u64)
 }
 
 // THE ROWS OF THE PATH: row u is that of the path's node of tier u
+
+// The tiers from 0 to the top one: as many numbers as a path has.
+pub const TIERS: usize = (TOP_TIER + 1) as usize;
 
 // What becomes of an aligned range: it gets an entry's word and marks, or nothing, if the word is 0.
 #[derive(Clone, Copy)]
