@@ -190,45 +190,65 @@ fn erased_rows(
     erase_rows(pool, table, path, base, order, top);
 }
 
-// The rows after it becomes another entry, or is erased.
+// What an entry has beside its range.
+#[derive(Clone, Copy)]
+pub struct Content {
+    pub word: u64,
+    pub marks: u64,
+}
+
+// The rows after the entry of that order at base becomes another one, of that content, or is erased.
 fn after_rows(
     pool: &[u64],
     table: &mut Table,
     path: &mut [u64; TIERS],
-    at: Range,
+    base: u64,
+    order: u64,
     top: u64,
-    erase: bool,
+    after: Option<Content>,
 )
     requires well_formed { WellFormed pool.now }
-    requires entry_there { (s : WellFormed pool.now) → EntryThere s at.base at.order top }
-    ensures { ((s : WellFormed pool.now) (ws' : List ℕ) →
-        After s at.base at.order at.word at.marks erase ws' →
+    requires entry_there { (s : WellFormed pool.now) → EntryThere s base order top }
+    ensures { ((s : WellFormed pool.now) (ws' : List ℕ) → After s base order after ws' →
         Tables pool.now table.new.rows table.new.nums ws' s.n) }
 {
-    if erase {
-        erased_rows(pool, table, path, at.base, at.order, top);
-        return;
+    match after {
+        None => erased_rows(pool, table, path, base, order, top),
+        Some(Content { word, marks }) => {
+            let at = Range {
+                base,
+                order,
+                word,
+                marks,
+            };
+            entry_rows(pool, table, path, at, top)
+        }
     }
-    entry_rows(pool, table, path, at, top);
 }
 
 // The script of that. All that starts from an entry goes by here, and the tier of the head is read here: with a tier known to be 0
 // the rows would be inlined in the callers, and be on the stack twice.
-fn entry_script(pool: &[u64], at: Range, erase: bool, out: &mut [u64]) -> Result<u64, Refusal>
+fn entry_script(
+    pool: &[u64],
+    base: u64,
+    order: u64,
+    after: Option<Content>,
+    out: &mut [u64],
+) -> Result<u64, Refusal>
     requires well_formed { WellFormed pool.now }
-    requires entry_there { (s : WellFormed pool.now) → EntryThere s at.base at.order (height s.list) }
-    requires after_there { AfterThere pool.now at.base at.order at.word at.marks erase }
+    requires entry_there { (s : WellFormed pool.now) → EntryThere s base order (height s.list) }
+    requires after_there { AfterThere pool.now base order after }
     ensures fact { ((s : WellFormed pool.now) (ws' : List ℕ) →
-        After s at.base at.order at.word at.marks erase ws' →
+        After s base order after ws' →
         report_of result ≡ (yielding (script pool.now ws') out.old).result) }
     ensures fact_2 { ((s : WellFormed pool.now) (ws' : List ℕ) →
-        After s at.base at.order at.word at.marks erase ws' →
+        After s base order after ws' →
         out.new ≡ (yielding (script pool.now ws') out.old).slice) }
 {
     let top = height_of(pool);
     let mut table = Table::new();
     let mut path = [0u64; TIERS];
-    after_rows(pool, &mut table, &mut path, at, top, erase);
+    after_rows(pool, &mut table, &mut path, base, order, top, after);
     yield_table(pool, &table, out)
 }
 
@@ -244,7 +264,11 @@ fn edit_entry(pool: &[u64], at: Range, top: u64, out: &mut [u64]) -> Result<u64,
         Stays s at.base at.order at.word at.marks o l' →
         out.new ≡ (yielding (script pool.now (render l' s.places s.n)) out.old).slice) }
 {
-    entry_script(pool, at, false, out)
+    let after = Content {
+        word: at.word,
+        marks: at.marks,
+    };
+    entry_script(pool, at.base, at.order, Some(after), out)
 }
 
 // MARK AND UNMARK
@@ -620,13 +644,7 @@ fn erase_entry(pool: &[u64], e: Entry, top: u64, i: u64, out: &mut [u64]) -> Res
     ensures fact_2 { ((s : WellFormed pool.now) →
         out.new ≡ (preparing s out.old (Command.Erase i)).slice) }
 {
-    let at = Range {
-        base: e.base,
-        order: e.order,
-        word: 0,
-        marks: 0,
-    };
-    entry_script(pool, at, true, out)
+    entry_script(pool, e.base, e.order, None, out)
 }
 
 // The entry that covers i.
