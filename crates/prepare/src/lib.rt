@@ -34,9 +34,7 @@ use answers::{Answer, Refusal};
 use batch::Command;
 use commands::{is_aligned, is_storable};
 use freemap::MAP_WORDS;
-use layout::{
-    COUNT_WORD, HEAD_WORD, MARKS_WORD, SLOT_BITS, SPARE_WORD, mark_word, next_marked,
-};
+use layout::{COUNT_WORD, HEAD_WORD, MARKS_WORD, SLOT_BITS, SPARE_WORD, mark_word, next_marked};
 use lookup::{Located, locate};
 use model::{Entry, RESERVED, is_reserved};
 use plan::{Heads, Target, height_of, plan, starts_at_0, top_of};
@@ -148,13 +146,7 @@ fn head_rows(pool: &[u64], table: &mut Table, at: Range)
 }
 
 // The rows of the nodes over it, or the anchor alone. path: words for the numbers of these nodes.
-fn entry_rows(
-    pool: &[u64],
-    table: &mut Table,
-    path: &mut [u64; TIERS],
-    at: Range,
-    top: u64,
-)
+fn entry_rows(pool: &[u64], table: &mut Table, path: &mut [u64; TIERS], at: Range, top: u64)
     requires well_formed { WellFormed pool.now }
     requires entry_there { (s : WellFormed pool.now) → EntryThere s at.base at.order top }
     ensures { ((s : WellFormed pool.now) (o : Option Entry) (l' : List Entry) →

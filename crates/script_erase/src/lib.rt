@@ -93,14 +93,7 @@ fn head_row(i: u64, v: u64, u: u64) -> u64
 }
 
 // The node n, of block 0 of tier u, becomes the head; its row. (After a call a caller knows no length of an array in a struct, so it is said.)
-fn take_head(
-    pool: &[u64],
-    table: &mut Table,
-    i: u64,
-    v: u64,
-    u: u64,
-    n: u64,
-) -> u64
+fn take_head(pool: &[u64], table: &mut Table, i: u64, v: u64, u: u64, n: u64) -> u64
     requires n_in_bounds { last_place n < length pool.now }
     requires u_lt_top_tier { u < top_tier }
     ensures taken { Taken pool.now i v u n table.old.rows table.new.rows table.old.nums table.new.nums result }

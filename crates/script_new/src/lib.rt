@@ -21,7 +21,9 @@ ghost use Rattle.script_new.specs.Chain.{ChainShown, Chains, NewNumber, NewNumbe
 
 use layout::{COUNT_WORD, SLOT_BITS, node_word, owner_word, shift_word};
 use plan::{Heads, Target, at_least_1, chained_of, starts_at_0};
-use script_rows::{Range, TIERS, anchor_row, begin_rows, copy_node, edit_run, finish_row, put_rows};
+use script_rows::{
+    Range, TIERS, anchor_row, begin_rows, copy_node, edit_run, finish_row, put_rows,
+};
 use script_table::{ROW_COUNT, ROW_WORDS, ROWS, Table};
 
 // The first of the rows over index 0.
@@ -80,7 +82,13 @@ fn begin_new(
 }
 
 // A row over index 0 begins as a copy; slot 0 of a new node's leads down.
-fn begin_chain(pool: &[u64], rows: &mut [u64; ROW_WORDS], chain: &[u64; TIERS], heads: Heads, u: u64)
+fn begin_chain(
+    pool: &[u64],
+    rows: &mut [u64; ROW_WORDS],
+    chain: &[u64; TIERS],
+    heads: Heads,
+    u: u64,
+)
     requires heads_bound { (max 1 heads.old ≤ u) × (u < heads.new) × (heads.new ≤ top_tier) }
     requires chain_room { ChainRoom pool.now chain.now heads }
     ensures other_rows { OtherRows rows.old rows.new (chain_row + u) }
@@ -110,7 +118,13 @@ fn chain_row(pool: &[u64], rows: &mut [u64; ROW_WORDS], chain: &[u64; TIERS], he
 }
 
 // All rows over index 0, from the old head up to below the new one.
-fn chain_rows(pool: &[u64], rows: &mut [u64; ROW_WORDS], chain: &[u64; TIERS], heads: Heads, low: u64)
+fn chain_rows(
+    pool: &[u64],
+    rows: &mut [u64; ROW_WORDS],
+    chain: &[u64; TIERS],
+    heads: Heads,
+    low: u64,
+)
     requires heads_bound { (max 1 heads.old ≤ low) × (heads.new ≤ top_tier) }
     requires chain_room { low < heads.new → ChainRoom pool.now chain.now heads }
     ensures by_index { (p : ℕ) → p < pool_words chain_row → get_or rows.new p 0 ≡ get_or rows.old p 0 }
@@ -133,7 +147,15 @@ fn low_chain(heads: Heads, beside: bool) -> u64
 }
 
 // The number of the node of row r: one over index 0, or as where the nodes stay; n where it has none.
-fn number_at(path: &[u64; TIERS], chain: &[u64; TIERS], r: u64, v: u64, top: u64, low: u64, n: u64) -> u64
+fn number_at(
+    path: &[u64; TIERS],
+    chain: &[u64; TIERS],
+    r: u64,
+    v: u64,
+    top: u64,
+    low: u64,
+    n: u64,
+) -> u64
     requires { (v ≤ top_tier) × (top ≤ top_tier) × (low ≤ top_tier) }
     ensures { NewNumber path.now chain.now r v top low n result }
 {
@@ -144,7 +166,15 @@ fn number_at(path: &[u64; TIERS], chain: &[u64; TIERS], r: u64, v: u64, top: u64
 }
 
 // The numbers of all rows, one by one for the reason of script_same's.
-fn number_rows(nums: &mut [u64; ROW_COUNT], path: &[u64; TIERS], chain: &[u64; TIERS], v: u64, top: u64, low: u64, n: u64)
+fn number_rows(
+    nums: &mut [u64; ROW_COUNT],
+    path: &[u64; TIERS],
+    chain: &[u64; TIERS],
+    v: u64,
+    top: u64,
+    low: u64,
+    n: u64,
+)
     requires { (v ≤ top_tier) × (top ≤ top_tier) × (low ≤ top_tier) }
     ensures { NewNumbers nums.new path.now chain.now v top low n row_count }
 {

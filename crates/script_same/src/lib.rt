@@ -41,13 +41,7 @@ pub fn number_rows(nums: &mut [u64; ROW_COUNT], path: &[u64; TIERS], v: u64, top
 
 // The rows, the anchor and the numbers of a command that leaves the nodes: the words of the path, where the range of an entry
 // in a node becomes another entry. path: words for the numbers of the path's nodes.
-pub fn same_rows(
-    pool: &[u64],
-    table: &mut Table,
-    path: &mut [u64; TIERS],
-    at: Range,
-    top: u64,
-)
+pub fn same_rows(pool: &[u64], table: &mut Table, path: &mut [u64; TIERS], at: Range, top: u64)
     requires well_formed { WellFormed pool.now }
     requires order_le_max_order { (at.order ≤ max_order) × (aligned at.order at.base ≡ true) × (at.order / slot_bits < top) × (top ≤ top_tier) }
     requires path_there { (s : WellFormed pool.now) → PathThere s at.base (at.order / slot_bits) top }

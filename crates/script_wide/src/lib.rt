@@ -217,14 +217,7 @@ fn frees_write(pool: &[u64], map: &[u64], m: u64, end: u64, out: &mut [u64], t: 
 }
 
 // That of node m, by its row if it has one.
-fn node_write(
-    pool: &[u64],
-    table: &Table,
-    map: &[u64],
-    m: u64,
-    out: &mut [u64],
-    t: usize,
-) -> usize
+fn node_write(pool: &[u64], table: &Table, map: &[u64], m: u64, out: &mut [u64], t: usize) -> usize
     requires well_formed { WellFormed pool.now }
     requires map_in_bounds { map_top ≤ length map.now }
     requires m_bound { m < get_or pool.now count_word 0 }
