@@ -380,10 +380,10 @@ fn run_marks(pool: &[u64], n: u64, target: Target) -> u64
 }
 
 // Marks 0 and 1 of what the target replaces: in its node, or the whole old tree, or nothing.
-fn kept_marks(pool: &[u64], path: &[u64], target: Target, heads: Heads) -> u64
+fn kept_marks(pool: &[u64], path: &[u64; TIERS], target: Target, heads: Heads) -> u64
     requires well_formed { WellFormed pool.now }
     requires storable { Storable target }
-    requires marks_value { (heads.marks ≡ get_or pool.now 2 0) × (top_tier < length path.now) }
+    requires marks_value { heads.marks ≡ get_or pool.now 2 0 }
     requires path_planned { (s : WellFormed pool.now) → PathPlanned s target heads path.now }
     ensures { ((s : WellFormed pool.now) →
         result ≡ set_bit matched_mark false (marks_of (inside s.list target.index target.order))) }
