@@ -1,6 +1,6 @@
 // Preparing a changing command: the script of the words that it would change. Nothing is written in the pool.
 //
-// pool: the borrowed words; rows, nums: the rows of the touched nodes and their numbers (crates script_rows, script_table); out: the
+// pool: the borrowed words; table: the rows of the touched nodes and their numbers (crates script_rows, script_table); out: the
 // borrowed words for the script; top: the tier of the head.
 #![tactic(auto)]
 
@@ -12,7 +12,7 @@ ghost use Rattle.blocks.specs.Lists.{any};
 ghost use Rattle.model.specs.Model.{Valid, max_order, mark_count, matched_mark, aligned, storable, covering, over, marks_of};
 ghost use Rattle.model.specs.ByBlock.{inside, store_new};
 ghost use Rattle.tree.specs.Tree.{height, top_tier, slots};
-ghost use Rattle.layout.specs.Words.{pool_words, last_place, mark_place};
+ghost use Rattle.layout.specs.Words.{last_place, mark_place};
 ghost use Rattle.layout.specs.Places.{new_places, render};
 ghost use Rattle.layout.specs.WellFormed.{WellFormed};
 ghost use Rattle.freenodes.specs.FreeNodes.{FreeMap};
@@ -22,7 +22,7 @@ ghost use Rattle.execute.specs.Promised.{remarking, putting};
 ghost use Rattle.execute.specs.Part.{changing};
 ghost use Rattle.script.specs.Script.{script};
 ghost use Rattle.script_rows.specs.Becomes.{Becomes};
-ghost use Rattle.script_table.specs.Table.{row_count, Tables};
+ghost use Rattle.script_table.specs.Table.{Tables};
 ghost use Rattle.script_wide.specs.Wide.{Wide};
 ghost use Rattle.script_new.specs.New.{NewPlanned};
 ghost use Rattle.preparing.specs.Prepare;
@@ -34,43 +34,32 @@ use answers::{Answer, Refusal};
 use batch::Command;
 use commands::{is_aligned, is_storable};
 use freemap::MAP_WORDS;
-use layout::{
-    ANCHOR_WORDS, COUNT_WORD, HEAD_WORD, MARKS_WORD, NODE_WORDS, SLOT_BITS, SPARE_WORD, TOP_TIER,
-    mark_word, next_marked,
-};
+use layout::{COUNT_WORD, HEAD_WORD, MARKS_WORD, SLOT_BITS, SPARE_WORD, mark_word, next_marked};
 use lookup::{Located, locate};
 use model::{Entry, RESERVED, is_reserved};
 use plan::{Heads, Target, height_of, plan, starts_at_0, top_of};
 use script_erase::{bare_rows, erase_rows};
 use script_new::new_rows;
-use script_rows::Range;
+use script_rows::{Range, TIERS};
 use script_same::same_rows;
-use script_table::{ROWS, table_length, table_write};
+use script_table::{ROWS, Table, table_length, table_write};
 use script_wide::{mark_going, wide_length, wide_write};
 use words::{fill, with_bit};
 use write::{offset_of, width_of};
 
-// The words of all rows, how many rows there are, and the tiers from 0 to the top one.
-const ROW_WORDS: usize = (ANCHOR_WORDS + NODE_WORDS * ROWS) as usize;
-
-const ROW_COUNT: usize = ROWS as usize;
-
-const TIERS: usize = (TOP_TIER + 1) as usize;
-
 // THE SCRIPT OF A TABLE, if there is room for it.
-fn yield_table(pool: &[u64], rows: &[u64], nums: &[u64], out: &mut [u64]) -> Result<u64, Refusal>
+fn yield_table(pool: &[u64], table: &Table, out: &mut [u64]) -> Result<u64, Refusal>
     requires well_formed { WellFormed pool.now }
-    requires row_count_in_bounds { (pool_words row_count ≤ length rows.now) × (row_count ≤ length nums.now) }
-    requires tabled { Tabled pool.now rows.now nums.now }
+    requires tabled { Tabled pool.now table.now.rows table.now.nums }
     ensures fact { ((s : WellFormed pool.now) (ws' : List ℕ) →
-        Tables pool.now rows.now nums.now ws' s.n →
+        Tables pool.now table.now.rows table.now.nums ws' s.n →
         report_of result ≡ (yielding (script pool.now ws') out.old).result) }
     ensures fact_2 { ((s : WellFormed pool.now) (ws' : List ℕ) →
-        Tables pool.now rows.now nums.now ws' s.n →
+        Tables pool.now table.now.rows table.now.nums ws' s.n →
         out.new ≡ (yielding (script pool.now ws') out.old).slice) }
 {
     let n = pool[COUNT_WORD];
-    let number = table_length(pool, rows, nums, n);
+    let number = table_length(pool, table, n);
     let room = out.len() as u64;
     if room < number {
         return Err(Refusal {
@@ -78,7 +67,7 @@ fn yield_table(pool: &[u64], rows: &[u64], nums: &[u64], out: &mut [u64]) -> Res
             number,
         });
     }
-    table_write(pool, rows, nums, n, out);
+    table_write(pool, table, n, out);
     Ok(number)
 }
 
@@ -87,26 +76,25 @@ fn yield_table(pool: &[u64], rows: &[u64], nums: &[u64], out: &mut [u64]) -> Res
 // The script, if there is room for it.
 fn yield_freeing(
     pool: &[u64],
-    rows: &[u64],
-    nums: &[u64],
+    table: &Table,
     base: u64,
     order: u64,
     out: &mut [u64],
 ) -> Result<u64, Refusal>
     requires well_formed { WellFormed pool.now }
-    requires row_count_in_bounds { (pool_words row_count ≤ length rows.now) × (row_count ≤ length nums.now) × (order ≤ max_order) }
-    requires widely { Widely pool.now rows.now nums.now base order }
+    requires order_le_max_order { order ≤ max_order }
+    requires widely { Widely pool.now table.now.rows table.now.nums base order }
     ensures fact { ((s : WellFormed pool.now) (ws' : List ℕ) →
-        Wide s rows.now nums.now ws' base order →
+        Wide s table.now.rows table.now.nums ws' base order →
         report_of result ≡ (yielding (script pool.now ws') out.old).result) }
     ensures fact_2 { ((s : WellFormed pool.now) (ws' : List ℕ) →
-        Wide s rows.now nums.now ws' base order →
+        Wide s table.now.rows table.now.nums ws' base order →
         out.new ≡ (yielding (script pool.now ws') out.old).slice) }
 {
     let n = pool[COUNT_WORD];
     let mut map = [0u64; MAP_WORDS];
     mark_going(pool, n, base, order, &mut map);
-    let number = wide_length(pool, rows, nums, &map, n);
+    let number = wide_length(pool, table, &map, n);
     let most = out.len() as u64;
     if most < number {
         return Err(Refusal {
@@ -114,141 +102,146 @@ fn yield_freeing(
             number,
         });
     }
-    wide_write(pool, rows, nums, &map, n, out);
+    wide_write(pool, table, &map, n, out);
     Ok(number)
 }
 
 // A range within one slot of a lowest node holds no node: the nodes are not gone through.
 pub fn yield_wide(
     pool: &[u64],
-    rows: &[u64],
-    nums: &[u64],
+    table: &Table,
     base: u64,
     order: u64,
     out: &mut [u64],
 ) -> Result<u64, Refusal>
     requires well_formed { WellFormed pool.now }
-    requires row_count_in_bounds { (pool_words row_count ≤ length rows.now) × (row_count ≤ length nums.now) × (order ≤ max_order) }
-    requires widely { Widely pool.now rows.now nums.now base order }
+    requires order_le_max_order { order ≤ max_order }
+    requires widely { Widely pool.now table.now.rows table.now.nums base order }
     ensures fact { ((s : WellFormed pool.now) (ws' : List ℕ) →
-        Wide s rows.now nums.now ws' base order →
+        Wide s table.now.rows table.now.nums ws' base order →
         report_of result ≡ (yielding (script pool.now ws') out.old).result) }
     ensures fact_2 { ((s : WellFormed pool.now) (ws' : List ℕ) →
-        Wide s rows.now nums.now ws' base order →
+        Wide s table.now.rows table.now.nums ws' base order →
         out.new ≡ (yielding (script pool.now ws') out.old).slice) }
 {
     if order < SLOT_BITS {
-        return yield_table(pool, rows, nums, out);
+        return yield_table(pool, table, out);
     }
-    yield_freeing(pool, rows, nums, base, order, out)
+    yield_freeing(pool, table, base, order, out)
 }
 
 // AN ENTRY THAT IS THERE
 
 // It is the head: the anchor alone.
-fn head_rows(pool: &[u64], rows: &mut [u64], nums: &mut [u64], at: Range)
+fn head_rows(pool: &[u64], table: &mut Table, at: Range)
     requires well_formed { WellFormed pool.now }
-    requires row_count_in_bounds { (pool_words row_count ≤ length rows.old) × (row_count ≤ length nums.old) }
-    ensures { Alone pool.now rows.new nums.new at.word at.marks }
+    ensures { Alone pool.now table.new.rows table.new.nums at.word at.marks }
 {
     let n = pool[COUNT_WORD];
-    rows[COUNT_WORD] = n;
-    rows[HEAD_WORD] = at.word;
-    rows[MARKS_WORD] = at.marks;
-    rows[SPARE_WORD] = 0;
-    fill(nums, 0, n, ROWS);
+    table.rows[COUNT_WORD] = n;
+    table.rows[HEAD_WORD] = at.word;
+    table.rows[MARKS_WORD] = at.marks;
+    table.rows[SPARE_WORD] = 0;
+    fill(&mut table.nums, 0, n, ROWS);
 }
 
 // The rows of the nodes over it, or the anchor alone. path: words for the numbers of these nodes.
-fn entry_rows(
-    pool: &[u64],
-    rows: &mut [u64],
-    nums: &mut [u64],
-    path: &mut [u64],
-    at: Range,
-    top: u64,
-)
+fn entry_rows(pool: &[u64], table: &mut Table, path: &mut [u64; TIERS], at: Range, top: u64)
     requires well_formed { WellFormed pool.now }
-    requires row_count_in_bounds { (pool_words row_count ≤ length rows.old) × (row_count ≤ length nums.old) × (top_tier < length path.old) }
     requires entry_there { (s : WellFormed pool.now) → EntryThere s at.base at.order top }
     ensures { ((s : WellFormed pool.now) (o : Option Entry) (l' : List Entry) →
         Stays s at.base at.order at.word at.marks o l' →
-        Tables pool.now rows.new nums.new (render l' s.places s.n) s.n) }
+        Tables pool.now table.new.rows table.new.nums (render l' s.places s.n) s.n) }
 {
     if top == 0 {
-        head_rows(pool, rows, nums, at);
+        head_rows(pool, table, at);
         return;
     }
-    same_rows(pool, rows, nums, path, at, top);
+    same_rows(pool, table, path, at, top);
 }
 
 // The rows after the entry of that order at base has left.
 fn erased_rows(
     pool: &[u64],
-    rows: &mut [u64],
-    nums: &mut [u64],
-    path: &mut [u64],
+    table: &mut Table,
+    path: &mut [u64; TIERS],
     base: u64,
     order: u64,
     top: u64,
 )
     requires well_formed { WellFormed pool.now }
-    requires row_count_in_bounds { (pool_words row_count ≤ length rows.old) × (row_count ≤ length nums.old) × (top_tier < length path.old) }
     requires entry_there { (s : WellFormed pool.now) → EntryThere s base order top }
     ensures { ((s : WellFormed pool.now) (l' : List Entry) → Becomes base order none s.list l' → Valid l' →
-        Tables pool.now rows.new nums.new
+        Tables pool.now table.new.rows table.new.nums
         (render l' (new_places s.list l' s.places) s.n) s.n) }
 {
     if top == 0 {
-        bare_rows(pool, rows, nums);
+        bare_rows(pool, table);
         return;
     }
-    erase_rows(pool, rows, nums, path, base, order, top);
+    erase_rows(pool, table, path, base, order, top);
 }
 
-// The rows after it becomes another entry, or is erased.
+// What an entry has beside its range.
+#[derive(Clone, Copy)]
+pub struct Content {
+    pub word: u64,
+    pub marks: u64,
+}
+
+// The rows after the entry of that order at base becomes another one, of that content, or is erased.
 fn after_rows(
     pool: &[u64],
-    rows: &mut [u64],
-    nums: &mut [u64],
-    path: &mut [u64],
-    at: Range,
+    table: &mut Table,
+    path: &mut [u64; TIERS],
+    base: u64,
+    order: u64,
     top: u64,
-    erase: bool,
+    after: Option<Content>,
 )
     requires well_formed { WellFormed pool.now }
-    requires row_count_in_bounds { (pool_words row_count ≤ length rows.old) × (row_count ≤ length nums.old) × (top_tier < length path.old) }
-    requires entry_there { (s : WellFormed pool.now) → EntryThere s at.base at.order top }
-    ensures { ((s : WellFormed pool.now) (ws' : List ℕ) →
-        After s at.base at.order at.word at.marks erase ws' →
-        Tables pool.now rows.new nums.new ws' s.n) }
+    requires entry_there { (s : WellFormed pool.now) → EntryThere s base order top }
+    ensures { ((s : WellFormed pool.now) (ws' : List ℕ) → After s base order after ws' →
+        Tables pool.now table.new.rows table.new.nums ws' s.n) }
 {
-    if erase {
-        erased_rows(pool, rows, nums, path, at.base, at.order, top);
-        return;
+    match after {
+        None => erased_rows(pool, table, path, base, order, top),
+        Some(Content { word, marks }) => {
+            let at = Range {
+                base,
+                order,
+                word,
+                marks,
+            };
+            entry_rows(pool, table, path, at, top)
+        }
     }
-    entry_rows(pool, rows, nums, path, at, top);
 }
 
 // The script of that. All that starts from an entry goes by here, and the tier of the head is read here: with a tier known to be 0
 // the rows would be inlined in the callers, and be on the stack twice.
-fn entry_script(pool: &[u64], at: Range, erase: bool, out: &mut [u64]) -> Result<u64, Refusal>
+fn entry_script(
+    pool: &[u64],
+    base: u64,
+    order: u64,
+    after: Option<Content>,
+    out: &mut [u64],
+) -> Result<u64, Refusal>
     requires well_formed { WellFormed pool.now }
-    requires entry_there { (s : WellFormed pool.now) → EntryThere s at.base at.order (height s.list) }
-    requires after_there { AfterThere pool.now at.base at.order at.word at.marks erase }
+    requires entry_there { (s : WellFormed pool.now) → EntryThere s base order (height s.list) }
+    requires after_there { AfterThere pool.now base order after }
     ensures fact { ((s : WellFormed pool.now) (ws' : List ℕ) →
-        After s at.base at.order at.word at.marks erase ws' →
+        After s base order after ws' →
         report_of result ≡ (yielding (script pool.now ws') out.old).result) }
     ensures fact_2 { ((s : WellFormed pool.now) (ws' : List ℕ) →
-        After s at.base at.order at.word at.marks erase ws' →
+        After s base order after ws' →
         out.new ≡ (yielding (script pool.now ws') out.old).slice) }
 {
     let top = height_of(pool);
-    let mut rows = [0u64; ROW_WORDS];
-    let mut nums = [0u64; ROW_COUNT];
+    let mut table = Table::new();
     let mut path = [0u64; TIERS];
-    after_rows(pool, &mut rows, &mut nums, &mut path, at, top, erase);
-    yield_table(pool, &rows, &nums, out)
+    after_rows(pool, &mut table, &mut path, base, order, top, after);
+    yield_table(pool, &table, out)
 }
 
 // The script of another entry in its place.
@@ -263,7 +256,11 @@ fn edit_entry(pool: &[u64], at: Range, top: u64, out: &mut [u64]) -> Result<u64,
         Stays s at.base at.order at.word at.marks o l' →
         out.new ≡ (yielding (script pool.now (render l' s.places s.n)) out.old).slice) }
 {
-    entry_script(pool, at, false, out)
+    let after = Content {
+        word: at.word,
+        marks: at.marks,
+    };
+    entry_script(pool, at.base, at.order, Some(after), out)
 }
 
 // MARK AND UNMARK
@@ -383,10 +380,10 @@ fn run_marks(pool: &[u64], n: u64, target: Target) -> u64
 }
 
 // Marks 0 and 1 of what the target replaces: in its node, or the whole old tree, or nothing.
-fn kept_marks(pool: &[u64], path: &[u64], target: Target, heads: Heads) -> u64
+fn kept_marks(pool: &[u64], path: &[u64; TIERS], target: Target, heads: Heads) -> u64
     requires well_formed { WellFormed pool.now }
     requires storable { Storable target }
-    requires marks_value { (heads.marks ≡ get_or pool.now 2 0) × (top_tier < length path.now) }
+    requires marks_value { heads.marks ≡ get_or pool.now 2 0 }
     requires path_planned { (s : WellFormed pool.now) → PathPlanned s target heads path.now }
     ensures { ((s : WellFormed pool.now) →
         result ≡ set_bit matched_mark false (marks_of (inside s.list target.index target.order))) }
@@ -431,31 +428,29 @@ fn head_script(pool: &[u64], word: u64, out: &mut [u64]) -> Result<u64, Refusal>
         out.new ≡ (yielding (script pool.now (set pool.now 1 word)) out.old).slice) }
 {
     let marks = pool[MARKS_WORD];
-    let mut rows = [0u64; ROW_WORDS];
-    let mut nums = [0u64; ROW_COUNT];
+    let mut table = Table::new();
     let at = Range {
         base: 0,
         order: 0,
         word,
         marks,
     };
-    head_rows(pool, &mut rows, &mut nums, at);
-    yield_table(pool, &rows, &nums, out)
+    head_rows(pool, &mut table, at);
+    yield_table(pool, &table, out)
 }
 
 // The entry goes into nodes, whose numbers are planned. reserve: which command the clauses speak of; the code does not look at it. (As a
 // `ghost` value it would take the clauses' names from the proofs.)
 fn new_script(
     pool: &[u64],
-    path: &[u64],
-    chain: &[u64],
+    path: &[u64; TIERS],
+    chain: &[u64; TIERS],
     target: Target,
     heads: Heads,
     reserve: bool,
     out: &mut [u64],
 ) -> Result<u64, Refusal>
     requires well_formed { WellFormed pool.now }
-    requires top_tier_in_bounds { (top_tier < length path.now) × (top_tier < length chain.now) }
     requires word_value { (heads.word ≡ get_or pool.now 1 0) × (heads.marks ≡ get_or pool.now 2 0) }
     requires storable { Storable target × Puttable target.order target.word reserve }
     requires new_planned { (s : WellFormed pool.now) → NewPlanned s target heads path.now chain.now }
@@ -471,10 +466,9 @@ fn new_script(
         word: target.word,
         marks,
     };
-    let mut rows = [0u64; ROW_WORDS];
-    let mut nums = [0u64; ROW_COUNT];
-    new_rows(pool, &mut rows, &mut nums, path, chain, at, heads);
-    yield_wide(pool, &rows, &nums, at.base, at.order, out)
+    let mut table = Table::new();
+    new_rows(pool, &mut table, path, chain, at, heads);
+    yield_wide(pool, &table, at.base, at.order, out)
 }
 
 // A target that no entry of its order or more covers.
@@ -642,13 +636,7 @@ fn erase_entry(pool: &[u64], e: Entry, top: u64, i: u64, out: &mut [u64]) -> Res
     ensures fact_2 { ((s : WellFormed pool.now) →
         out.new ≡ (preparing s out.old (Command.Erase i)).slice) }
 {
-    let at = Range {
-        base: e.base,
-        order: e.order,
-        word: 0,
-        marks: 0,
-    };
-    entry_script(pool, at, true, out)
+    entry_script(pool, e.base, e.order, None, out)
 }
 
 // The entry that covers i.

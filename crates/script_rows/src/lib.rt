@@ -27,8 +27,8 @@ ghost use Rattle.script_rows.specs.Row.{in_run, OtherRows, Copies, BitsPut, RunP
 
 use layout::{
     ANCHOR_WORDS, COUNT_WORD, HEAD_WORD, MARKS_WORD, NODE_WORDS, SLOT_BITS, SLOTS, SPARE_WORD,
-    block_of, fill_slots, filled_of, mark_word, node_word, owner_word, put_filled, put_mark_word,
-    put_owner, put_shift, put_slot, shift_word, sibling_word, slot_word,
+    TOP_TIER, block_of, fill_slots, filled_of, mark_word, node_word, owner_word, put_filled,
+    put_mark_word, put_owner, put_shift, put_slot, shift_word, sibling_word, slot_word,
 };
 use words::with_bit;
 use write::width_of;
@@ -131,7 +131,11 @@ pub fn finish_row(rows: &mut [u64], r: u64, shift: u64, owner: u64)
 
 // THE ROWS OF THE PATH: row u is that of the path's node of tier u
 
-// What becomes of an aligned range: it gets an entry's word and marks, or nothing, if the word is 0.
+// The tiers from 0 to the top one: as many numbers as a path has.
+pub const TIERS: usize = (TOP_TIER + 1) as usize;
+
+// What becomes of an aligned range: it gets an entry's word and marks, or nothing, if the word is 0, which is how the layout of pools
+// writes an empty slot: an Option would become that word at once, in `put_run`, as what `child_word` gives does.
 #[derive(Clone, Copy)]
 pub struct Range {
     pub base: u64,

@@ -11,7 +11,7 @@ use Rattle.script_table.proofs.table_length.Goals as goal
 
 pub loop-m-preserved : goal.loop-m-preserved
 loop-m-preserved c =
-    let b : NoneBelow c.args.nums.now c.loop-m.from c.in-Some.m = some_below c.requires.3 c.in-Some.ensures in (
+    let b : NoneBelow c.args.table.now.nums c.loop-m.from c.in-Some.m = some_below (omega arith) c.in-Some.ensures in (
       omega (arith, c.in-Some.ensures.1),
       omega (arith, b.least, c.loop-m.invariant.1, c.node_length-k.ensures.upper_bound),
       λ ws' T.
@@ -26,6 +26,6 @@ returns c =
       arith,
       c.loop-m.invariant.2 ws' T,
       ap length (pass_nodes T (length c.args.pool.now) c.loop-m.from c.args.n T.size (le_refl c.args.n)
-          (none_below c.requires.3 c.loop-m.invariant.0 c.in_default.ensures)),
+          (none_below (omega arith) c.loop-m.invariant.0 c.in_default.ensures)),
       ap length (script_end c.args.pool.now ws' (length c.args.pool.now) (pool_words c.args.n) (omega (arith, T.size))),
     )

@@ -16,7 +16,7 @@ first-nodes w = w
 pub node_write-t-requires-clause-node_fits : goal.node_write-t-requires-clause-node_fits
 node_write-t-requires-clause-node_fits c =
     let T = c.requires.all_fits.tables in
-    let b : NoneBelow c.args.nums.now c.loop-m.from c.in-Some.m = some_below c.requires.pool_len.3 c.in-Some.ensures in
+    let b : NoneBelow c.args.table.now.nums c.loop-m.from c.in-Some.m = some_below (omega arith) c.in-Some.ensures in
     let w = first-nodes (c.span_write-t.ensures c.requires.all_fits.words (anchor_agrees T)) in
     record {
       n = c.args.n;
@@ -37,7 +37,7 @@ node_write-t-requires-clause-node_fits c =
 
 pub loop-m-preserved : goal.loop-m-preserved
 loop-m-preserved c =
-    let b : NoneBelow c.args.nums.now c.loop-m.from c.in-Some.m = some_below c.requires.pool_len.3 c.in-Some.ensures in (
+    let b : NoneBelow c.args.table.now.nums c.loop-m.from c.in-Some.m = some_below (omega arith) c.in-Some.ensures in (
       omega (arith, c.in-Some.ensures.1),
       c.node_write-t.auto.out ∙ c.loop-m.invariant.1,
       λ ws' T.
@@ -49,4 +49,4 @@ pub returns : goal.returns
 returns c =
     λ ws' T. wrote_all (wrote_then (wrote_then (first-nodes (c.span_write-t.ensures ws' (anchor_agrees T))) (c.loop-m.invariant.2 ws' T))
     (wrote_pass _ _ _ _ (pass_nodes T (length c.args.pool.now) c.loop-m.from c.args.n T.size (le_refl c.args.n)
-    (none_below c.requires.pool_len.3 c.loop-m.invariant.0 c.in_default.ensures)))) (omega (arith, T.size))
+    (none_below (omega arith) c.loop-m.invariant.0 c.in_default.ensures)))) (omega (arith, T.size))

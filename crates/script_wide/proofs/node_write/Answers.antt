@@ -9,13 +9,13 @@ pub frees_write-requires-clause-freed_fits : goal.frees_write-requires-clause-fr
 frees_write-requires-clause-freed_fits c =
     record {
       words = c.requires.node_fits.words;
-      freed = wide_one c.requires.node_fits.wide c.requires.m_bound (row_none _ _ c.requires.row_count_in_bounds.1 c.in-None.ensures);
+      freed = wide_one c.requires.node_fits.wide c.requires.m_bound (row_none _ _ (omega arith) c.in-None.ensures);
       room = c.requires.node_fits.room;
     }
 
 pub returns-in-None : goal.returns-in-None
 returns-in-None c =
-    λ ws' W. c.frees_write.ensures ws' (wide_one W c.requires.m_bound (row_none _ _ c.requires.row_count_in_bounds.1 c.in-None.ensures))
+    λ ws' W. c.frees_write.ensures ws' (wide_one W c.requires.m_bound (row_none _ _ (omega arith) c.in-None.ensures))
 
 pub overflow_mul-m : goal.overflow_mul-m
 overflow_mul-m c = omega (arith, c.requires.m_bound, count_is c.requires.well_formed, c.requires.well_formed.most)
@@ -25,10 +25,10 @@ overflow_add-m-in-Some c = omega (arith, c.requires.m_bound, count_is c.requires
 
 pub span_write-requires : goal.span_write-requires
 span_write-requires c =
-    let f = row_some c.args.nums.now c.args.m c.in-Some.r c.requires.row_count_in_bounds.1 c.in-Some.ensures in
+    let f = row_some c.args.table.now.nums c.args.m c.in-Some.r (omega arith) c.in-Some.ensures in
     record {
       in_pool = omega (arith, c.requires.m_bound, count_is c.requires.well_formed, pool_length_lem c.requires.well_formed);
-      in_rows = omega (arith, f.0, c.requires.row_count_in_bounds.0);
+      in_rows = omega (arith, f.0);
       words = c.requires.node_fits.words;
       agrees = wide_row c.requires.node_fits.wide c.requires.m_bound f.0 f.1;
       room = c.requires.node_fits.room;
@@ -36,5 +36,5 @@ span_write-requires c =
 
 pub returns-in-Some : goal.returns-in-Some
 returns-in-Some c =
-    λ ws' W. let f = row_some c.args.nums.now c.args.m c.in-Some.r c.requires.row_count_in_bounds.1 c.in-Some.ensures in
+    λ ws' W. let f = row_some c.args.table.now.nums c.args.m c.in-Some.r (omega arith) c.in-Some.ensures in
     node_wrote c.args.m (c.span_write.ensures ws' (wide_row W c.requires.m_bound f.0 f.1))

@@ -11,12 +11,12 @@ use Rattle.script_wide.proofs.wide_write.Goals as goal
 
 pub frees_write-t-requires-clause-m_le_end : goal.frees_write-t-requires-clause-m_le_end
 frees_write-t-requires-clause-m_le_end c =
-    let b : NoneBelow c.args.nums.now c.loop-q.m c.in-Some.q = some_below c.requires.row_count_in_bounds.1 c.in-Some.ensures in
-    (b.least, omega (arith, c.in-Some.ensures.1, c.requires.n_value), c.requires.row_count_in_bounds.2)
+    let b : NoneBelow c.args.table.now.nums c.loop-q.m c.in-Some.q = some_below (omega arith) c.in-Some.ensures in
+    (b.least, omega (arith, c.in-Some.ensures.1, c.requires.n_value), c.requires.map_in_bounds)
 
 pub frees_write-t-requires-clause-freed_fits : goal.frees_write-t-requires-clause-freed_fits
 frees_write-t-requires-clause-freed_fits c =
-    let b : NoneBelow c.args.nums.now c.loop-q.m c.in-Some.q = some_below c.requires.row_count_in_bounds.1 c.in-Some.ensures in
+    let b : NoneBelow c.args.table.now.nums c.loop-q.m c.in-Some.q = some_below (omega arith) c.in-Some.ensures in
     let W = c.requires.wide_fits.wide in
     let w = wrote_then (anchor_wrote (c.span_write-t.ensures c.requires.wide_fits.words (wide_anchor W)))
     (c.loop-q.invariant.2 c.requires.wide_fits.words W) in
@@ -35,7 +35,7 @@ frees_write-t-requires-clause-freed_fits c =
 
 pub node_write-t-requires-clause-node_fits : goal.node_write-t-requires-clause-node_fits
 node_write-t-requires-clause-node_fits c =
-    let b : NoneBelow c.args.nums.now c.loop-q.m c.in-Some.q = some_below c.requires.row_count_in_bounds.1 c.in-Some.ensures in
+    let b : NoneBelow c.args.table.now.nums c.loop-q.m c.in-Some.q = some_below (omega arith) c.in-Some.ensures in
     let W = c.requires.wide_fits.wide in
     let w = wrote_then (wrote_then (anchor_wrote (c.span_write-t.ensures c.requires.wide_fits.words (wide_anchor W)))
     (c.loop-q.invariant.2 c.requires.wide_fits.words W))
@@ -56,7 +56,7 @@ node_write-t-requires-clause-node_fits c =
 
 pub loop-q-preserved : goal.loop-q-preserved
 loop-q-preserved c =
-    let b : NoneBelow c.args.nums.now c.loop-q.m c.in-Some.q = some_below c.requires.row_count_in_bounds.1 c.in-Some.ensures in (
+    let b : NoneBelow c.args.table.now.nums c.loop-q.m c.in-Some.q = some_below (omega arith) c.in-Some.ensures in (
       omega (arith, c.in-Some.ensures.1),
       c.node_write-t.auto.out ∙ (c.frees_write-t.auto.out ∙ c.loop-q.invariant.1),
       λ ws' W. wrote_then (wrote_then (c.loop-q.invariant.2 ws' W) (c.frees_write-t.ensures ws' (wide_next W
@@ -72,7 +72,7 @@ frees_write-requires-clause-freed_fits c =
     record {
       words = c.requires.wide_fits.words;
       freed = wide_next W c.requires.n_value (le_refl c.args.n)
-          (none_below c.requires.row_count_in_bounds.1 c.loop-q.invariant.0 c.in_default.ensures);
+          (none_below (omega arith) c.loop-q.invariant.0 c.in_default.ensures);
       room = omega (
         arith,
         w.count,
@@ -87,5 +87,5 @@ pub returns : goal.returns
 returns c =
     λ ws' w. wrote_all (wrote_then (wrote_then (anchor_wrote (c.span_write-t.ensures ws' (wide_anchor w))) (c.loop-q.invariant.2 ws' w))
     (c.frees_write.ensures ws' (wide_next w c.requires.n_value (le_refl c.args.n)
-    (none_below c.requires.row_count_in_bounds.1 c.loop-q.invariant.0 c.in_default.ensures))))
+    (none_below (omega arith) c.loop-q.invariant.0 c.in_default.ensures))))
     (omega (arith, c.requires.n_value, count_is c.requires.well_formed, pool_length_lem c.requires.well_formed))
