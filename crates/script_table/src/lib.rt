@@ -5,7 +5,7 @@
 // nums: the number of the node of each row, n or more where there is none; k: words of the script so far.
 #![tactic(auto)]
 
-ghost use Rattle.std.specs.Prelude.{ℕ, ◌+◌, ◌*◌, ◌-◌, ◌^◌, ◌<◌, ◌≤◌, ◌≡◌, List, eqb, get_or, length, set};
+ghost use Rattle.std.specs.Prelude.{ℕ, ◌+◌, ◌*◌, ◌-◌, ◌^◌, ◌<◌, ◌≤◌, ◌≡◌, List, eqb, get_or, length, set, replicate};
 ghost use Rattle.blocks.specs.Choice.{pick};
 ghost use Rattle.layout.specs.Words.{pool_words, last_place, max_nodes};
 ghost use Rattle.script.specs.Script.{script_from, script};
@@ -31,7 +31,10 @@ pub struct Table {
 impl Table {
     // Zeros, to be written over. Inlined, it is made where it stays.
     #[inline(always)]
-    pub fn new() -> Table {
+    pub fn new() -> Table
+        ensures rows { result.rows ≡ replicate (pool_words row_count) 0 }
+        ensures nums { result.nums ≡ replicate row_count 0 }
+    {
         Table {
             rows: [0; ROW_WORDS],
             nums: [0; ROW_COUNT],
