@@ -8,8 +8,9 @@ ghost use Rattle.answers.specs.Answers.{answer_of, number_of};
 ghost use Rattle.blocks.specs.Blocks.{set_bit};
 ghost use Rattle.model.specs.Model.{covering, covered, store_new, mark_count, over, store, aligned, max_order, matched_mark, is_word_ok};
 ghost use Rattle.model.specs.Matches.{matches, first_match};
-ghost use Rattle.xaplain.specs.Slices.{slices, entry_at, check_answer, init_answer, init_slices, fits_entry};
-ghost use Rattle.xaplain.specs.Slices.{rest_zero, in_order, list_of, all_zero, holds_list, sized_as};
+ghost use Rattle.xaplain.specs.Slices.{slices, check_answer, init_answer, init_slices, fits_entry};
+ghost use Rattle.xaplain.specs.Slices.{rest_zero, in_order, list_in, all_zero, holds_list, is_sized};
+ghost use Rattle.xaplain.specs.Lent.{lent, Held, Even, Within, entry_in};
 ghost use Rattle.xaplain.specs.Moves.{Rising, Splits, Searchable, Placed, Closed, removed, seen, found_reply, remarking};
 ghost use Rattle.xaplain.specs.Moves.{Holds, Opened, Pulled, Cleared, Spliced, Columns, replaced, Counts};
 ghost use Rattle.xaplain.specs.Moves.{low_of, Parts, any_from, kept_from, Begins};
@@ -42,6 +43,15 @@ const ANY_MARK: u64 = 3;
 // Mark 2, which no store hands on (R190), is worth this; marks 0 and 1 are below it.
 const MATCHED_BIT: u64 = 4;
 
+// The four slices, lent to read. The number of entries is not in it: `check` has none yet, and each command hands on another.
+#[derive(Clone, Copy)]
+pub struct Entries<'a> {
+    pub index: &'a [u64],
+    pub order: &'a [u64],
+    pub word: &'a [u64],
+    pub marks: &'a [u64],
+}
+
 // What a command comes to: its reply, and the number of entries after it.
 #[derive(Clone, Copy)]
 pub struct Turned {
@@ -63,48 +73,6 @@ pub fn position(index: &[u64], n: usize, i: u64) -> usize
     ensures { Splits index.now n i result }
 {
     index[..n].partition_point(|x| *x <= i)
-}
-
-// The number of the entry over i: the last that starts at i or before, if it reaches i.
-fn place(index: &[u64], order: &[u64], n: usize, i: u64) -> Option<usize>
-    requires { Searchable index.now order.now n }
-    ensures { Placed index.now order.now n i result }
-{
-    let k = position(index, n, i).checked_sub(1)?;
-    if (i - index[k]) >> order[k] == 0 {
-        Some(k)
-    } else {
-        None
-    }
-}
-
-fn entry_at(index: &[u64], order: &[u64], word: &[u64], marks: &[u64], k: usize) -> Entry
-    requires { (k < length index.now) × (k < length order.now) × (k < length word.now) × (k < length marks.now) }
-    ensures { result ≡ entry_at index.now order.now word.now marks.now k }
-{
-    Entry {
-        base: index[k],
-        order: order[k],
-        word: word[k],
-        marks: marks[k],
-    }
-}
-
-// What covers an index.
-pub fn covering(
-    index: &[u64],
-    order: &[u64],
-    word: &[u64],
-    marks: &[u64],
-    n: usize,
-    i: u64,
-) -> Option<Entry>
-    requires { Holds index.now order.now word.now marks.now n }
-    ensures { (h : Holds index.now order.now word.now marks.now n) →
-        result ≡ covered (covering h.list i) }
-{
-    let k = place(index, order, n, i)?;
-    Some(entry_at(index, order, word, marks, k))
 }
 
 // Moves the places from p to n - 1 one up. Place by place: slices have no copy_within here, and the library calls no memmove.
@@ -218,63 +186,159 @@ fn rest_zero(xs: &[u64], a: usize) -> bool
     xs[a..].iter().all(|x| *x == 0)
 }
 
-// Whether the first n entries are a list.
-fn in_order(index: &[u64], order: &[u64], word: &[u64], marks: &[u64], n: usize) -> bool
-    requires order_len { (length order.now ≡ length index.now) × (length word.now ≡ length index.now) × (length marks.now ≡ length index.now) }
-    requires counts { Counts word.now n }
-    ensures { result ≡ in_order 0 (list_of index.now order.now word.now marks.now) }
-{
-    let mut last = None;
-    for k in 0..n {
-        let e = entry_at(index, order, word, marks, k);
-        if !follows(last, e.base) {
-            return false;
+impl<'a> Entries<'a> {
+    // The number of the entry over i: the last that starts at i or before, if it reaches i.
+    fn place(self, n: usize, i: u64) -> Option<usize>
+        requires { Searchable self.index.now self.order.now n }
+        ensures { Placed self.entry.index.now self.entry.order.now n i result }
+    {
+        let k = position(self.index, n, i).checked_sub(1)?;
+        if (i - self.index[k]) >> self.order[k] == 0 {
+            Some(k)
+        } else {
+            None
         }
-        if !fits(e) {
-            return false;
+    }
+
+    // The number of the entry over i, if its order is k or more.
+    fn larger(self, n: usize, i: u64, k: u64) -> Option<usize>
+        requires { Searchable self.index.now self.order.now n }
+        ensures { Larger self.entry.index.now self.entry.order.now n i k result }
+    {
+        let j = self.place(n, i)?;
+        if k <= self.order[j] { Some(j) } else { None }
+    }
+
+    fn entry_at(self, k: usize) -> Entry
+        requires { Within self k }
+        ensures { result ≡ entry_in self.entry k }
+    {
+        Entry {
+            base: self.index[k],
+            order: self.order[k],
+            word: self.word[k],
+            marks: self.marks[k],
         }
-        last = Some(e.base + ((1u64 << e.order) - 1));
     }
-    true
-}
 
-// Whether zeros stand in all four slices from a place on.
-fn all_zero(index: &[u64], order: &[u64], word: &[u64], marks: &[u64], n: usize) -> bool
-    requires order_len { (length order.now ≡ length index.now) × (length word.now ≡ length index.now) × (length marks.now ≡ length index.now) }
-    requires n_in_bounds { n ≤ length index.now }
-    ensures { result ≡ all_zero index.now order.now word.now marks.now n }
-{
-    rest_zero(index, n) && rest_zero(order, n) && rest_zero(word, n) && rest_zero(marks, n)
-}
-
-// Whether four slices of one length hold a list and then zeros.
-fn holds(index: &[u64], order: &[u64], word: &[u64], marks: &[u64]) -> bool
-    requires { (length order.now ≡ length index.now) × (length word.now ≡ length index.now) × (length marks.now ≡ length index.now) }
-    ensures { result ≡ holds_list index.now order.now word.now marks.now }
-{
-    let n = count(word);
-    in_order(index, order, word, marks, n) && all_zero(index, order, word, marks, n)
-}
-
-// Whether the slices are of one length, at most 4,096.
-fn sized(index: &[u64], order: &[u64], word: &[u64], marks: &[u64]) -> bool
-    ensures { result ≡ sized_as index.now order.now word.now marks.now }
-{
-    let room = index.len();
-    room <= MAX_ROOM && order.len() == room && word.len() == room && marks.len() == room
-}
-
-// Whether the slices hold a list: answers 0, 1 or 2.
-pub fn check(index: &[u64], order: &[u64], word: &[u64], marks: &[u64]) -> Result<(), Answer>
-    ensures { answer_of result ≡ check_answer (slices index.now order.now word.now marks.now) }
-{
-    if !sized(index, order, word, marks) {
-        return Err(Answer::PoolLength);
+    // What covers an index.
+    pub fn covering(self, n: usize, i: u64) -> Option<Entry>
+        requires { Held self n }
+        ensures { (h : Held self.entry n) → result ≡ covered (covering h.list i) }
+    {
+        let k = self.place(n, i)?;
+        Some(self.entry_at(k))
     }
-    if !holds(index, order, word, marks) {
-        return Err(Answer::NotWellFormed);
+
+    /// The first entry in index order that a filter accepts and whose run meets a to z.
+    pub fn find(self, n: usize, a: u64, z: u64, f: u64) -> Option<Entry>
+        requires holds { Held self n }
+        requires f_bound { f < 64 }
+        ensures { (h : Held self.entry n) → result ≡ covered (first_match h.list a z f) }
+    {
+        for k in begin(self.index, n, a)..n {
+            let e = self.entry_at(k);
+            if z < e.base {
+                return None;
+            }
+            if accepts(f, e) && reaches(a, e) {
+                return Some(e);
+            }
+        }
+        None
     }
-    Ok(())
+
+    // Whether the first n entries are a list.
+    fn in_order(self, n: usize) -> bool
+        requires order_len { Even self }
+        requires counts { Counts self.word.now n }
+        ensures { result ≡ in_order 0 (list_in (lent self.entry)) }
+    {
+        let mut last = None;
+        for k in 0..n {
+            let e = self.entry_at(k);
+            if !follows(last, e.base) {
+                return false;
+            }
+            if !fits(e) {
+                return false;
+            }
+            last = Some(e.base + ((1u64 << e.order) - 1));
+        }
+        true
+    }
+
+    // Whether zeros stand in all four slices from a place on.
+    fn all_zero(self, n: usize) -> bool
+        requires order_len { Even self }
+        requires n_in_bounds { n ≤ length self.index.now }
+        ensures { result ≡ all_zero self.entry.index.now self.entry.order.now self.entry.word.now self.entry.marks.now n }
+    {
+        rest_zero(self.index, n)
+            && rest_zero(self.order, n)
+            && rest_zero(self.word, n)
+            && rest_zero(self.marks, n)
+    }
+
+    // Whether four slices of one length hold a list and then zeros.
+    fn holds(self) -> bool
+        requires { Even self }
+        ensures { result ≡ holds_list self.entry.index.now self.entry.order.now self.entry.word.now self.entry.marks.now }
+    {
+        let n = count(self.word);
+        self.in_order(n) && self.all_zero(n)
+    }
+
+    // Whether the slices are of one length, at most 4,096.
+    fn is_sized(self) -> bool
+        ensures { result ≡ is_sized (lent self.entry) }
+    {
+        let room = self.index.len();
+        room <= MAX_ROOM
+            && self.order.len() == room
+            && self.word.len() == room
+            && self.marks.len() == room
+    }
+
+    // Whether the slices hold a list: answers 0, 1 or 2.
+    pub fn check(self) -> Result<(), Answer>
+        ensures { answer_of result ≡ check_answer (lent self.entry) }
+    {
+        if !self.is_sized() {
+            return Err(Answer::PoolLength);
+        }
+        if !self.holds() {
+            return Err(Answer::NotWellFormed);
+        }
+        Ok(())
+    }
+
+    fn run_load(self, n: usize, i: u64) -> Reply
+        requires { Held self n }
+        ensures { (h : Held self.entry n) →
+            result ≡ (execute (length self.entry.index.now) h.list (Command.Load i)).reply }
+    {
+        let c = seen(self.covering(n, i));
+        covered_reply(LOAD_REPLY, c)
+    }
+
+    // A find never pauses; all its budget does is not to be 0 (R305).
+    fn run_find(self, n: usize, s: Sought) -> Reply
+        requires { Held self n }
+        ensures { (h : Held self.entry n) →
+            result ≡ (execute (length self.entry.index.now) h.list (Command.Find s.first s.last s.filter s.budget)).reply }
+    {
+        if s.filter > ANY_MARK {
+            return answered(FIND_REPLY, Answer::BadMark, 0, 0);
+        }
+        if s.first > s.last {
+            return answered(FIND_REPLY, Answer::FirstAboveLast, 0, 0);
+        }
+        if s.budget == 0 {
+            return answered(FIND_REPLY, Answer::NoBudget, 0, 0);
+        }
+        found_reply(self.find(n, s.first, s.last, s.filter))
+    }
 }
 
 // Four slices of one length become those of the empty list: answers 0, or 1 with nothing written.
@@ -288,7 +352,13 @@ pub fn init(
     ensures marks_after { slices index.new order.new word.new marks.new
         ≡ init_slices (slices index.old order.old word.old marks.old) }
 {
-    if !sized(index, order, word, marks) {
+    let s = Entries {
+        index,
+        order,
+        word,
+        marks,
+    };
+    if !s.is_sized() {
         return Err(Answer::PoolLength);
     }
     index.fill(0);
@@ -358,15 +428,6 @@ fn store_new(
     Some(Stored { entry, count })
 }
 
-// The number of the entry over i, if its order is k or more.
-fn larger(index: &[u64], order: &[u64], n: usize, i: u64, k: u64) -> Option<usize>
-    requires { Searchable index.now order.now n }
-    ensures { Larger index.now order.now n i k result }
-{
-    let j = place(index, order, n, i)?;
-    if k <= order[j] { Some(j) } else { None }
-}
-
 // The entry at place j takes a word, and loses mark 2 (R190).
 fn store_over(
     index: &[u64],
@@ -409,7 +470,13 @@ fn store(
     ensures { (h : Holds index.old order.old word.old marks.old n) →
         Stores h i (store h.list i k w) result index.new order.new word.new marks.new }
 {
-    match larger(index, order, n, i, k) {
+    let s = Entries {
+        index,
+        order,
+        word,
+        marks,
+    };
+    match s.larger(n, i, k) {
         Some(j) => {
             let entry = store_over(index, order, word, marks, j, w);
             Some(Stored { entry, count: n })
@@ -482,7 +549,13 @@ pub fn run_reserve(
     ensures { (h : Holds index.old order.old word.old marks.old n) →
         Executes h (Command.Reserve i) result index.new order.new word.new marks.new }
 {
-    match covering(index, order, word, marks, n, i) {
+    let e = Entries {
+        index,
+        order,
+        word,
+        marks,
+    };
+    match e.covering(n, i) {
         None => {
             let s = store(index, order, word, marks, n, i, 0, RESERVED);
             stored_turn(RESERVE_REPLY, n, s)
@@ -523,34 +596,6 @@ fn begin(index: &[u64], n: usize, a: u64) -> usize
     position(index, n, a).saturating_sub(1)
 }
 
-/// The first entry in index order that a filter accepts and whose run meets a to z.
-pub fn find(
-    index: &[u64],
-    order: &[u64],
-    word: &[u64],
-    marks: &[u64],
-    n: usize,
-    a: u64,
-    z: u64,
-    f: u64,
-) -> Option<Entry>
-    requires holds { Holds index.now order.now word.now marks.now n }
-    requires f_bound { f < 64 }
-    ensures { (h : Holds index.now order.now word.now marks.now n) →
-        result ≡ covered (first_match h.list a z f) }
-{
-    for k in begin(index, n, a)..n {
-        let e = entry_at(index, order, word, marks, k);
-        if z < e.base {
-            return None;
-        }
-        if accepts(f, e) && reaches(a, e) {
-            return Some(e);
-        }
-    }
-    None
-}
-
 // COMMANDS
 
 // What a find asks.
@@ -569,15 +614,6 @@ fn seen(c: Option<Entry>) -> Option<Entry>
     c.filter(|e| !is_reserved(*e))
 }
 
-fn run_load(index: &[u64], order: &[u64], word: &[u64], marks: &[u64], n: usize, i: u64) -> Reply
-    requires { Holds index.now order.now word.now marks.now n }
-    ensures { (h : Holds index.now order.now word.now marks.now n) →
-        result ≡ (execute (length index.now) h.list (Command.Load i)).reply }
-{
-    let c = seen(covering(index, order, word, marks, n, i));
-    covered_reply(LOAD_REPLY, c)
-}
-
 fn found_reply(c: Option<Entry>) -> Reply
     ensures { result ≡ found_reply c }
 {
@@ -585,24 +621,6 @@ fn found_reply(c: Option<Entry>) -> Reply
         None => answered(FIND_REPLY, Answer::Ended, 0, 0),
         Some(e) => answered_by(FIND_REPLY, e, 0),
     }
-}
-
-// A find never pauses; all its budget does is not to be 0 (R305).
-fn run_find(index: &[u64], order: &[u64], word: &[u64], marks: &[u64], n: usize, s: Sought) -> Reply
-    requires { Holds index.now order.now word.now marks.now n }
-    ensures { (h : Holds index.now order.now word.now marks.now n) →
-        result ≡ (execute (length index.now) h.list (Command.Find s.first s.last s.filter s.budget)).reply }
-{
-    if s.filter > ANY_MARK {
-        return answered(FIND_REPLY, Answer::BadMark, 0, 0);
-    }
-    if s.first > s.last {
-        return answered(FIND_REPLY, Answer::FirstAboveLast, 0, 0);
-    }
-    if s.budget == 0 {
-        return answered(FIND_REPLY, Answer::NoBudget, 0, 0);
-    }
-    found_reply(find(index, order, word, marks, n, s.first, s.last, s.filter))
 }
 
 // Takes place k out of n.
@@ -647,10 +665,16 @@ fn run_erase(
     ensures { (h : Holds index.old order.old word.old marks.old n) →
         Executes h (Command.Erase i) result index.new order.new word.new marks.new }
 {
-    let Some(k) = place(index, order, n, i) else {
+    let s = Entries {
+        index,
+        order,
+        word,
+        marks,
+    };
+    let Some(k) = s.place(n, i) else {
         return refused(ERASE_REPLY, Answer::Absent, n);
     };
-    let e = entry_at(index, order, word, marks, k);
+    let e = s.entry_at(k);
     take_out(index, order, word, marks, k, n);
     Turned {
         reply: answered_by(ERASE_REPLY, e, 0),
@@ -677,10 +701,16 @@ fn run_remark(
     if m >= MARKS {
         return refused(tag, Answer::BadMark, n);
     }
-    let Some(k) = place(index, order, n, i) else {
+    let s = Entries {
+        index,
+        order,
+        word,
+        marks,
+    };
+    let Some(k) = s.place(n, i) else {
         return refused(tag, Answer::Absent, n);
     };
-    let e = entry_at(index, order, word, marks, k);
+    let e = s.entry_at(k);
     if is_reserved(e) {
         return refused(tag, Answer::Absent, n);
     }
@@ -712,7 +742,13 @@ pub fn execute(
             word: w,
         } => run_store(index, order, word, marks, n, i, k, w),
         Command::Load { index: i } => Turned {
-            reply: run_load(index, order, word, marks, n, i),
+            reply: (Entries {
+                index,
+                order,
+                word,
+                marks,
+            })
+            .run_load(n, i),
             count: n,
         },
         Command::Erase { index: i } => run_erase(index, order, word, marks, n, i),
@@ -726,11 +762,13 @@ pub fn execute(
             filter,
             budget,
         } => Turned {
-            reply: run_find(
+            reply: (Entries {
                 index,
                 order,
                 word,
                 marks,
+            })
+            .run_find(
                 n,
                 Sought {
                     first,

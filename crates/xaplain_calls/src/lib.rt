@@ -19,6 +19,7 @@ ghost use Rattle.xaplain_calls.specs.Running.{Turns, Ends};
 
 use answers::{Answer, Refusal};
 use batch::{Command, REPLY_BYTES};
+use xaplain::Entries;
 
 const REPLY_SIZE: u64 = 24;
 
@@ -126,7 +127,13 @@ pub fn check(index: &[u64], order: &[u64], word: &[u64], marks: &[u64]) -> Resul
     ensures marks_value { slices index.exit.now order.exit.now word.exit.now marks.exit.now ≡
         slices index.entry.now order.entry.now word.entry.now marks.entry.now }
 {
-    xaplain::check(index, order, word, marks)?;
+    Entries {
+        index,
+        order,
+        word,
+        marks,
+    }
+    .check()?;
     Ok(0)
 }
 
@@ -148,7 +155,13 @@ pub fn run(
         batch.now reply.old).reply }
     ensures batch_value { batch.exit.now ≡ batch.entry.now }
 {
-    xaplain::check(index, order, word, marks)?; // what is refused is refused before the first write
+    let s = Entries {
+        index,
+        order,
+        word,
+        marks,
+    };
+    s.check()?; // what is refused is refused before the first write
     let k = reader::count_through(batch)?;
     run_counted(index, order, word, marks, batch, reply, k)
 }

@@ -3,7 +3,7 @@ use mathlib.Core.Path.{sym, ap, ◌∙◌}
 use Rattle.std.specs.Prelude.{Some}
 use Rattle.model.specs.Model.{covered}
 use Rattle.xaplain.proofs.PlaceLaws.{searchable, entry_is, place_none, place_in, place_some}
-use Rattle.xaplain.proofs.covering.Goals as goal
+use Rattle.xaplain.proofs.Entries.covering.Goals as goal
 
 pub place-requires : goal.place-requires
 place-requires c = searchable c.requires

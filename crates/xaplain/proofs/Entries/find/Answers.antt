@@ -11,8 +11,8 @@ use Rattle.model.specs.Matches.{matches, meets}
 use Rattle.xaplain.proofs.PlainLaws.{nth, holds_rises, order_at, entry_ok}
 use Rattle.xaplain.proofs.PlaceLaws.{entry_is}
 use Rattle.xaplain.proofs.FindLaws.{not_before, find_past, find_hit, find_miss, find_none}
-use Rattle.xaplain.proofs.find.Goals.{else-accepts-via-then-accepts+else-reaches, else-accepts-via-else-accepts}
-use Rattle.xaplain.proofs.find.Goals as goal
+use Rattle.xaplain.proofs.Entries.find.Goals.{else-accepts-via-then-accepts+else-reaches, else-accepts-via-else-accepts}
+use Rattle.xaplain.proofs.Entries.find.Goals as goal
 
 pub begin-k-requires-clause-rising : goal.begin-k-requires-clause-rising
 begin-k-requires-clause-rising c = holds_rises c.requires.holds

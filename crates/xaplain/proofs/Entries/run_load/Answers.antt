@@ -3,8 +3,8 @@ use mathlib.Core.Path.{ap, ◌∙◌}
 use lib.ListN.{length}
 use Rattle.xaplain.specs.Moves.{seen}
 use Rattle.xaplain.proofs.CommandLaws.{load_reply_lem}
-use Rattle.xaplain.proofs.run_load.Goals as goal
+use Rattle.xaplain.proofs.Entries.run_load.Goals as goal
 
 pub returns : goal.returns
 returns c =
-    λ h. c.covered_reply.ensures ∙ load_reply_lem (length c.args.index.now) h.list c.args.i (c.seen-c.ensures ∙ ap seen (c.covering.ensures h))
+    λ h. c.covered_reply.ensures ∙ load_reply_lem (length c.args.self.index.now) h.list c.args.i (c.seen-c.ensures ∙ ap seen (c.covering.ensures h))
