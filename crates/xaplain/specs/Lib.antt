@@ -2,5 +2,6 @@ pub mod Slices
 pub mod Engine
 pub mod Moves
 pub mod Lent
+pub mod LentMut
 pub mod Executes
 pub mod Stores

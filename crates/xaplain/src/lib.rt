@@ -11,6 +11,7 @@ ghost use Rattle.model.specs.Matches.{matches, first_match};
 ghost use Rattle.xaplain.specs.Slices.{slices, check_answer, init_answer, init_slices, fits_entry};
 ghost use Rattle.xaplain.specs.Slices.{rest_zero, in_order, list_in, all_zero, holds_list, is_sized};
 ghost use Rattle.xaplain.specs.Lent.{lent, Held, Even, Within, entry_in};
+ghost use Rattle.xaplain.specs.LentMut.{Shown, WithinMut, lent_mut, HeldMut, Listed, Kept, room_in, StoresIn, ExecutesIn};
 ghost use Rattle.xaplain.specs.Moves.{Rising, Splits, Searchable, Placed, Closed, removed, seen, found_reply, remarking};
 ghost use Rattle.xaplain.specs.Moves.{Holds, Opened, Pulled, Cleared, Spliced, Columns, replaced, Counts};
 ghost use Rattle.xaplain.specs.Moves.{low_of, Parts, any_from, kept_from, Begins};
@@ -50,6 +51,15 @@ pub struct Entries<'a> {
     pub order: &'a [u64],
     pub word: &'a [u64],
     pub marks: &'a [u64],
+}
+
+// The four slices, lent to write.
+#[derive(Drop)]
+pub struct EntriesMut<'a> {
+    pub index: &'a mut [u64],
+    pub order: &'a mut [u64],
+    pub word: &'a mut [u64],
+    pub marks: &'a mut [u64],
 }
 
 // What a command comes to: its reply, and the number of entries after it.
@@ -121,30 +131,6 @@ fn splice(xs: &mut [u64], p: usize, q: usize, n: usize, v: u64)
     pull(xs, p + 1, q, n);
     clear(xs, p + 1 + (n - q), n);
     xs[p] = v;
-}
-
-// One entry for those from p to q - 1, in all four slices.
-fn put(
-    index: &mut [u64],
-    order: &mut [u64],
-    word: &mut [u64],
-    marks: &mut [u64],
-    p: usize,
-    q: usize,
-    n: usize,
-    e: Entry,
-)
-    requires holds { Holds index.old order.old word.old marks.old n }
-    requires p_le_q { (p ≤ q) × (q ≤ n) }
-    requires q_in_bounds { p + 1 + (n - q) ≤ length index.old }
-    ensures { (h : Holds index.old order.old word.old marks.old n) →
-        Columns index.new order.new word.new marks.new (length index.old)
-        (replaced p q e h.list) }
-{
-    splice(index, p, q, n, e.base);
-    splice(order, p, q, n, e.order);
-    splice(word, p, q, n, e.word);
-    splice(marks, p, q, n, e.marks);
 }
 
 // How many words stand before the first 0.
@@ -341,33 +327,6 @@ impl<'a> Entries<'a> {
     }
 }
 
-// Four slices of one length become those of the empty list: answers 0, or 1 with nothing written.
-pub fn init(
-    index: &mut [u64],
-    order: &mut [u64],
-    word: &mut [u64],
-    marks: &mut [u64],
-) -> Result<(), Answer>
-    ensures value { answer_of result ≡ init_answer (slices index.old order.old word.old marks.old) }
-    ensures marks_after { slices index.new order.new word.new marks.new
-        ≡ init_slices (slices index.old order.old word.old marks.old) }
-{
-    let s = Entries {
-        index,
-        order,
-        word,
-        marks,
-    };
-    if !s.is_sized() {
-        return Err(Answer::PoolLength);
-    }
-    index.fill(0);
-    order.fill(0);
-    word.fill(0);
-    marks.fill(0);
-    Ok(())
-}
-
 // How many of the first n entries start below i.
 fn starts_below(index: &[u64], n: usize, i: u64) -> usize
     requires n_in_bounds { n ≤ length index.now }
@@ -394,97 +353,6 @@ fn kept(marks: &[u64], p: usize, q: usize) -> u64
     u64::from(any_mark(marks, p, q, 0)) + 2 * u64::from(any_mark(marks, p, q, 1))
 }
 
-// A store that replaces what starts in its range, where no entry over i has its order or more.
-fn store_new(
-    index: &mut [u64],
-    order: &mut [u64],
-    word: &mut [u64],
-    marks: &mut [u64],
-    n: usize,
-    i: u64,
-    k: u64,
-    w: u64,
-) -> Option<Stored>
-    requires holds { Holds index.old order.old word.old marks.old n }
-    requires k_le_max_order { (k ≤ max_order) × (aligned k i ≡ true) }
-    requires list_value { (h : Holds index.old order.old word.old marks.old n) → any (over i k) h.list ≡ false }
-    ensures { (h : Holds index.old order.old word.old marks.old n) →
-        Stores h i (store_new h.list i k w) result index.new order.new word.new marks.new }
-{
-    let p = starts_below(index, n, i);
-    let last = i + ((1u64 << k) - 1);
-    let q = position(index, n, last);
-    let count = p + 1 + (n - q);
-    if index.len() < count {
-        return None;
-    }
-    let entry = Entry {
-        base: i,
-        order: k,
-        word: w,
-        marks: kept(marks, p, q),
-    };
-    put(index, order, word, marks, p, q, n, entry);
-    Some(Stored { entry, count })
-}
-
-// The entry at place j takes a word, and loses mark 2 (R190).
-fn store_over(
-    index: &[u64],
-    order: &[u64],
-    word: &mut [u64],
-    marks: &mut [u64],
-    j: usize,
-    w: u64,
-) -> Entry
-    requires j_in_bounds { (j < length index.now) × (j < length order.now) × (j < length word.old) × (j < length marks.old) }
-    requires j_bound { get_or marks.old j 0 < 8 }
-    ensures value { result ≡ entry_with index.now order.now marks.old j w }
-    ensures word_after { word.new ≡ set word.old j w }
-    ensures marks_after { marks.new ≡ set marks.old j (set_bit matched_mark false (get_or marks.old j 0)) }
-{
-    let m = marks[j] % MATCHED_BIT;
-    word[j] = w;
-    marks[j] = m;
-    Entry {
-        base: index[j],
-        order: order[j],
-        word: w,
-        marks: m,
-    }
-}
-
-// A store: into the larger entry over i if there is one, else in place of what starts in its range.
-fn store(
-    index: &mut [u64],
-    order: &mut [u64],
-    word: &mut [u64],
-    marks: &mut [u64],
-    n: usize,
-    i: u64,
-    k: u64,
-    w: u64,
-) -> Option<Stored>
-    requires holds { Holds index.old order.old word.old marks.old n }
-    requires k_le_max_order { (k ≤ max_order) × (aligned k i ≡ true) }
-    ensures { (h : Holds index.old order.old word.old marks.old n) →
-        Stores h i (store h.list i k w) result index.new order.new word.new marks.new }
-{
-    let s = Entries {
-        index,
-        order,
-        word,
-        marks,
-    };
-    match s.larger(n, i, k) {
-        Some(j) => {
-            let entry = store_over(index, order, word, marks, j, w);
-            Some(Stored { entry, count: n })
-        }
-        None => store_new(index, order, word, marks, n, i, k, w),
-    }
-}
-
 // A command that is refused: the entries stay.
 fn refused(tag: u64, answer: Answer, n: usize) -> Turned
     ensures { result ≡ refused_by tag (number_of answer) n }
@@ -505,62 +373,6 @@ fn stored_turn(tag: u64, n: usize, s: Option<Stored>) -> Turned
             reply: answered_by(tag, s.entry, 0),
             count: s.count,
         },
-    }
-}
-
-// The tests in the order of their numbers, but for 14, between 5 and 6 (R81, R181).
-pub fn run_store(
-    index: &mut [u64],
-    order: &mut [u64],
-    word: &mut [u64],
-    marks: &mut [u64],
-    n: usize,
-    i: u64,
-    k: u64,
-    w: u64,
-) -> Turned
-    requires { Holds index.old order.old word.old marks.old n }
-    ensures { (h : Holds index.old order.old word.old marks.old n) →
-        Executes h (Command.Store i k w) result index.new order.new word.new marks.new }
-{
-    if k > MAX_ORDER {
-        return refused(STORE_REPLY, Answer::BadOrder, n);
-    }
-    if !is_aligned(i, k) {
-        return refused(STORE_REPLY, Answer::NotAligned, n);
-    }
-    if !is_storable(w) {
-        return refused(STORE_REPLY, Answer::BadEntry, n);
-    }
-    let s = store(index, order, word, marks, n, i, k, w);
-    stored_turn(STORE_REPLY, n, s)
-}
-
-// A reservation is a store of order 0 where nothing covers the index (R204 to R206).
-pub fn run_reserve(
-    index: &mut [u64],
-    order: &mut [u64],
-    word: &mut [u64],
-    marks: &mut [u64],
-    n: usize,
-    i: u64,
-) -> Turned
-    requires { Holds index.old order.old word.old marks.old n }
-    ensures { (h : Holds index.old order.old word.old marks.old n) →
-        Executes h (Command.Reserve i) result index.new order.new word.new marks.new }
-{
-    let e = Entries {
-        index,
-        order,
-        word,
-        marks,
-    };
-    match e.covering(n, i) {
-        None => {
-            let s = store(index, order, word, marks, n, i, 0, RESERVED);
-            stored_turn(RESERVE_REPLY, n, s)
-        }
-        Some(_) => refused(RESERVE_REPLY, Answer::Covered, n),
     }
 }
 
@@ -632,153 +444,239 @@ fn close(xs: &mut [u64], k: usize, n: usize)
     clear(xs, n - 1, n);
 }
 
-// Takes entry k out, in all four slices.
-fn take_out(
-    index: &mut [u64],
-    order: &mut [u64],
-    word: &mut [u64],
-    marks: &mut [u64],
-    k: usize,
-    n: usize,
-)
-    requires holds { Holds index.old order.old word.old marks.old n }
-    requires k_lt_n { k < n }
-    ensures { (h : Holds index.old order.old word.old marks.old n) →
-        Columns index.new order.new word.new marks.new (length index.old)
-        (removed k h.list) }
-{
-    close(index, k, n);
-    close(order, k, n);
-    close(word, k, n);
-    close(marks, k, n);
-}
+impl<'a> EntriesMut<'a> {
+    // The same slices, to read.
+    fn lent(&self) -> Entries
+        ensures { Shown result self.now }
+    {
+        Entries {
+            index: &*self.index,
+            order: &*self.order,
+            word: &*self.word,
+            marks: &*self.marks,
+        }
+    }
 
-fn run_erase(
-    index: &mut [u64],
-    order: &mut [u64],
-    word: &mut [u64],
-    marks: &mut [u64],
-    n: usize,
-    i: u64,
-) -> Turned
-    requires { Holds index.old order.old word.old marks.old n }
-    ensures { (h : Holds index.old order.old word.old marks.old n) →
-        Executes h (Command.Erase i) result index.new order.new word.new marks.new }
-{
-    let s = Entries {
-        index,
-        order,
-        word,
-        marks,
-    };
-    let Some(k) = s.place(n, i) else {
-        return refused(ERASE_REPLY, Answer::Absent, n);
-    };
-    let e = s.entry_at(k);
-    take_out(index, order, word, marks, k, n);
-    Turned {
-        reply: answered_by(ERASE_REPLY, e, 0),
-        count: n - 1,
+    // Four slices of one length become those of the empty list: answers 0, or 1 with nothing written.
+    pub fn init(&mut self) -> Result<(), Answer>
+        ensures value { answer_of result ≡ init_answer (lent_mut self.old) }
+        ensures marks_after { lent_mut self.new ≡ init_slices (lent_mut self.old) }
+        ensures kept { Kept self.old self.new }
+    {
+        if !self.lent().is_sized() {
+            return Err(Answer::PoolLength);
+        }
+        self.index.fill(0);
+        self.order.fill(0);
+        self.word.fill(0);
+        self.marks.fill(0);
+        Ok(())
     }
-}
 
-// A mark where the bit is on, an unmark where it is off: one word changes.
-fn run_remark(
-    index: &[u64],
-    order: &[u64],
-    word: &[u64],
-    marks: &mut [u64],
-    n: usize,
-    i: u64,
-    m: u64,
-    on: bool,
-) -> Turned
-    requires { Holds index.now order.now word.now marks.old n }
-    ensures { (h : Holds index.now order.now word.now marks.old n) →
-        Executes h (remarking i m on) result index.now order.now word.now marks.new }
-{
-    let tag = remarked_tag(on);
-    if m >= MARKS {
-        return refused(tag, Answer::BadMark, n);
+    // One entry for those from p to q - 1, in all four slices.
+    fn put(&mut self, p: usize, q: usize, n: usize, e: Entry)
+        requires holds { HeldMut self.old n }
+        requires p_le_q { (p ≤ q) × (q ≤ n) }
+        requires q_in_bounds { p + 1 + (n - q) ≤ length self.old.index.now }
+        ensures list_after { (h : HeldMut self.old n) → Listed self.new (room_in self.old) (replaced p q e h.list) }
+        ensures kept { Kept self.old self.new }
+    {
+        splice(self.index, p, q, n, e.base);
+        splice(self.order, p, q, n, e.order);
+        splice(self.word, p, q, n, e.word);
+        splice(self.marks, p, q, n, e.marks);
     }
-    let s = Entries {
-        index,
-        order,
-        word,
-        marks,
-    };
-    let Some(k) = s.place(n, i) else {
-        return refused(tag, Answer::Absent, n);
-    };
-    let e = s.entry_at(k);
-    if is_reserved(e) {
-        return refused(tag, Answer::Absent, n);
-    }
-    let x = with_bit(e.marks, m, on);
-    marks[k] = x;
-    Turned {
-        reply: answered_by(tag, Entry { marks: x, ..e }, 0),
-        count: n,
-    }
-}
 
-// One command: its reply, and the number of entries after it.
-pub fn execute(
-    index: &mut [u64],
-    order: &mut [u64],
-    word: &mut [u64],
-    marks: &mut [u64],
-    n: usize,
-    c: Command,
-) -> Turned
-    requires { Holds index.old order.old word.old marks.old n }
-    ensures { (h : Holds index.old order.old word.old marks.old n) →
-        Executes h c result index.new order.new word.new marks.new }
-{
-    match c {
-        Command::Store {
-            index: i,
+    // A store that replaces what starts in its range, where no entry over i has its order or more.
+    fn store_new(&mut self, n: usize, i: u64, k: u64, w: u64) -> Option<Stored>
+        requires holds { HeldMut self.old n }
+        requires k_le_max_order { (k ≤ max_order) × (aligned k i ≡ true) }
+        requires list_value { (h : HeldMut self.old n) → any (over i k) h.list ≡ false }
+        ensures stores { (h : HeldMut self.old n) → StoresIn h i (store_new h.list i k w) result self.new }
+        ensures kept { Kept self.old self.new }
+    {
+        let s = self.lent();
+        let p = starts_below(s.index, n, i);
+        let last = i + ((1u64 << k) - 1);
+        let q = position(s.index, n, last);
+        let count = p + 1 + (n - q);
+        if s.index.len() < count {
+            return None;
+        }
+        let entry = Entry {
+            base: i,
             order: k,
             word: w,
-        } => run_store(index, order, word, marks, n, i, k, w),
-        Command::Load { index: i } => Turned {
-            reply: (Entries {
-                index,
-                order,
-                word,
-                marks,
-            })
-            .run_load(n, i),
+            marks: kept(s.marks, p, q),
+        };
+        self.put(p, q, n, entry);
+        Some(Stored { entry, count })
+    }
+
+    // The entry at place j takes a word, and loses mark 2 (R190).
+    fn store_over(&mut self, j: usize, w: u64) -> Entry
+        requires j_in_bounds { WithinMut self.old j }
+        requires j_bound { get_or self.old.marks.now j 0 < 8 }
+        ensures value { result ≡ entry_with self.old.index.now self.old.order.now self.old.marks.now j w }
+        ensures others { (self.new.index.now ≡ self.old.index.now) × (self.new.order.now ≡ self.old.order.now) }
+        ensures word_after { self.new.word.now ≡ set self.old.word.now j w }
+        ensures marks_after { self.new.marks.now ≡ set self.old.marks.now j (set_bit matched_mark false (get_or self.old.marks.now j 0)) }
+        ensures kept { Kept self.old self.new }
+    {
+        let m = self.marks[j] % MATCHED_BIT;
+        self.word[j] = w;
+        self.marks[j] = m;
+        Entry {
+            base: self.index[j],
+            order: self.order[j],
+            word: w,
+            marks: m,
+        }
+    }
+
+    // A store: into the larger entry over i if there is one, else in place of what starts in its range.
+    fn store(&mut self, n: usize, i: u64, k: u64, w: u64) -> Option<Stored>
+        requires holds { HeldMut self.old n }
+        requires k_le_max_order { (k ≤ max_order) × (aligned k i ≡ true) }
+        ensures stores { (h : HeldMut self.old n) → StoresIn h i (store h.list i k w) result self.new }
+        ensures kept { Kept self.old self.new }
+    {
+        match self.lent().larger(n, i, k) {
+            Some(j) => {
+                let entry = self.store_over(j, w);
+                Some(Stored { entry, count: n })
+            }
+            None => self.store_new(n, i, k, w),
+        }
+    }
+
+    // The tests in the order of their numbers, but for 14, between 5 and 6 (R81, R181).
+    fn run_store(&mut self, n: usize, i: u64, k: u64, w: u64) -> Turned
+        requires { HeldMut self.old n }
+        ensures executes { (h : HeldMut self.old n) → ExecutesIn h (Command.Store i k w) result self.new }
+        ensures kept { Kept self.old self.new }
+    {
+        if k > MAX_ORDER {
+            return refused(STORE_REPLY, Answer::BadOrder, n);
+        }
+        if !is_aligned(i, k) {
+            return refused(STORE_REPLY, Answer::NotAligned, n);
+        }
+        if !is_storable(w) {
+            return refused(STORE_REPLY, Answer::BadEntry, n);
+        }
+        let s = self.store(n, i, k, w);
+        stored_turn(STORE_REPLY, n, s)
+    }
+
+    // A reservation is a store of order 0 where nothing covers the index (R204 to R206).
+    fn run_reserve(&mut self, n: usize, i: u64) -> Turned
+        requires { HeldMut self.old n }
+        ensures executes { (h : HeldMut self.old n) → ExecutesIn h (Command.Reserve i) result self.new }
+        ensures kept { Kept self.old self.new }
+    {
+        match self.lent().covering(n, i) {
+            None => {
+                let s = self.store(n, i, 0, RESERVED);
+                stored_turn(RESERVE_REPLY, n, s)
+            }
+            Some(_) => refused(RESERVE_REPLY, Answer::Covered, n),
+        }
+    }
+
+    // Takes entry k out, in all four slices.
+    fn take_out(&mut self, k: usize, n: usize)
+        requires holds { HeldMut self.old n }
+        requires k_lt_n { k < n }
+        ensures list_after { (h : HeldMut self.old n) → Listed self.new (room_in self.old) (removed k h.list) }
+        ensures kept { Kept self.old self.new }
+    {
+        close(self.index, k, n);
+        close(self.order, k, n);
+        close(self.word, k, n);
+        close(self.marks, k, n);
+    }
+
+    fn run_erase(&mut self, n: usize, i: u64) -> Turned
+        requires { HeldMut self.old n }
+        ensures executes { (h : HeldMut self.old n) → ExecutesIn h (Command.Erase i) result self.new }
+        ensures kept { Kept self.old self.new }
+    {
+        let s = self.lent();
+        let Some(k) = s.place(n, i) else {
+            return refused(ERASE_REPLY, Answer::Absent, n);
+        };
+        let e = s.entry_at(k);
+        self.take_out(k, n);
+        Turned {
+            reply: answered_by(ERASE_REPLY, e, 0),
+            count: n - 1,
+        }
+    }
+
+    // A mark where the bit is on, an unmark where it is off: one word changes.
+    fn run_remark(&mut self, n: usize, i: u64, m: u64, on: bool) -> Turned
+        requires { HeldMut self.old n }
+        ensures executes { (h : HeldMut self.old n) → ExecutesIn h (remarking i m on) result self.new }
+        ensures kept { Kept self.old self.new }
+    {
+        let tag = remarked_tag(on);
+        if m >= MARKS {
+            return refused(tag, Answer::BadMark, n);
+        }
+        let s = self.lent();
+        let Some(k) = s.place(n, i) else {
+            return refused(tag, Answer::Absent, n);
+        };
+        let e = s.entry_at(k);
+        if is_reserved(e) {
+            return refused(tag, Answer::Absent, n);
+        }
+        let x = with_bit(e.marks, m, on);
+        self.marks[k] = x;
+        Turned {
+            reply: answered_by(tag, Entry { marks: x, ..e }, 0),
             count: n,
-        },
-        Command::Erase { index: i } => run_erase(index, order, word, marks, n, i),
-        Command::Mark { index: i, mark: m } => run_remark(index, order, word, marks, n, i, m, true),
-        Command::Unmark { index: i, mark: m } => run_remark(
-            index, order, word, marks, n, i, m, false,
-        ),
-        Command::Find {
-            first,
-            last,
-            filter,
-            budget,
-        } => Turned {
-            reply: (Entries {
-                index,
-                order,
-                word,
-                marks,
-            })
-            .run_find(
-                n,
-                Sought {
-                    first,
-                    last,
-                    filter,
-                    budget,
-                },
-            ),
-            count: n,
-        },
-        Command::Reserve { index: i } => run_reserve(index, order, word, marks, n, i),
+        }
+    }
+
+    // One command: its reply, and the number of entries after it.
+    pub fn execute(&mut self, n: usize, c: Command) -> Turned
+        requires { HeldMut self.old n }
+        ensures executes { (h : HeldMut self.old n) → ExecutesIn h c result self.new }
+        ensures kept { Kept self.old self.new }
+    {
+        match c {
+            Command::Store {
+                index: i,
+                order: k,
+                word: w,
+            } => self.run_store(n, i, k, w),
+            Command::Load { index: i } => Turned {
+                reply: self.lent().run_load(n, i),
+                count: n,
+            },
+            Command::Erase { index: i } => self.run_erase(n, i),
+            Command::Mark { index: i, mark: m } => self.run_remark(n, i, m, true),
+            Command::Unmark { index: i, mark: m } => self.run_remark(n, i, m, false),
+            Command::Find {
+                first,
+                last,
+                filter,
+                budget,
+            } => Turned {
+                reply: self.lent().run_find(
+                    n,
+                    Sought {
+                        first,
+                        last,
+                        filter,
+                        budget,
+                    },
+                ),
+                count: n,
+            },
+            Command::Reserve { index: i } => self.run_reserve(n, i),
+        }
     }
 }
