@@ -4,11 +4,9 @@ use mathlib.Core.Path.{◌≡◌, sym, ap, subst}
 use native.Mathlib.Omega.{arith}
 use mathlib.Core.List.{List}
 use lib.ListN.{length}
-use Rattle.model.specs.declared.Entry.{Entry}
 use Rattle.xaplain.specs.Slices.{Slices, column, entry_at}
 use Rattle.xaplain.specs.Moves.{Holds}
-use Rattle.xaplain.specs.Lent.{Entries, lent, Held, entry_in}
-use Rattle.xaplain.specs.LentMut.{EntriesMut, lent_mut, HeldMut, Shown}
+use Rattle.xaplain.specs.Lent.{Entries, EntriesMut, lent, lent_mut, Held, HeldMut, Shown, entry_in}
 
 pub same : {s : Entries} {t : EntriesMut} → Shown s t → lent s ≡ lent_mut t
 same e = let a = e.index_is in let b = e.order_is in let c = e.word_is in let d = e.marks_are in

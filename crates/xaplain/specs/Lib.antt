@@ -2,6 +2,5 @@ pub mod Slices
 pub mod Engine
 pub mod Moves
 pub mod Lent
-pub mod LentMut
 pub mod Executes
 pub mod Stores

@@ -3,22 +3,21 @@
 // index, order, word, marks: the borrowed slices, of one length; n: how many entries they hold; i: an index.
 #![tactic(auto)]
 
-ghost use Rattle.std.specs.Prelude.{leb, ltb, ◌≡◌, ℕ, ◌+◌, ◌-◌, ◌^◌, ◌≤◌, ◌<◌, length, get_or, set, true, false};
+ghost use Rattle.std.specs.Prelude.{leb, ltb, ◌≡◌, ◌+◌, ◌-◌, ◌^◌, ◌≤◌, ◌<◌, length, get_or, set, true, false};
 ghost use Rattle.answers.specs.Answers.{answer_of, number_of};
 ghost use Rattle.blocks.specs.Blocks.{set_bit};
-ghost use Rattle.model.specs.Model.{covering, covered, store_new, mark_count, over, store, aligned, max_order, matched_mark, is_word_ok};
+ghost use Rattle.model.specs.Model.{covering, covered, store_new, over, store, aligned, max_order, matched_mark, is_word_ok};
 ghost use Rattle.model.specs.Matches.{matches, first_match};
-ghost use Rattle.xaplain.specs.Slices.{slices, check_answer, init_answer, init_slices, fits_entry};
+ghost use Rattle.xaplain.specs.Slices.{check_answer, init_answer, init_slices, fits_entry};
 ghost use Rattle.xaplain.specs.Slices.{rest_zero, in_order, list_in, all_zero, holds_list, is_sized};
-ghost use Rattle.xaplain.specs.Lent.{lent, Held, Even, Within, entry_in};
-ghost use Rattle.xaplain.specs.LentMut.{Shown, WithinMut, lent_mut, HeldMut, Listed, Kept, room_in, StoresIn, ExecutesIn};
+ghost use Rattle.xaplain.specs.Lent.{lent, Held, Even, Within, entry_in, Shown};
+ghost use Rattle.xaplain.specs.Lent.{WithinMut, lent_mut, HeldMut, Listed, Kept, room_in, StoresIn, ExecutesIn};
 ghost use Rattle.xaplain.specs.Moves.{Rising, Splits, Searchable, Placed, Closed, removed, seen, found_reply, remarking};
-ghost use Rattle.xaplain.specs.Moves.{Holds, Opened, Pulled, Cleared, Spliced, Columns, replaced, Counts};
+ghost use Rattle.xaplain.specs.Moves.{Opened, Pulled, Cleared, Spliced, replaced, Counts};
 ghost use Rattle.xaplain.specs.Moves.{low_of, Parts, any_from, kept_from, Begins};
 ghost use Rattle.xaplain.specs.Engine.{execute};
-ghost use Rattle.xaplain.specs.Executes.{Executes};
 ghost use Rattle.blocks.specs.Lists.{any};
-ghost use Rattle.xaplain.specs.Stores.{Larger, entry_with, Stores, turned_by, refused_by};
+ghost use Rattle.xaplain.specs.Stores.{Larger, entry_with, turned_by, refused_by};
 
 use answers::Answer;
 use batch::{Command, Reply};
@@ -293,10 +292,11 @@ impl<'a> Entries<'a> {
         if !self.is_sized() {
             return Err(Answer::PoolLength);
         }
-        if !self.holds() {
-            return Err(Answer::NotWellFormed);
+        if self.holds() {
+            Ok(())
+        } else {
+            Err(Answer::NotWellFormed)
         }
-        Ok(())
     }
 
     fn run_load(self, n: usize, i: u64) -> Reply

@@ -9,7 +9,7 @@ use Rattle.commands.specs.Batches.{replies_by, list_by, Ahead}
 use Rattle.xaplain.specs.Moves.{Holds, Columns}
 use Rattle.xaplain.specs.Engine.{execute}
 use Rattle.xaplain.specs.declared.EntriesMut.{EntriesMut}
-use Rattle.xaplain.specs.LentMut.{Kept}
+use Rattle.xaplain.specs.Lent.{Kept}
 
 -- what a batch that runs leaves, from any list and place on
 pub record Ends (room : ℕ) (l : List Entry) (cs : List Command) (out : ℕ) (reply index order word marks reply' : List ℕ) : Type 0 where

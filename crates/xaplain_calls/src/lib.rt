@@ -12,7 +12,7 @@ ghost use Rattle.batch.specs.Batch;
 ghost use Rattle.batch.specs.Reply.{reply_bytes};
 ghost use Rattle.commands.specs.Batches.{Ahead};
 ghost use Rattle.xaplain.specs.Slices.{slices, check_answer, init_slices};
-ghost use Rattle.xaplain.specs.LentMut.{room_in, HeldMut, Kept};
+ghost use Rattle.xaplain.specs.Lent.{room_in, HeldMut, Kept};
 ghost use Rattle.xaplain_calls.specs.Calls;
 ghost use Rattle.xaplain_calls.specs.Calls.{init_result, check_result};
 ghost use Rattle.xaplain_calls.specs.Running.{TurnsIn, EndsIn};

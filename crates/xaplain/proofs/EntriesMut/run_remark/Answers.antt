@@ -1,10 +1,8 @@
 -- `run_remark`: a mark or an unmark, its reply and the marks.
 use mathlib.Core.Path.{refl, sym, ap, ◌∙◌}
-use native.Mathlib.Omega.{arith}
 use borrow.Author.Tests.{eqb-true, eqb-false}
 use Rattle.model.specs.declared.Entry.{Entry}
 use Rattle.model.specs.Model.{present}
-use Rattle.xaplain.proofs.PlainLaws.{marks_at, entry_ok}
 use Rattle.xaplain.proofs.LentLaws.{held, within, same_entry}
 use Rattle.xaplain.proofs.PlaceLaws.{searchable, place_none, place_in, place_some, place_reserved}
 use Rattle.xaplain.proofs.RemarkLaws.{remark_refused, remark_none, remarks}

@@ -34,6 +34,6 @@ pub returns-clause-stores : goal.returns-clause-stores
 returns-clause-stores c =
     λ h. new_done h c.args.i c.args.k c.args.w _ _ c.requires.k_le_max_order.0 (of_index c.lent-s.ensures (λ x. Parts x c.args.n c.args.i c.starts_below-p.result) c.starts_below-p.ensures)
     (of_index c.lent-s.ensures (λ x. Splits x c.args.n (c.args.i + (1 * 2 ^ c.args.k % 18446744073709551616 - 1)) c.position-q.result) c.position-q.ensures) _
-    c.requires.k_le_max_order.1 (c.requires.list_value h) 
+    c.requires.k_le_max_order.1 (c.requires.list_value h)
     (of_index c.lent-s.ensures (λ x. c.starts_below-p.result + 1 + (c.args.n - c.position-q.result) ≤ length x) c.if-s-count.false)
     (c.kept.ensures ∙ ap (λ x. kept_from x (c.position-q.result - c.starts_below-p.result) c.starts_below-p.result) c.lent-s.ensures.marks_are) (c.put.ensures.list_after h)
