@@ -640,7 +640,9 @@ impl<'a> EntriesMut<'a> {
         }
     }
 
-    // One command: its reply, and the number of entries after it.
+    // One command: its reply, and the number of entries after it. A function of its own: in the loop over a batch, a find takes one
+    // instruction an entry more.
+    #[inline(never)]
     pub fn execute(&mut self, n: usize, c: Command) -> Turned
         requires { HeldMut self.old n }
         ensures executes { (h : HeldMut self.old n) → ExecutesIn h c result self.new }
