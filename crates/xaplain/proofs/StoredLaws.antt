@@ -99,17 +99,17 @@ module _ {is os ws ms : List ℕ} {n : ℕ} (h : Holds is os ws ms n) where
       subst (λ (l : List Entry). Stores h i l r is' os' ws' ms') (sym (ap (λ (b : Bool). pick b (map (with_word i w) h.list) (store_new h.list i k w)) f)) s
 
   -- into the larger entry
-  pub stores_over : {e : Entry} {ws' ms' : List ℕ} (i k w j : ℕ) → Over is os n i k j →
-      e ≡ entry_with is os ms j w → ws' ≡ set ws j w → ms' ≡ set ms j (set_bit matched_mark false (get_or ms j 0)) →
-      Stores h i (store h.list i k w) (Some (record { entry = e; count = n })) is os ws' ms'
-  stores_over {e} {ws'} {ms'} i k w j o d a b =
+  pub stores_over : {e : Entry} {is' os' ws' ms' : List ℕ} (i k w j : ℕ) → Over is os n i k j →
+      e ≡ entry_with is os ms j w → (is' ≡ is) × (os' ≡ os) → ws' ≡ set ws j w → ms' ≡ set ms j (set_bit matched_mark false (get_or ms j 0)) →
+      Stores h i (store h.list i k w) (Some (record { entry = e; count = n })) is' os' ws' ms'
+  stores_over {e} {is'} {os'} {ws'} {ms'} i k w j o d (x, y) a b =
       let g = over_place h i k j o in
       let c = over_covers h i k j o in
       let z : length (map (with_word i w) h.list) ≡ n = length-map h.list (with_word i w) ∙ h.count in
       let q : covering (map (with_word i w) h.list) i ≡ some e =
       over_covering h i w j g c ∙ ap some (sym (d ∙ over_entry_lem h i w j g c)) in
-      let cs : Columns is os ws' ms' (length is) (map (with_word i w) h.list) = rw (a, b) (over_columns h i w j g c) in
-      subst (λ (l : List Entry). Stores h i l (Some (record { entry = e; count = n })) is os ws' ms')
+      let cs : Columns is' os' ws' ms' (length is) (map (with_word i w) h.list) = rw (x, y, a, b) (over_columns h i w j g c) in
+      subst (λ (l : List Entry). Stores h i l (Some (record { entry = e; count = n })) is' os' ws' ms')
       (sym (ap (λ (b : Bool). pick b (map (with_word i w) h.list) (store_new h.list i k w)) (over_any h i k j o)))
       (done i (map (with_word i w) h.list) (record { fits = omega (arith, z, h.fits); covers = q; count = sym z }) cs)
 

@@ -3,20 +3,21 @@
 // index, order, word, marks: the borrowed slices, of one length; n: how many entries they hold; i: an index.
 #![tactic(auto)]
 
-ghost use Rattle.std.specs.Prelude.{leb, ltb, ◌≡◌, ℕ, ◌+◌, ◌-◌, ◌^◌, ◌≤◌, ◌<◌, length, get_or, set, true, false};
+ghost use Rattle.std.specs.Prelude.{leb, ltb, ◌≡◌, ◌+◌, ◌-◌, ◌^◌, ◌≤◌, ◌<◌, length, get_or, set, true, false};
 ghost use Rattle.answers.specs.Answers.{answer_of, number_of};
 ghost use Rattle.blocks.specs.Blocks.{set_bit};
-ghost use Rattle.model.specs.Model.{covering, covered, store_new, mark_count, over, store, aligned, max_order, matched_mark, is_word_ok};
+ghost use Rattle.model.specs.Model.{covering, covered, store_new, over, store, aligned, max_order, matched_mark, is_word_ok};
 ghost use Rattle.model.specs.Matches.{matches, first_match};
-ghost use Rattle.xaplain.specs.Slices.{slices, entry_at, check_answer, init_answer, init_slices, fits_entry};
-ghost use Rattle.xaplain.specs.Slices.{rest_zero, in_order, list_of, all_zero, holds_list, sized_as};
+ghost use Rattle.xaplain.specs.Slices.{check_answer, init_answer, init_slices, fits_entry};
+ghost use Rattle.xaplain.specs.Slices.{rest_zero, in_order, list_in, all_zero, holds_list, is_sized};
+ghost use Rattle.xaplain.specs.Lent.{lent, Held, Even, Within, entry_in, Shown};
+ghost use Rattle.xaplain.specs.Lent.{WithinMut, lent_mut, HeldMut, Listed, Kept, room_in, StoresIn, ExecutesIn};
 ghost use Rattle.xaplain.specs.Moves.{Rising, Splits, Searchable, Placed, Closed, removed, seen, found_reply, remarking};
-ghost use Rattle.xaplain.specs.Moves.{Holds, Opened, Pulled, Cleared, Spliced, Columns, replaced, Counts};
+ghost use Rattle.xaplain.specs.Moves.{Opened, Pulled, Cleared, Spliced, replaced, Counts};
 ghost use Rattle.xaplain.specs.Moves.{low_of, Parts, any_from, kept_from, Begins};
 ghost use Rattle.xaplain.specs.Engine.{execute};
-ghost use Rattle.xaplain.specs.Executes.{Executes};
 ghost use Rattle.blocks.specs.Lists.{any};
-ghost use Rattle.xaplain.specs.Stores.{Larger, entry_with, Stores, turned_by, refused_by};
+ghost use Rattle.xaplain.specs.Stores.{Larger, entry_with, turned_by, refused_by};
 
 use answers::Answer;
 use batch::{Command, Reply};
@@ -42,6 +43,24 @@ const ANY_MARK: u64 = 3;
 // Mark 2, which no store hands on (R190), is worth this; marks 0 and 1 are below it.
 const MATCHED_BIT: u64 = 4;
 
+// The four slices, lent to read. The number of entries is not in it: `check` has none yet, and each command hands on another.
+#[derive(Clone, Copy)]
+pub struct Entries<'a> {
+    pub index: &'a [u64],
+    pub order: &'a [u64],
+    pub word: &'a [u64],
+    pub marks: &'a [u64],
+}
+
+// The four slices, lent to write.
+#[derive(Drop)]
+pub struct EntriesMut<'a> {
+    pub index: &'a mut [u64],
+    pub order: &'a mut [u64],
+    pub word: &'a mut [u64],
+    pub marks: &'a mut [u64],
+}
+
 // What a command comes to: its reply, and the number of entries after it.
 #[derive(Clone, Copy)]
 pub struct Turned {
@@ -63,48 +82,6 @@ pub fn position(index: &[u64], n: usize, i: u64) -> usize
     ensures { Splits index.now n i result }
 {
     index[..n].partition_point(|x| *x <= i)
-}
-
-// The number of the entry over i: the last that starts at i or before, if it reaches i.
-fn place(index: &[u64], order: &[u64], n: usize, i: u64) -> Option<usize>
-    requires { Searchable index.now order.now n }
-    ensures { Placed index.now order.now n i result }
-{
-    let k = position(index, n, i).checked_sub(1)?;
-    if (i - index[k]) >> order[k] == 0 {
-        Some(k)
-    } else {
-        None
-    }
-}
-
-fn entry_at(index: &[u64], order: &[u64], word: &[u64], marks: &[u64], k: usize) -> Entry
-    requires { (k < length index.now) × (k < length order.now) × (k < length word.now) × (k < length marks.now) }
-    ensures { result ≡ entry_at index.now order.now word.now marks.now k }
-{
-    Entry {
-        base: index[k],
-        order: order[k],
-        word: word[k],
-        marks: marks[k],
-    }
-}
-
-// What covers an index.
-pub fn covering(
-    index: &[u64],
-    order: &[u64],
-    word: &[u64],
-    marks: &[u64],
-    n: usize,
-    i: u64,
-) -> Option<Entry>
-    requires { Holds index.now order.now word.now marks.now n }
-    ensures { (h : Holds index.now order.now word.now marks.now n) →
-        result ≡ covered (covering h.list i) }
-{
-    let k = place(index, order, n, i)?;
-    Some(entry_at(index, order, word, marks, k))
 }
 
 // Moves the places from p to n - 1 one up. Place by place: slices have no copy_within here, and the library calls no memmove.
@@ -155,30 +132,6 @@ fn splice(xs: &mut [u64], p: usize, q: usize, n: usize, v: u64)
     xs[p] = v;
 }
 
-// One entry for those from p to q - 1, in all four slices.
-fn put(
-    index: &mut [u64],
-    order: &mut [u64],
-    word: &mut [u64],
-    marks: &mut [u64],
-    p: usize,
-    q: usize,
-    n: usize,
-    e: Entry,
-)
-    requires holds { Holds index.old order.old word.old marks.old n }
-    requires p_le_q { (p ≤ q) × (q ≤ n) }
-    requires q_in_bounds { p + 1 + (n - q) ≤ length index.old }
-    ensures { (h : Holds index.old order.old word.old marks.old n) →
-        Columns index.new order.new word.new marks.new (length index.old)
-        (replaced p q e h.list) }
-{
-    splice(index, p, q, n, e.base);
-    splice(order, p, q, n, e.order);
-    splice(word, p, q, n, e.word);
-    splice(marks, p, q, n, e.marks);
-}
-
 // How many words stand before the first 0.
 pub fn count(word: &[u64]) -> usize
     ensures { Counts word.now result }
@@ -218,84 +171,160 @@ fn rest_zero(xs: &[u64], a: usize) -> bool
     xs[a..].iter().all(|x| *x == 0)
 }
 
-// Whether the first n entries are a list.
-fn in_order(index: &[u64], order: &[u64], word: &[u64], marks: &[u64], n: usize) -> bool
-    requires order_len { (length order.now ≡ length index.now) × (length word.now ≡ length index.now) × (length marks.now ≡ length index.now) }
-    requires counts { Counts word.now n }
-    ensures { result ≡ in_order 0 (list_of index.now order.now word.now marks.now) }
-{
-    let mut last = None;
-    for k in 0..n {
-        let e = entry_at(index, order, word, marks, k);
-        if !follows(last, e.base) {
-            return false;
+impl<'a> Entries<'a> {
+    // The number of the entry over i: the last that starts at i or before, if it reaches i.
+    fn place(self, n: usize, i: u64) -> Option<usize>
+        requires { Searchable self.index.now self.order.now n }
+        ensures { Placed self.entry.index.now self.entry.order.now n i result }
+    {
+        let k = position(self.index, n, i).checked_sub(1)?;
+        if (i - self.index[k]) >> self.order[k] == 0 {
+            Some(k)
+        } else {
+            None
         }
-        if !fits(e) {
-            return false;
+    }
+
+    // The number of the entry over i, if its order is k or more.
+    fn larger(self, n: usize, i: u64, k: u64) -> Option<usize>
+        requires { Searchable self.index.now self.order.now n }
+        ensures { Larger self.entry.index.now self.entry.order.now n i k result }
+    {
+        let j = self.place(n, i)?;
+        if k <= self.order[j] { Some(j) } else { None }
+    }
+
+    fn entry_at(self, k: usize) -> Entry
+        requires { Within self k }
+        ensures { result ≡ entry_in self.entry k }
+    {
+        Entry {
+            base: self.index[k],
+            order: self.order[k],
+            word: self.word[k],
+            marks: self.marks[k],
         }
-        last = Some(e.base + ((1u64 << e.order) - 1));
     }
-    true
-}
 
-// Whether zeros stand in all four slices from a place on.
-fn all_zero(index: &[u64], order: &[u64], word: &[u64], marks: &[u64], n: usize) -> bool
-    requires order_len { (length order.now ≡ length index.now) × (length word.now ≡ length index.now) × (length marks.now ≡ length index.now) }
-    requires n_in_bounds { n ≤ length index.now }
-    ensures { result ≡ all_zero index.now order.now word.now marks.now n }
-{
-    rest_zero(index, n) && rest_zero(order, n) && rest_zero(word, n) && rest_zero(marks, n)
-}
-
-// Whether four slices of one length hold a list and then zeros.
-fn holds(index: &[u64], order: &[u64], word: &[u64], marks: &[u64]) -> bool
-    requires { (length order.now ≡ length index.now) × (length word.now ≡ length index.now) × (length marks.now ≡ length index.now) }
-    ensures { result ≡ holds_list index.now order.now word.now marks.now }
-{
-    let n = count(word);
-    in_order(index, order, word, marks, n) && all_zero(index, order, word, marks, n)
-}
-
-// Whether the slices are of one length, at most 4,096.
-fn sized(index: &[u64], order: &[u64], word: &[u64], marks: &[u64]) -> bool
-    ensures { result ≡ sized_as index.now order.now word.now marks.now }
-{
-    let room = index.len();
-    room <= MAX_ROOM && order.len() == room && word.len() == room && marks.len() == room
-}
-
-// Whether the slices hold a list: answers 0, 1 or 2.
-pub fn check(index: &[u64], order: &[u64], word: &[u64], marks: &[u64]) -> Result<(), Answer>
-    ensures { answer_of result ≡ check_answer (slices index.now order.now word.now marks.now) }
-{
-    if !sized(index, order, word, marks) {
-        return Err(Answer::PoolLength);
+    // What covers an index.
+    pub fn covering(self, n: usize, i: u64) -> Option<Entry>
+        requires { Held self n }
+        ensures { (h : Held self.entry n) → result ≡ covered (covering h.list i) }
+    {
+        let k = self.place(n, i)?;
+        Some(self.entry_at(k))
     }
-    if !holds(index, order, word, marks) {
-        return Err(Answer::NotWellFormed);
-    }
-    Ok(())
-}
 
-// Four slices of one length become those of the empty list: answers 0, or 1 with nothing written.
-pub fn init(
-    index: &mut [u64],
-    order: &mut [u64],
-    word: &mut [u64],
-    marks: &mut [u64],
-) -> Result<(), Answer>
-    ensures value { answer_of result ≡ init_answer (slices index.old order.old word.old marks.old) }
-    ensures marks_after { slices index.new order.new word.new marks.new
-        ≡ init_slices (slices index.old order.old word.old marks.old) }
-{
-    if !sized(index, order, word, marks) {
-        return Err(Answer::PoolLength);
+    /// The first entry in index order that a filter accepts and whose run meets a to z.
+    pub fn find(self, n: usize, a: u64, z: u64, f: u64) -> Option<Entry>
+        requires holds { Held self n }
+        requires f_bound { f < 64 }
+        ensures { (h : Held self.entry n) → result ≡ covered (first_match h.list a z f) }
+    {
+        for k in begin(self.index, n, a)..n {
+            let e = self.entry_at(k);
+            if z < e.base {
+                return None;
+            }
+            if accepts(f, e) && reaches(a, e) {
+                return Some(e);
+            }
+        }
+        None
     }
-    index.fill(0);
-    order.fill(0);
-    word.fill(0);
-    marks.fill(0);
-    Ok(())
+
+    // Whether the first n entries are a list.
+    fn in_order(self, n: usize) -> bool
+        requires order_len { Even self }
+        requires counts { Counts self.word.now n }
+        ensures { result ≡ in_order 0 (list_in (lent self.entry)) }
+    {
+        let mut last = None;
+        for k in 0..n {
+            let e = self.entry_at(k);
+            if !follows(last, e.base) {
+                return false;
+            }
+            if !fits(e) {
+                return false;
+            }
+            last = Some(e.base + ((1u64 << e.order) - 1));
+        }
+        true
+    }
+
+    // Whether zeros stand in all four slices from a place on.
+    fn all_zero(self, n: usize) -> bool
+        requires order_len { Even self }
+        requires n_in_bounds { n ≤ length self.index.now }
+        ensures { result ≡ all_zero self.entry.index.now self.entry.order.now self.entry.word.now self.entry.marks.now n }
+    {
+        rest_zero(self.index, n)
+            && rest_zero(self.order, n)
+            && rest_zero(self.word, n)
+            && rest_zero(self.marks, n)
+    }
+
+    // Whether four slices of one length hold a list and then zeros.
+    fn holds(self) -> bool
+        requires { Even self }
+        ensures { result ≡ holds_list self.entry.index.now self.entry.order.now self.entry.word.now self.entry.marks.now }
+    {
+        let n = count(self.word);
+        self.in_order(n) && self.all_zero(n)
+    }
+
+    // Whether the slices are of one length, at most 4,096.
+    fn is_sized(self) -> bool
+        ensures { result ≡ is_sized (lent self.entry) }
+    {
+        let room = self.index.len();
+        room <= MAX_ROOM
+            && self.order.len() == room
+            && self.word.len() == room
+            && self.marks.len() == room
+    }
+
+    // Whether the slices hold a list: answers 0, 1 or 2.
+    pub fn check(self) -> Result<(), Answer>
+        ensures { answer_of result ≡ check_answer (lent self.entry) }
+    {
+        if !self.is_sized() {
+            return Err(Answer::PoolLength);
+        }
+        if self.holds() {
+            Ok(())
+        } else {
+            Err(Answer::NotWellFormed)
+        }
+    }
+
+    fn run_load(self, n: usize, i: u64) -> Reply
+        requires { Held self n }
+        ensures { (h : Held self.entry n) →
+            result ≡ (execute (length self.entry.index.now) h.list (Command.Load i)).reply }
+    {
+        let c = seen(self.covering(n, i));
+        covered_reply(LOAD_REPLY, c)
+    }
+
+    // A find never pauses; all its budget does is not to be 0 (R305).
+    fn run_find(self, n: usize, s: Sought) -> Reply
+        requires { Held self n }
+        ensures { (h : Held self.entry n) →
+            result ≡ (execute (length self.entry.index.now) h.list (Command.Find s.first s.last s.filter s.budget)).reply }
+    {
+        if s.filter > ANY_MARK {
+            return answered(FIND_REPLY, Answer::BadMark, 0, 0);
+        }
+        if s.first > s.last {
+            return answered(FIND_REPLY, Answer::FirstAboveLast, 0, 0);
+        }
+        if s.budget == 0 {
+            return answered(FIND_REPLY, Answer::NoBudget, 0, 0);
+        }
+        found_reply(self.find(n, s.first, s.last, s.filter))
+    }
 }
 
 // How many of the first n entries start below i.
@@ -324,100 +353,6 @@ fn kept(marks: &[u64], p: usize, q: usize) -> u64
     u64::from(any_mark(marks, p, q, 0)) + 2 * u64::from(any_mark(marks, p, q, 1))
 }
 
-// A store that replaces what starts in its range, where no entry over i has its order or more.
-fn store_new(
-    index: &mut [u64],
-    order: &mut [u64],
-    word: &mut [u64],
-    marks: &mut [u64],
-    n: usize,
-    i: u64,
-    k: u64,
-    w: u64,
-) -> Option<Stored>
-    requires holds { Holds index.old order.old word.old marks.old n }
-    requires k_le_max_order { (k ≤ max_order) × (aligned k i ≡ true) }
-    requires list_value { (h : Holds index.old order.old word.old marks.old n) → any (over i k) h.list ≡ false }
-    ensures { (h : Holds index.old order.old word.old marks.old n) →
-        Stores h i (store_new h.list i k w) result index.new order.new word.new marks.new }
-{
-    let p = starts_below(index, n, i);
-    let last = i + ((1u64 << k) - 1);
-    let q = position(index, n, last);
-    let count = p + 1 + (n - q);
-    if index.len() < count {
-        return None;
-    }
-    let entry = Entry {
-        base: i,
-        order: k,
-        word: w,
-        marks: kept(marks, p, q),
-    };
-    put(index, order, word, marks, p, q, n, entry);
-    Some(Stored { entry, count })
-}
-
-// The number of the entry over i, if its order is k or more.
-fn larger(index: &[u64], order: &[u64], n: usize, i: u64, k: u64) -> Option<usize>
-    requires { Searchable index.now order.now n }
-    ensures { Larger index.now order.now n i k result }
-{
-    let j = place(index, order, n, i)?;
-    if k <= order[j] { Some(j) } else { None }
-}
-
-// The entry at place j takes a word, and loses mark 2 (R190).
-fn store_over(
-    index: &[u64],
-    order: &[u64],
-    word: &mut [u64],
-    marks: &mut [u64],
-    j: usize,
-    w: u64,
-) -> Entry
-    requires j_in_bounds { (j < length index.now) × (j < length order.now) × (j < length word.old) × (j < length marks.old) }
-    requires j_bound { get_or marks.old j 0 < 8 }
-    ensures value { result ≡ entry_with index.now order.now marks.old j w }
-    ensures word_after { word.new ≡ set word.old j w }
-    ensures marks_after { marks.new ≡ set marks.old j (set_bit matched_mark false (get_or marks.old j 0)) }
-{
-    let m = marks[j] % MATCHED_BIT;
-    word[j] = w;
-    marks[j] = m;
-    Entry {
-        base: index[j],
-        order: order[j],
-        word: w,
-        marks: m,
-    }
-}
-
-// A store: into the larger entry over i if there is one, else in place of what starts in its range.
-fn store(
-    index: &mut [u64],
-    order: &mut [u64],
-    word: &mut [u64],
-    marks: &mut [u64],
-    n: usize,
-    i: u64,
-    k: u64,
-    w: u64,
-) -> Option<Stored>
-    requires holds { Holds index.old order.old word.old marks.old n }
-    requires k_le_max_order { (k ≤ max_order) × (aligned k i ≡ true) }
-    ensures { (h : Holds index.old order.old word.old marks.old n) →
-        Stores h i (store h.list i k w) result index.new order.new word.new marks.new }
-{
-    match larger(index, order, n, i, k) {
-        Some(j) => {
-            let entry = store_over(index, order, word, marks, j, w);
-            Some(Stored { entry, count: n })
-        }
-        None => store_new(index, order, word, marks, n, i, k, w),
-    }
-}
-
 // A command that is refused: the entries stay.
 fn refused(tag: u64, answer: Answer, n: usize) -> Turned
     ensures { result ≡ refused_by tag (number_of answer) n }
@@ -438,56 +373,6 @@ fn stored_turn(tag: u64, n: usize, s: Option<Stored>) -> Turned
             reply: answered_by(tag, s.entry, 0),
             count: s.count,
         },
-    }
-}
-
-// The tests in the order of their numbers, but for 14, between 5 and 6 (R81, R181).
-pub fn run_store(
-    index: &mut [u64],
-    order: &mut [u64],
-    word: &mut [u64],
-    marks: &mut [u64],
-    n: usize,
-    i: u64,
-    k: u64,
-    w: u64,
-) -> Turned
-    requires { Holds index.old order.old word.old marks.old n }
-    ensures { (h : Holds index.old order.old word.old marks.old n) →
-        Executes h (Command.Store i k w) result index.new order.new word.new marks.new }
-{
-    if k > MAX_ORDER {
-        return refused(STORE_REPLY, Answer::BadOrder, n);
-    }
-    if !is_aligned(i, k) {
-        return refused(STORE_REPLY, Answer::NotAligned, n);
-    }
-    if !is_storable(w) {
-        return refused(STORE_REPLY, Answer::BadEntry, n);
-    }
-    let s = store(index, order, word, marks, n, i, k, w);
-    stored_turn(STORE_REPLY, n, s)
-}
-
-// A reservation is a store of order 0 where nothing covers the index (R204 to R206).
-pub fn run_reserve(
-    index: &mut [u64],
-    order: &mut [u64],
-    word: &mut [u64],
-    marks: &mut [u64],
-    n: usize,
-    i: u64,
-) -> Turned
-    requires { Holds index.old order.old word.old marks.old n }
-    ensures { (h : Holds index.old order.old word.old marks.old n) →
-        Executes h (Command.Reserve i) result index.new order.new word.new marks.new }
-{
-    match covering(index, order, word, marks, n, i) {
-        None => {
-            let s = store(index, order, word, marks, n, i, 0, RESERVED);
-            stored_turn(RESERVE_REPLY, n, s)
-        }
-        Some(_) => refused(RESERVE_REPLY, Answer::Covered, n),
     }
 }
 
@@ -523,34 +408,6 @@ fn begin(index: &[u64], n: usize, a: u64) -> usize
     position(index, n, a).saturating_sub(1)
 }
 
-/// The first entry in index order that a filter accepts and whose run meets a to z.
-pub fn find(
-    index: &[u64],
-    order: &[u64],
-    word: &[u64],
-    marks: &[u64],
-    n: usize,
-    a: u64,
-    z: u64,
-    f: u64,
-) -> Option<Entry>
-    requires holds { Holds index.now order.now word.now marks.now n }
-    requires f_bound { f < 64 }
-    ensures { (h : Holds index.now order.now word.now marks.now n) →
-        result ≡ covered (first_match h.list a z f) }
-{
-    for k in begin(index, n, a)..n {
-        let e = entry_at(index, order, word, marks, k);
-        if z < e.base {
-            return None;
-        }
-        if accepts(f, e) && reaches(a, e) {
-            return Some(e);
-        }
-    }
-    None
-}
-
 // COMMANDS
 
 // What a find asks.
@@ -569,15 +426,6 @@ fn seen(c: Option<Entry>) -> Option<Entry>
     c.filter(|e| !is_reserved(*e))
 }
 
-fn run_load(index: &[u64], order: &[u64], word: &[u64], marks: &[u64], n: usize, i: u64) -> Reply
-    requires { Holds index.now order.now word.now marks.now n }
-    ensures { (h : Holds index.now order.now word.now marks.now n) →
-        result ≡ (execute (length index.now) h.list (Command.Load i)).reply }
-{
-    let c = seen(covering(index, order, word, marks, n, i));
-    covered_reply(LOAD_REPLY, c)
-}
-
 fn found_reply(c: Option<Entry>) -> Reply
     ensures { result ≡ found_reply c }
 {
@@ -585,24 +433,6 @@ fn found_reply(c: Option<Entry>) -> Reply
         None => answered(FIND_REPLY, Answer::Ended, 0, 0),
         Some(e) => answered_by(FIND_REPLY, e, 0),
     }
-}
-
-// A find never pauses; all its budget does is not to be 0 (R305).
-fn run_find(index: &[u64], order: &[u64], word: &[u64], marks: &[u64], n: usize, s: Sought) -> Reply
-    requires { Holds index.now order.now word.now marks.now n }
-    ensures { (h : Holds index.now order.now word.now marks.now n) →
-        result ≡ (execute (length index.now) h.list (Command.Find s.first s.last s.filter s.budget)).reply }
-{
-    if s.filter > ANY_MARK {
-        return answered(FIND_REPLY, Answer::BadMark, 0, 0);
-    }
-    if s.first > s.last {
-        return answered(FIND_REPLY, Answer::FirstAboveLast, 0, 0);
-    }
-    if s.budget == 0 {
-        return answered(FIND_REPLY, Answer::NoBudget, 0, 0);
-    }
-    found_reply(find(index, order, word, marks, n, s.first, s.last, s.filter))
 }
 
 // Takes place k out of n.
@@ -614,133 +444,241 @@ fn close(xs: &mut [u64], k: usize, n: usize)
     clear(xs, n - 1, n);
 }
 
-// Takes entry k out, in all four slices.
-fn take_out(
-    index: &mut [u64],
-    order: &mut [u64],
-    word: &mut [u64],
-    marks: &mut [u64],
-    k: usize,
-    n: usize,
-)
-    requires holds { Holds index.old order.old word.old marks.old n }
-    requires k_lt_n { k < n }
-    ensures { (h : Holds index.old order.old word.old marks.old n) →
-        Columns index.new order.new word.new marks.new (length index.old)
-        (removed k h.list) }
-{
-    close(index, k, n);
-    close(order, k, n);
-    close(word, k, n);
-    close(marks, k, n);
-}
+impl<'a> EntriesMut<'a> {
+    // The same slices, to read.
+    fn lent(&self) -> Entries
+        ensures { Shown result self.now }
+    {
+        Entries {
+            index: &*self.index,
+            order: &*self.order,
+            word: &*self.word,
+            marks: &*self.marks,
+        }
+    }
 
-fn run_erase(
-    index: &mut [u64],
-    order: &mut [u64],
-    word: &mut [u64],
-    marks: &mut [u64],
-    n: usize,
-    i: u64,
-) -> Turned
-    requires { Holds index.old order.old word.old marks.old n }
-    ensures { (h : Holds index.old order.old word.old marks.old n) →
-        Executes h (Command.Erase i) result index.new order.new word.new marks.new }
-{
-    let Some(k) = place(index, order, n, i) else {
-        return refused(ERASE_REPLY, Answer::Absent, n);
-    };
-    let e = entry_at(index, order, word, marks, k);
-    take_out(index, order, word, marks, k, n);
-    Turned {
-        reply: answered_by(ERASE_REPLY, e, 0),
-        count: n - 1,
+    // Four slices of one length become those of the empty list: answers 0, or 1 with nothing written.
+    pub fn init(&mut self) -> Result<(), Answer>
+        ensures value { answer_of result ≡ init_answer (lent_mut self.old) }
+        ensures marks_after { lent_mut self.new ≡ init_slices (lent_mut self.old) }
+        ensures kept { Kept self.old self.new }
+    {
+        if !self.lent().is_sized() {
+            return Err(Answer::PoolLength);
+        }
+        self.index.fill(0);
+        self.order.fill(0);
+        self.word.fill(0);
+        self.marks.fill(0);
+        Ok(())
     }
-}
 
-// A mark where the bit is on, an unmark where it is off: one word changes.
-fn run_remark(
-    index: &[u64],
-    order: &[u64],
-    word: &[u64],
-    marks: &mut [u64],
-    n: usize,
-    i: u64,
-    m: u64,
-    on: bool,
-) -> Turned
-    requires { Holds index.now order.now word.now marks.old n }
-    ensures { (h : Holds index.now order.now word.now marks.old n) →
-        Executes h (remarking i m on) result index.now order.now word.now marks.new }
-{
-    let tag = remarked_tag(on);
-    if m >= MARKS {
-        return refused(tag, Answer::BadMark, n);
+    // One entry for those from p to q - 1, in all four slices.
+    fn put(&mut self, p: usize, q: usize, n: usize, e: Entry)
+        requires holds { HeldMut self.old n }
+        requires p_le_q { (p ≤ q) × (q ≤ n) }
+        requires q_in_bounds { p + 1 + (n - q) ≤ length self.old.index.now }
+        ensures list_after { (h : HeldMut self.old n) → Listed self.new (room_in self.old) (replaced p q e h.list) }
+        ensures kept { Kept self.old self.new }
+    {
+        splice(self.index, p, q, n, e.base);
+        splice(self.order, p, q, n, e.order);
+        splice(self.word, p, q, n, e.word);
+        splice(self.marks, p, q, n, e.marks);
     }
-    let Some(k) = place(index, order, n, i) else {
-        return refused(tag, Answer::Absent, n);
-    };
-    let e = entry_at(index, order, word, marks, k);
-    if is_reserved(e) {
-        return refused(tag, Answer::Absent, n);
-    }
-    let x = with_bit(e.marks, m, on);
-    marks[k] = x;
-    Turned {
-        reply: answered_by(tag, Entry { marks: x, ..e }, 0),
-        count: n,
-    }
-}
 
-// One command: its reply, and the number of entries after it.
-pub fn execute(
-    index: &mut [u64],
-    order: &mut [u64],
-    word: &mut [u64],
-    marks: &mut [u64],
-    n: usize,
-    c: Command,
-) -> Turned
-    requires { Holds index.old order.old word.old marks.old n }
-    ensures { (h : Holds index.old order.old word.old marks.old n) →
-        Executes h c result index.new order.new word.new marks.new }
-{
-    match c {
-        Command::Store {
-            index: i,
+    // A store that replaces what starts in its range, where no entry over i has its order or more.
+    fn store_new(&mut self, n: usize, i: u64, k: u64, w: u64) -> Option<Stored>
+        requires holds { HeldMut self.old n }
+        requires k_le_max_order { (k ≤ max_order) × (aligned k i ≡ true) }
+        requires list_value { (h : HeldMut self.old n) → any (over i k) h.list ≡ false }
+        ensures stores { (h : HeldMut self.old n) → StoresIn h i (store_new h.list i k w) result self.new }
+        ensures kept { Kept self.old self.new }
+    {
+        let s = self.lent();
+        let p = starts_below(s.index, n, i);
+        let last = i + ((1u64 << k) - 1);
+        let q = position(s.index, n, last);
+        let count = p + 1 + (n - q);
+        if s.index.len() < count {
+            return None;
+        }
+        let entry = Entry {
+            base: i,
             order: k,
             word: w,
-        } => run_store(index, order, word, marks, n, i, k, w),
-        Command::Load { index: i } => Turned {
-            reply: run_load(index, order, word, marks, n, i),
+            marks: kept(s.marks, p, q),
+        };
+        self.put(p, q, n, entry);
+        Some(Stored { entry, count })
+    }
+
+    // The entry at place j takes a word, and loses mark 2 (R190).
+    fn store_over(&mut self, j: usize, w: u64) -> Entry
+        requires j_in_bounds { WithinMut self.old j }
+        requires j_bound { get_or self.old.marks.now j 0 < 8 }
+        ensures value { result ≡ entry_with self.old.index.now self.old.order.now self.old.marks.now j w }
+        ensures others { (self.new.index.now ≡ self.old.index.now) × (self.new.order.now ≡ self.old.order.now) }
+        ensures word_after { self.new.word.now ≡ set self.old.word.now j w }
+        ensures marks_after { self.new.marks.now ≡ set self.old.marks.now j (set_bit matched_mark false (get_or self.old.marks.now j 0)) }
+        ensures kept { Kept self.old self.new }
+    {
+        let m = self.marks[j] % MATCHED_BIT;
+        self.word[j] = w;
+        self.marks[j] = m;
+        Entry {
+            base: self.index[j],
+            order: self.order[j],
+            word: w,
+            marks: m,
+        }
+    }
+
+    // A store: into the larger entry over i if there is one, else in place of what starts in its range.
+    fn store(&mut self, n: usize, i: u64, k: u64, w: u64) -> Option<Stored>
+        requires holds { HeldMut self.old n }
+        requires k_le_max_order { (k ≤ max_order) × (aligned k i ≡ true) }
+        ensures stores { (h : HeldMut self.old n) → StoresIn h i (store h.list i k w) result self.new }
+        ensures kept { Kept self.old self.new }
+    {
+        match self.lent().larger(n, i, k) {
+            Some(j) => {
+                let entry = self.store_over(j, w);
+                Some(Stored { entry, count: n })
+            }
+            None => self.store_new(n, i, k, w),
+        }
+    }
+
+    // The tests in the order of their numbers, but for 14, between 5 and 6 (R81, R181).
+    fn run_store(&mut self, n: usize, i: u64, k: u64, w: u64) -> Turned
+        requires { HeldMut self.old n }
+        ensures executes { (h : HeldMut self.old n) → ExecutesIn h (Command.Store i k w) result self.new }
+        ensures kept { Kept self.old self.new }
+    {
+        if k > MAX_ORDER {
+            return refused(STORE_REPLY, Answer::BadOrder, n);
+        }
+        if !is_aligned(i, k) {
+            return refused(STORE_REPLY, Answer::NotAligned, n);
+        }
+        if !is_storable(w) {
+            return refused(STORE_REPLY, Answer::BadEntry, n);
+        }
+        let s = self.store(n, i, k, w);
+        stored_turn(STORE_REPLY, n, s)
+    }
+
+    // A reservation is a store of order 0 where nothing covers the index (R204 to R206).
+    fn run_reserve(&mut self, n: usize, i: u64) -> Turned
+        requires { HeldMut self.old n }
+        ensures executes { (h : HeldMut self.old n) → ExecutesIn h (Command.Reserve i) result self.new }
+        ensures kept { Kept self.old self.new }
+    {
+        match self.lent().covering(n, i) {
+            None => {
+                let s = self.store(n, i, 0, RESERVED);
+                stored_turn(RESERVE_REPLY, n, s)
+            }
+            Some(_) => refused(RESERVE_REPLY, Answer::Covered, n),
+        }
+    }
+
+    // Takes entry k out, in all four slices.
+    fn take_out(&mut self, k: usize, n: usize)
+        requires holds { HeldMut self.old n }
+        requires k_lt_n { k < n }
+        ensures list_after { (h : HeldMut self.old n) → Listed self.new (room_in self.old) (removed k h.list) }
+        ensures kept { Kept self.old self.new }
+    {
+        close(self.index, k, n);
+        close(self.order, k, n);
+        close(self.word, k, n);
+        close(self.marks, k, n);
+    }
+
+    fn run_erase(&mut self, n: usize, i: u64) -> Turned
+        requires { HeldMut self.old n }
+        ensures executes { (h : HeldMut self.old n) → ExecutesIn h (Command.Erase i) result self.new }
+        ensures kept { Kept self.old self.new }
+    {
+        let s = self.lent();
+        let Some(k) = s.place(n, i) else {
+            return refused(ERASE_REPLY, Answer::Absent, n);
+        };
+        let e = s.entry_at(k);
+        self.take_out(k, n);
+        Turned {
+            reply: answered_by(ERASE_REPLY, e, 0),
+            count: n - 1,
+        }
+    }
+
+    // A mark where the bit is on, an unmark where it is off: one word changes.
+    fn run_remark(&mut self, n: usize, i: u64, m: u64, on: bool) -> Turned
+        requires { HeldMut self.old n }
+        ensures executes { (h : HeldMut self.old n) → ExecutesIn h (remarking i m on) result self.new }
+        ensures kept { Kept self.old self.new }
+    {
+        let tag = remarked_tag(on);
+        if m >= MARKS {
+            return refused(tag, Answer::BadMark, n);
+        }
+        let s = self.lent();
+        let Some(k) = s.place(n, i) else {
+            return refused(tag, Answer::Absent, n);
+        };
+        let e = s.entry_at(k);
+        if is_reserved(e) {
+            return refused(tag, Answer::Absent, n);
+        }
+        let x = with_bit(e.marks, m, on);
+        self.marks[k] = x;
+        Turned {
+            reply: answered_by(tag, Entry { marks: x, ..e }, 0),
             count: n,
-        },
-        Command::Erase { index: i } => run_erase(index, order, word, marks, n, i),
-        Command::Mark { index: i, mark: m } => run_remark(index, order, word, marks, n, i, m, true),
-        Command::Unmark { index: i, mark: m } => run_remark(
-            index, order, word, marks, n, i, m, false,
-        ),
-        Command::Find {
-            first,
-            last,
-            filter,
-            budget,
-        } => Turned {
-            reply: run_find(
-                index,
-                order,
-                word,
-                marks,
-                n,
-                Sought {
-                    first,
-                    last,
-                    filter,
-                    budget,
-                },
-            ),
-            count: n,
-        },
-        Command::Reserve { index: i } => run_reserve(index, order, word, marks, n, i),
+        }
+    }
+
+    // One command: its reply, and the number of entries after it. A function of its own: in the loop over a batch, a find takes one
+    // instruction an entry more.
+    #[inline(never)]
+    pub fn execute(&mut self, n: usize, c: Command) -> Turned
+        requires { HeldMut self.old n }
+        ensures executes { (h : HeldMut self.old n) → ExecutesIn h c result self.new }
+        ensures kept { Kept self.old self.new }
+    {
+        match c {
+            Command::Store {
+                index: i,
+                order: k,
+                word: w,
+            } => self.run_store(n, i, k, w),
+            Command::Load { index: i } => Turned {
+                reply: self.lent().run_load(n, i),
+                count: n,
+            },
+            Command::Erase { index: i } => self.run_erase(n, i),
+            Command::Mark { index: i, mark: m } => self.run_remark(n, i, m, true),
+            Command::Unmark { index: i, mark: m } => self.run_remark(n, i, m, false),
+            Command::Find {
+                first,
+                last,
+                filter,
+                budget,
+            } => Turned {
+                reply: self.lent().run_find(
+                    n,
+                    Sought {
+                        first,
+                        last,
+                        filter,
+                        budget,
+                    },
+                ),
+                count: n,
+            },
+            Command::Reserve { index: i } => self.run_reserve(n, i),
+        }
     }
 }
