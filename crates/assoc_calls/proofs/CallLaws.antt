@@ -14,8 +14,7 @@ use Rattle.assoc_tree.specs.Keys.{Item, find, key_number, max_key}
 use Rattle.assoc_layout.specs.Decode.{block_count, list_of, is_sized, is_well_formed}
 use Rattle.assoc_layout.specs.WellFormed.{WellFormed}
 use Rattle.assoc_local.proofs.ExactLaws.{is_well_formed_lem}
-use Rattle.assoc_lookup.specs.declared.Looked.{Looked}
-use Rattle.assoc_lookup.specs.declared.Looked.TheVariants.{Absent, Present}
+use Rattle.std.specs.Prelude.{Option as Read, None, Some}
 use Rattle.assoc_lookup.specs.Lookup.{looked_for}
 use Rattle.assoc_check.specs.Answers.{check_answer}
 use Rattle.assoc_check.proofs.NamedLaws.{is_sized_lem}
@@ -50,18 +49,18 @@ module _ (ws bs : List ℕ) where
       found : (o : Option Item) → find (key_number bs) sound.list ≡ o → found_of o ≡ lookup ws bs
       found o e = rw (ok, le-leb 1 (length bs) lo, le-leb (length bs) max_key hi, ← list_is, e)
 
-      pub is_absent : {r : Looked} → r ≡ looked_for (find (key_number bs) sound.list) → r ≡ Absent → result_of absent 0 ≡ lookup ws bs
+      pub is_absent : {r : Read ℕ} → r ≡ looked_for (find (key_number bs) sound.list) → r ≡ None → result_of absent 0 ≡ lookup ws bs
       is_absent e q = go (find (key_number bs) sound.list) refl (sym e ∙ q)
         where
-          go : (o : Option Item) → find (key_number bs) sound.list ≡ o → looked_for (find (key_number bs) sound.list) ≡ Absent →
+          go : (o : Option Item) → find (key_number bs) sound.list ≡ o → looked_for (find (key_number bs) sound.list) ≡ None →
               result_of absent 0 ≡ lookup ws bs
           go none f d = found none f
           go (some x) f d = let z : ◌≡◌ {A = ℕ} 0 1 = cc f in absurd (omega arith)
 
-      pub is_present : {r : Looked} (w : ℕ) → r ≡ looked_for (find (key_number bs) sound.list) → r ≡ Present w → result_of done w ≡ lookup ws bs
+      pub is_present : {r : Read ℕ} (w : ℕ) → r ≡ looked_for (find (key_number bs) sound.list) → r ≡ Some w → result_of done w ≡ lookup ws bs
       is_present w e q = go (find (key_number bs) sound.list) refl (sym e ∙ q)
         where
-          go : (o : Option Item) → find (key_number bs) sound.list ≡ o → looked_for (find (key_number bs) sound.list) ≡ Present w →
+          go : (o : Option Item) → find (key_number bs) sound.list ≡ o → looked_for (find (key_number bs) sound.list) ≡ Some w →
               result_of done w ≡ lookup ws bs
           go none f d = let z : ◌≡◌ {A = ℕ} 0 1 = cc f in absurd (omega arith)
           go (some x) f d = let p : x.object ≡ w = cc f in ap (result_of done) (sym p) ∙ found (some x) f

@@ -4,67 +4,40 @@
 #![tactic(auto)]
 
 ghost use Rattle.std.specs.Prelude.{◌≡◌};
-ghost use Rattle.answers.specs.Answers.{result_of};
+ghost use Rattle.answers.specs.Answers.{result_of, report_of};
 ghost use Rattle.assoc_check.specs.Answers.{check_answer, clear_answer, clear_words};
 ghost use Rattle.assoc_calls.specs.Calls.{lookup};
 
-use answers::{ABSENT, BAD_KEY, DONE, Result};
-use assoc_lookup::{Looked, look_bytes};
+use answers::{Answer, Refusal};
+use assoc_lookup::look_bytes;
 
 const MAX_KEY: usize = 32;
 
 // Blanks the pool.
-pub fn clear(pool: &mut [u64]) -> Result
-    ensures r_value { result ≡ result_of (clear_answer pool.old) 0 }
+pub fn clear(pool: &mut [u64]) -> Result<u64, Refusal>
+    ensures r_value { report_of result ≡ result_of (clear_answer pool.old) 0 }
     ensures pool_after { pool.new ≡ clear_words pool.old }
 {
-    Result {
-        answer: assoc_check::clear(pool),
-        number: 0,
-    }
+    assoc_check::clear(pool)?;
+    Ok(0)
 }
 
 // Whether the words are well-formed.
-pub fn check(pool: &[u64]) -> Result
-    ensures { result ≡ result_of (check_answer pool.now) 0 }
+pub fn check(pool: &[u64]) -> Result<u64, Refusal>
+    ensures { report_of result ≡ result_of (check_answer pool.now) 0 }
 {
-    Result {
-        answer: assoc_check::check(pool),
-        number: 0,
-    }
+    assoc_check::check(pool)?;
+    Ok(0)
 }
 
 // The object of a key.
-pub fn lookup(pool: &[u64], key: &[u8]) -> Result
-    ensures { result ≡ lookup pool.now key.now }
+pub fn lookup(pool: &[u64], key: &[u8]) -> Result<u64, Refusal>
+    ensures { report_of result ≡ lookup pool.now key.now }
 {
-    let a = assoc_check::check(pool);
-    if a != DONE {
-        return Result {
-            answer: a,
-            number: 0,
-        };
+    assoc_check::check(pool)?;
+    if key.is_empty() || MAX_KEY < key.len() {
+        return Err(Refusal::from(Answer::BadKey));
     }
-    if key.len() < 1 {
-        return Result {
-            answer: BAD_KEY,
-            number: 0,
-        };
-    }
-    if MAX_KEY < key.len() {
-        return Result {
-            answer: BAD_KEY,
-            number: 0,
-        };
-    }
-    match look_bytes(pool, key) {
-        Looked::Absent => Result {
-            answer: ABSENT,
-            number: 0,
-        },
-        Looked::Present(w) => Result {
-            answer: DONE,
-            number: w,
-        },
-    }
+    let w = look_bytes(pool, key).ok_or(Answer::Absent)?;
+    Ok(w)
 }

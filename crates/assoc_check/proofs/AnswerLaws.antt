@@ -14,10 +14,12 @@ use Rattle.freemap.specs.FreeMap.{MapOf}
 use Rattle.freemap.proofs.BitOneLaws.{bit_zero}
 use Rattle.assoc_keys.specs.Number.{Words}
 use Rattle.assoc_layout.specs.Words.{pool_words}
-use Rattle.assoc_layout.specs.Decode.{block_count, is_well_formed}
+use Rattle.assoc_layout.specs.Decode.{block_count, is_sized, is_well_formed}
 use Rattle.assoc_local.specs.Local.{PoolOk}
 use Rattle.assoc_local.proofs.ExactLaws.{check_yes, check_no}
-use Rattle.assoc_check.specs.Checking.{Counts, Sized, free_to}
+use Rattle.std.specs.Prelude.{Option, Some, None}
+use Rattle.assoc_check.specs.Checking.{Counts, Room, Sized, free_to}
+use Rattle.assoc_check.proofs.NamedLaws.{is_sized_lem}
 use Rattle.assoc_check.specs.Seen.{SetOf, seen_words}
 use Rattle.assoc_check.specs.Answers.{check_answer, clear_answer, empty_pool, clear_words}
 
@@ -34,30 +36,33 @@ none_seen =
       bits = λ x h. bit_zero _ (x % word_bits) (zero_words seen_words (x / word_bits));
     }
 
-module _ (ws : List ℕ) (r : ℕ) (c : Counts ws r) where
-  pub answer_size : r ≡ 0 → 1 ≡ check_answer ws
-  answer_size z = rw (c.no_pool z)
+-- the number of blocks, and that there is none
+abbrev pub counted : (ws : List ℕ) {r : Option ℕ} {n : ℕ} → Counts ws r → r ≡ Some n → Room ws n
+counted ws c e = let C : Option ℕ → Type 0 = Counts ws in subst C e c
 
-  module _ (ne : r ≡ 0 → ⊥) where
-    pub at_least : 1 ≤ r
-    at_least = omega arith
+abbrev pub uncounted : (ws : List ℕ) {r : Option ℕ} → Counts ws r → r ≡ None → is_sized ws ≡ false
+uncounted ws c e = let C : Option ℕ → Type 0 = Counts ws in subst C e c
 
-    is_count : r ≡ block_count ws
-    is_count = c.count ne
+pub answer_size : (ws : List ℕ) → is_sized ws ≡ false → 1 ≡ check_answer ws
+answer_size ws f = rw f
 
-    pub answer_no : Words ws → (PoolOk ws r → ⊥) → 2 ≡ check_answer ws
-    answer_no fit f =
-        let w : is_well_formed (block_count ws) ws ≡ false = is_false (λ t. f (check_no r ws fit at_least (c.sized ne).few
-        (subst (λ (k : ℕ). is_well_formed k ws ≡ true) (sym is_count) t))) in
-        rw (c.is-pool ne, w)
+module _ (ws : List ℕ) (r : ℕ) (c : Room ws r) where
+  pub at_least : 1 ≤ r
+  at_least = let (e, lo, hi) = is_sized_lem ws c.is-pool in omega (arith, c.count)
 
-    pub answer_yes : PoolOk ws r → 0 ≡ check_answer ws
-    answer_yes o =
-        let w : is_well_formed (block_count ws) ws ≡ true = subst (λ (k : ℕ). is_well_formed k ws ≡ true) is_count (check_yes r ws o) in
-        rw (c.is-pool ne, w)
+  pub answer_no : Words ws → (PoolOk ws r → ⊥) → 2 ≡ check_answer ws
+  answer_no fit f =
+      let w : is_well_formed (block_count ws) ws ≡ false = is_false (λ t. f (check_no r ws fit at_least c.sized.few
+      (subst (λ (k : ℕ). is_well_formed k ws ≡ true) (sym c.count) t))) in
+      rw (c.is-pool, w)
 
-    pub map_count_lem : {ms : List ℕ} → MapOf (free_to ws r) ms → MapOf (free_to ws (block_count ws)) ms
-    map_count_lem {ms} M = subst (λ (k : ℕ). MapOf (free_to ws k) ms) is_count M
+  pub answer_yes : PoolOk ws r → 0 ≡ check_answer ws
+  answer_yes o =
+      let w : is_well_formed (block_count ws) ws ≡ true = subst (λ (k : ℕ). is_well_formed k ws ≡ true) c.count (check_yes r ws o) in
+      rw (c.is-pool, w)
+
+  pub map_count_lem : {ms : List ℕ} → MapOf (free_to ws r) ms → MapOf (free_to ws (block_count ws)) ms
+  map_count_lem {ms} M = subst (λ (k : ℕ). MapOf (free_to ws k) ms) c.count M
 
 -- CLEAR
 empty_length : (n : ℕ) → length (empty_pool n) ≡ pool_words n
@@ -82,10 +87,10 @@ emptied {n} {ws} s =
         get_or-set_other zeros 0 (suc i) n 0 (λ (e : suc i ≡ 0). omega arith)
         ∙ filled_in_lem ws 0 0 (length ws) (suc i) (omega arith) (omega arith) (omega (arith, s.size)) ∙ sym (empty_word n i lt)
 
-pub clear_done : (ws : List ℕ) (r : ℕ) → Counts ws r → (r ≡ 0 → ⊥) →
+pub clear_done : (ws : List ℕ) (r : ℕ) → Room ws r →
     (0 ≡ clear_answer ws) × (set (filled ws 0 0 (length ws)) 0 r ≡ clear_words ws)
-clear_done ws r c ne =
-    (rw (c.is-pool ne), emptied (c.sized ne) ∙ ap empty_pool (c.count ne) ∙ (rw (c.is-pool ne)))
+clear_done ws r c =
+    (rw c.is-pool, emptied c.sized ∙ ap empty_pool c.count ∙ (rw c.is-pool))
 
-pub clear_refused : (ws : List ℕ) (r : ℕ) → Counts ws r → r ≡ 0 → (1 ≡ clear_answer ws) × (ws ≡ clear_words ws)
-clear_refused ws r c z = (rw (c.no_pool z), rw (c.no_pool z))
+pub clear_refused : (ws : List ℕ) → is_sized ws ≡ false → (1 ≡ clear_answer ws) × (ws ≡ clear_words ws)
+clear_refused ws f = (rw f, rw f)

@@ -6,13 +6,17 @@ use mathlib.Core.List.{List}
 use native.Mathlib.Omega.{arith}
 use lib.Dec.{eqb, ltb, leb}
 use lib.ListN.{length, get_or}
+use Rattle.std.specs.Prelude.{Option, Some, None}
+use Rattle.std.proofs.Common.{◌-◌, ◌*◌, ◌/◌, subst, lit<}
+use Rattle.std.proofs.Math.Nat.{mul-div_cancel_left}
+use Rattle.words.specs.Counted.{Counted}
 use borrow.Author.Tests.{eqb-true, eqb-false, eq-eqb, ltb-true, lt-ltb, leb-true, le-leb}
 use Rattle.blocks.specs.Choice.{both, either}
 use Rattle.blocks.specs.Deciding.{Decides}
 use Rattle.blocks.proofs.BoolLaws.{by_t, clash, is_false, both_i, both_l, both_r, either_e, either_yes}
 use Rattle.assoc_keys.specs.Number.{Words}
 use Rattle.assoc_tree.specs.Parts.{slots}
-use Rattle.assoc_layout.specs.Words.{pool_words, max_blocks, root_word, tier_field, slot_field}
+use Rattle.assoc_layout.specs.Words.{anchor_words, block_words, pool_words, max_blocks, root_word, tier_field, slot_field}
 use Rattle.assoc_layout.specs.Decode.{word, block_count, is_sized}
 use Rattle.assoc_local.specs.Local.{slot_at, Live, BlockOk, free, leaf, cut, packed, spread, Named, by_root, by_slot, RootOk, PoolOk}
 use Rattle.assoc_check.specs.Checking.{Sized}
@@ -113,20 +117,20 @@ module _ (ws : List ℕ) where
         leb-true _ max_blocks (both_r (leb 1 (block_count ws)) _ u),
       )
 
-  pub no_counts : (is_sized ws ≡ true → ⊥) → Counts ws 0
-  no_counts f =
-      record {
-        no_pool = λ _. is_false f;
-        is-pool = λ ne. absurd (ne refl);
-        count = λ ne. absurd (ne refl);
-        sized = λ ne. absurd (ne refl);
-      }
+  -- the number of blocks by the number of words
+  block_count_is : (n : ℕ) → length ws ≡ pool_words n → n ≡ block_count ws
+  block_count_is n e =
+      let d : 24 * n / 24 ≡ n = mul-div_cancel_left n (lit< tt) in
+      let m : length ws - 2 ≡ 24 * n = omega arith in
+      rw m (sym d)
 
-  pub counts : length ws ≡ pool_words (block_count ws) → block_count ws ≤ max_blocks → Counts ws (block_count ws)
-  counts e hi =
+  pub counts : (r : Option ℕ) → Counted (length ws) anchor_words block_words max_blocks r → Counts ws r
+  counts None f = is_false (λ t. let (e, lo, hi) = is_sized_lem t in f (block_count ws) lo hi e)
+  counts (Some n) (lo, hi, e) =
+      let c = block_count_is n e in
+      let b : length ws ≡ pool_words (block_count ws) = subst (λ (k : ℕ). length ws ≡ pool_words k) c e in
       record {
-        no_pool = λ z. is_false (λ t. let (a, lo, b) = is_sized_lem t in omega arith);
-        is-pool = λ ne. sized_is e (omega arith) hi;
-        count = λ ne. refl;
-        sized = λ ne. record { size = e; few = hi };
+        is-pool = sized_is b (omega arith) (omega arith);
+        count = c;
+        sized = record { size = e; few = hi };
       }

@@ -1,5 +1,5 @@
 -- What the parts of the check promise, beside local's definitions.
-use Rattle.std.specs.Prelude.{ℕ, suc, ◌+◌, ◌*◌, ◌-◌, ◌≤◌, ◌<◌, ◌≡◌, Bool, true, false, not, List, eqb, ltb, length}
+use Rattle.std.specs.Prelude.{ℕ, suc, ◌+◌, ◌*◌, ◌-◌, ◌≤◌, ◌<◌, ◌≡◌, Bool, true, false, not, List, eqb, ltb, length, Option, Some, None}
 use Rattle.blocks.specs.Choice.{both}
 use Rattle.blocks.specs.Blocks.{count_to}
 use Rattle.assoc_tree.specs.Parts.{block_of, full, slots}
@@ -19,12 +19,15 @@ pub record Sized (ws : List ℕ) (n : ℕ) : Type 0 where
   pub size : length ws ≡ pool_words n
   pub few : n ≤ max_blocks
 
--- r is the number of blocks that the length makes room for, and 0 if it is not a pool's
-pub record Counts (ws : List ℕ) (r : ℕ) : Type 0 where
-  pub no_pool : r ≡ 0 → is_sized ws ≡ false
-  pub is-pool : (r ≡ 0 → ⊥) → is_sized ws ≡ true
-  pub count : (r ≡ 0 → ⊥) → r ≡ block_count ws
-  pub sized : (r ≡ 0 → ⊥) → Sized ws r
+-- the number of blocks that the length makes room for; none if it is not a pool's
+pub record Room (ws : List ℕ) (n : ℕ) : Type 0 where
+  pub is-pool : is_sized ws ≡ true
+  pub count : n ≡ block_count ws
+  pub sized : Sized ws n
+
+abbrev pub Counts : List ℕ → Option ℕ → Type 0
+Counts ws None = is_sized ws ≡ false
+Counts ws (Some n) = Room ws n
 
 module _ (ws : List ℕ) where
   -- block m is one of the first n and free: its first word is 0

@@ -4,7 +4,8 @@
 // A test's contract is `Decides r A`: true with A, false with the refutation of A.
 #![tactic(auto)]
 
-ghost use Rattle.std.specs.Prelude.{◌≡◌, Bool, true, false, ℕ, suc, ◌+◌, ◌-◌, ◌≤◌, ◌<◌, get_or, length};
+ghost use Rattle.std.specs.Prelude.{◌≡◌, Bool, true, false, MatchOption, ℕ, suc, ◌+◌, ◌-◌, ◌≤◌, ◌<◌, get_or, length, OnOk};
+ghost use Rattle.answers.specs.Answers.{answer_of};
 ghost use Rattle.blocks.specs.Choice.{either};
 ghost use Rattle.blocks.specs.Deciding.{Decides};
 ghost use Rattle.freemap.specs.FreeMap.{put, MapOf, BlankMap};
@@ -20,14 +21,14 @@ ghost use Rattle.assoc_check.specs.Seen.{SetOf, Seen, names, slot_names, named_t
 ghost use Rattle.assoc_check.specs.Answers.{check_answer, clear_answer, clear_words};
 ghost use Rattle.assoc_layout.specs.Decode.{block_count};
 
-use answers::{DONE, NOT_WELL_FORMED, POOL_LENGTH};
+use answers::Answer;
 use assoc_layout::{
     ANCHOR_WORDS, BASE_FIELD, BLOCK_WORDS, FULL, MAX_BLOCKS, ROOT_WORD, SKIP_FIELD, SLOT_FIELD,
     SLOTS, TIER_FIELD, TOP_TIER, VALUE_FIELD, below, blank, digit, field, is_first, together,
 };
 use commands::is_storable;
 use freemap::{MAP_WORDS, enter, set_bit};
-use words::{WORD_BITS, fill, one_if};
+use words::{WORD_BITS, fill, records_in};
 
 // The bytes of the longest key; where the length byte stands, after the other words of a base.
 const MAX_KEY: u64 = 32;
@@ -106,6 +107,14 @@ fn cut_to(pool: &[u64], m: u64, x: u64) -> bool
     together(pool, x, m, 0)
 }
 
+// The block that a slot's word r leads to, if it is one of n: 0 leads to none, and wraps to a number above all.
+fn named(n: u64, r: u64) -> Option<u64>
+    ensures { MatchOption result (1 ≤ r → n < r) (λ x. (r ≡ suc x) × (x < n)) }
+{
+    let x = r.wrapping_sub(1);
+    if x < n { Some(x) } else { None }
+}
+
 // The shortcut m.
 fn cut_ok(pool: &[u64], n: u64, m: u64) -> bool
     requires { Block pool.now n m × Head pool.now n m × (1 ≤ skip_of pool.now m) }
@@ -117,14 +126,10 @@ fn cut_ok(pool: &[u64], n: u64, m: u64) -> bool
     if !blank(pool, m, SLOT_FIELD + 1, BLOCK_WORDS) {
         return false;
     }
-    let r = field(pool, m, SLOT_FIELD);
-    if r < 1 {
-        return false;
+    match named(n, field(pool, m, SLOT_FIELD)) {
+        Some(x) => cut_to(pool, m, x),
+        None => false,
     }
-    if n < r {
-        return false;
-    }
-    cut_to(pool, m, r - 1)
 }
 
 // Slot j of node m, of tier v, has a leaf of its block.
@@ -132,14 +137,9 @@ fn leaf_in(pool: &[u64], n: u64, m: u64, v: u64, j: u64) -> bool
     requires { Block pool.now n m × (v ≡ tier_of pool.now m) × (v ≤ top_tier) × (j < slots) }
     ensures { Decides result (LeafIn pool.now n m j) }
 {
-    let r = field(pool, m, SLOT_FIELD + j);
-    if r < 1 {
+    let Some(x) = named(n, field(pool, m, SLOT_FIELD + j)) else {
         return false;
-    }
-    if n < r {
-        return false;
-    }
-    let x = r - 1;
+    };
     if field(pool, x, TIER_FIELD) != 1 {
         return false;
     }
@@ -176,12 +176,10 @@ fn leaves_ok(pool: &[u64], n: u64, m: u64, v: u64, count: u64) -> bool
     requires { Block pool.now n m × (v ≡ tier_of pool.now m) × (v ≤ top_tier) × (count ≤ slots) }
     ensures { Decides result (Leaves pool.now n m count) }
 {
-    let mut k = 0;
-    while k < count {
+    for k in 0..count {
         if !leaf_next(pool, n, m, v, k) {
             return false;
         }
-        k = k + 1;
     }
     true
 }
@@ -306,8 +304,7 @@ fn spread_ok(pool: &[u64], n: u64, m: u64, v: u64, count: u64) -> bool
 {
     let mut total = 0;
     let mut filled = 0;
-    let mut j = 0;
-    while j < SLOTS {
+    for j in 0..SLOTS {
         if !slot_ok(pool, n, m, v, j) {
             return false;
         }
@@ -316,9 +313,8 @@ fn spread_ok(pool: &[u64], n: u64, m: u64, v: u64, count: u64) -> bool
         if count - total < k {
             return false;
         }
-        total = total + k;
-        filled = filled + one_if(r != 0);
-        j = j + 1;
+        total += k;
+        filled += u64::from(r != 0);
     }
     if total != count {
         return false;
@@ -368,7 +364,7 @@ fn mark(seen: &mut [u64], x: u64)
     if (seen[(x / WORD_BITS) as usize] >> (x % WORD_BITS)) % 2 == 1 {
         return;
     }
-    set_bit(seen, x);
+    set_bit(seen, x, true);
 }
 
 // The block that the word r leads to, if it is one of n.
@@ -376,13 +372,9 @@ fn mark_ref(seen: &mut [u64], n: u64, r: u64)
     requires { Seen seen.old × (n ≤ max_blocks) }
     ensures { (f : ℕ → Bool) → SetOf f seen.old → SetOf (λ x. either (f x) (names n r x)) seen.new }
 {
-    if r == 0 {
-        return;
+    if let Some(x) = named(n, r) {
+        mark(seen, x);
     }
-    if n < r {
-        return;
-    }
-    mark(seen, r - 1);
 }
 
 // Those that the slots of block m lead to.
@@ -391,10 +383,8 @@ fn mark_slots(pool: &[u64], n: u64, m: u64, seen: &mut [u64])
     ensures { (f : ℕ → Bool) → SetOf f seen.old →
         SetOf (λ x. either (f x) (slot_names pool.now n m slots x)) seen.new }
 {
-    let mut j = 0;
-    while j < SLOTS {
+    for j in 0..SLOTS {
         mark_ref(seen, n, field(pool, m, SLOT_FIELD + j));
-        j = j + 1;
     }
 }
 
@@ -419,15 +409,13 @@ fn blocks_ok(pool: &[u64], n: u64, seen: &mut [u64], map: &mut [u64]) -> bool
     ensures decides { Decides result ((m : ℕ) → m < n → BlockOk pool.now n m) }
     ensures set_of_2 { result ≡ true → SetOf (named_to pool.now n n) seen.new × MapOf (free_to pool.now n) map.new }
 {
-    let mut m = 0;
-    while m < n {
+    for m in 0..n {
         let t = field(pool, m, TIER_FIELD);
         if !block_ok(pool, n, m, t) {
             return false;
         }
         note_slots(pool, n, m, t, seen);
         enter(map, m, t);
-        m = m + 1;
     }
     true
 }
@@ -467,12 +455,10 @@ fn all_named(pool: &[u64], n: u64, seen: &[u64]) -> bool
     ensures { (f : ℕ → Bool) → SetOf f seen.now →
         Decides result ((m : ℕ) → Live pool.now n m → f m ≡ true) }
 {
-    let mut m = 0;
-    while m < n {
+    for m in 0..n {
         if !named_ok(pool, m, seen) {
             return false;
         }
-        m = m + 1;
     }
     true
 }
@@ -497,62 +483,45 @@ fn pool_ok(pool: &[u64], n: u64, seen: &mut [u64], map: &mut [u64]) -> bool
     all_named(pool, n, seen)
 }
 
-// The number of blocks, or 0 if the length is not that of a pool.
-fn blocks_in(pool: &[u64]) -> u64
+// The number of blocks, if the length is that of a pool.
+fn blocks_in(pool: &[u64]) -> Option<u64>
     ensures { Counts pool.now result }
 {
-    let len = pool.len() as u64;
-    if len < ANCHOR_WORDS {
-        return 0;
-    }
-    let n = (len - ANCHOR_WORDS) / BLOCK_WORDS;
-    if n > MAX_BLOCKS {
-        return 0;
-    }
-    if (len - ANCHOR_WORDS) % BLOCK_WORDS != 0 {
-        return 0;
-    }
-    n
+    records_in(pool.len() as u64, ANCHOR_WORDS, BLOCK_WORDS, MAX_BLOCKS)
 }
 
-// 0 if some list of keys prescribes the words, with its parts at some numbers; 1 if the length is not that of a pool; else 2.
-// With 0 the map, of none so far, becomes that of the free blocks.
-pub fn check_map(pool: &[u64], map: &mut [u64]) -> u64
+// Whether some list of keys prescribes the words, with its parts at some numbers; then the map, of none so far, becomes that of the free
+// blocks.
+pub fn check_map(pool: &[u64], map: &mut [u64]) -> Result<(), Answer>
     requires { BlankMap map.old }
-    ensures value { result ≡ check_answer pool.now }
-    ensures map_of { result ≡ 0 → MapOf (free_to pool.now (block_count pool.now)) map.new }
+    ensures value { answer_of result ≡ check_answer pool.now }
+    ensures map_of { OnOk result (MapOf (free_to pool.now (block_count pool.now)) map.new) }
 {
-    let n = blocks_in(pool);
-    if n == 0 {
-        return POOL_LENGTH;
-    }
+    let n = blocks_in(pool).ok_or(Answer::PoolLength)?;
     let mut seen = [0u64; SEEN_WORDS];
     if !pool_ok(pool, n, &mut seen, map) {
-        return NOT_WELL_FORMED;
+        return Err(Answer::NotWellFormed);
     }
-    DONE
+    Ok(())
 }
 
 // The same for who needs no map.
-pub fn check(pool: &[u64]) -> u64
-    ensures { result ≡ check_answer pool.now }
+pub fn check(pool: &[u64]) -> Result<(), Answer>
+    ensures { answer_of result ≡ check_answer pool.now }
 {
     let mut map = [0u64; MAP_WORDS];
     check_map(pool, &mut map)
 }
 
-// Blanks whatever stood there: word 0 is the number of blocks, every other word 0. If the length is not that of a pool, the
-// answer is 1 and nothing is written.
-pub fn clear(pool: &mut [u64]) -> u64
-    ensures value { result ≡ clear_answer pool.old }
+// Blanks whatever stood there: word 0 is the number of blocks, every other word 0. If the length is not that of a pool, nothing is
+// written.
+pub fn clear(pool: &mut [u64]) -> Result<(), Answer>
+    ensures value { answer_of result ≡ clear_answer pool.old }
     ensures pool_after { pool.new ≡ clear_words pool.old }
 {
-    let n = blocks_in(pool);
-    if n == 0 {
-        return POOL_LENGTH;
-    }
+    let n = blocks_in(pool).ok_or(Answer::PoolLength)?;
     let len = pool.len() as u64;
     fill(pool, 0, 0, len);
     pool[COUNT_WORD] = n;
-    DONE
+    Ok(())
 }

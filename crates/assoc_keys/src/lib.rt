@@ -44,22 +44,12 @@ fn same_from(a: &[u64], i: usize, b: &[u64], j: usize, t: usize) -> bool
     requires t_le_key_words { t ≤ key_words }
     ensures { Decides result (SameFrom a.now b.now i j t key_words) }
 {
-    let mut p = t;
-    while p < KEY_WORDS {
+    for p in t..KEY_WORDS {
         if a[i + p] != b[j + p] {
             return false;
         }
-        p = p + 1;
     }
     true
-}
-
-// One word.
-fn word(w: &[u64], at: usize) -> u64
-    requires { at < length w.now }
-    ensures { result ≡ get_or w.now at 0 }
-{
-    w[at]
 }
 
 // The number at i is below that at j.
@@ -68,17 +58,12 @@ pub fn less(a: &[u64], i: usize, b: &[u64], j: usize) -> bool
     requires key_words_in_bounds_2 { j + key_words ≤ length b.now }
     ensures { Decides result (key_at a.now i < key_at b.now j) }
 {
-    let mut p = KEY_WORDS;
-    while 0 < p {
-        let x = word(a, i + (p - 1));
-        let y = word(b, j + (p - 1));
-        if x < y {
-            return true;
+    for p in (0..KEY_WORDS).rev() {
+        let x = a[i + p];
+        let y = b[j + p];
+        if x != y {
+            return x < y;
         }
-        if y < x {
-            return false;
-        }
-        p = p - 1;
     }
     false
 }
@@ -91,12 +76,10 @@ pub fn parting(a: &[u64], i: usize, b: &[u64], j: usize, v: u64) -> u64
     requires i_value { block (4 * v) (key_at a.now i) ≡ block (4 * v) (key_at b.now j) }
     ensures { PartAt (key_at a.now i) (key_at b.now j) v result }
 {
-    let mut u = v;
-    while 0 < u {
-        if !agree(a, i, b, j, u - 1) {
-            return u;
+    for u in (0..v).rev() {
+        if !agree(a, i, b, j, u) {
+            return u + 1;
         }
-        u = u - 1;
     }
     0
 }

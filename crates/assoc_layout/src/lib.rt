@@ -59,10 +59,8 @@ pub fn blank(pool: &[u64], m: u64, from: u64, end: u64) -> bool
     ensures { Decides result (Blank pool.now m from end) }
 {
     let mut any: u64 = 0;
-    let mut f = from;
-    while f < end {
-        any = any | pool[(ANCHOR_WORDS + BLOCK_WORDS * m + f) as usize];
-        f = f + 1;
+    for f in from..end {
+        any |= pool[(ANCHOR_WORDS + BLOCK_WORDS * m + f) as usize];
     }
     any == 0
 }

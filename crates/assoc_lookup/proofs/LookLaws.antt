@@ -12,23 +12,24 @@ use Rattle.assoc_tree.specs.Parts.{Part, leaf, top_tier, root_for, head_item}
 use Rattle.assoc_layout.specs.Words.{root_word, value_field, ref, object_of}
 use Rattle.assoc_layout.specs.WellFormed.{WellFormed, num}
 use Rattle.assoc_layout.proofs.RenderLaws.{word_of_lem, root_word_lem}
-use Rattle.assoc_lookup.specs.Lookup.{Step, Nothing, Leaf, Into, word, wanted, At, StepOk, is_nothing, is_leaf, is_into}
+use Rattle.std.specs.Prelude.{Option, None, Some}
+use Rattle.assoc_lookup.specs.Lookup.{Step, Leaf, Into, word, wanted, At, StepOk, is_nothing, is_leaf, is_into}
 use Rattle.assoc_tree.proofs.KeyLaws.{find_some, has_leaf, key_top}
 use Rattle.assoc_tree.proofs.SlotLaws.{size_pos, root_upper}
 
 -- STEPS
 module _ {l : List Item} {ν : Part → ℕ} {k v : ℕ} where
-  pub ok_nothing : {r : Step} → StepOk l ν k v r → r ≡ Nothing → find k l ≡ none
+  pub ok_nothing : {r : Option Step} → StepOk l ν k v r → r ≡ None → find k l ≡ none
   ok_nothing (is_nothing f) e = f
   ok_nothing (is_leaf x f) e = let z : ◌≡◌ {A = ℕ} 0 1 = cc in absurd (omega arith)
   ok_nothing (is_into m w h a) e = let z : ◌≡◌ {A = ℕ} 0 1 = cc in absurd (omega arith)
 
-  pub ok_leaf : {r : Step} {n : ℕ} → StepOk l ν k v r → r ≡ Leaf n → (x : Item) × (find k l ≡ some x) × (n ≡ ν (leaf l x.key))
+  pub ok_leaf : {r : Option Step} {n : ℕ} → StepOk l ν k v r → r ≡ Some (Leaf n) → (x : Item) × (find k l ≡ some x) × (n ≡ ν (leaf l x.key))
   ok_leaf (is_nothing f) e = let z : ◌≡◌ {A = ℕ} 0 1 = cc in absurd (omega arith)
   ok_leaf (is_leaf x f) e = (x, f, cc)
   ok_leaf (is_into m w h a) e = let z : ◌≡◌ {A = ℕ} 0 1 = cc in absurd (omega arith)
 
-  pub ok_into : {r : Step} {n u : ℕ} → StepOk l ν k v r → r ≡ Into n u → (u < v) × At l ν u k n
+  pub ok_into : {r : Option Step} {n u : ℕ} → StepOk l ν k v r → r ≡ Some (Into n u) → (u < v) × At l ν u k n
   ok_into (is_nothing f) e = let z : ◌≡◌ {A = ℕ} 0 1 = cc in absurd (omega arith)
   ok_into (is_leaf x f) e = let z : ◌≡◌ {A = ℕ} 0 1 = cc in absurd (omega arith)
   ok_into {n} {u} (is_into m w h a) e =

@@ -22,20 +22,21 @@ use Rattle.assoc_layout.specs.WellFormed.{WellFormed, num}
 use Rattle.assoc_tree.proofs.SizeLaws.{up, low_le, low_ends, low_same, low_size, has_branch, skipped_same}
 use Rattle.assoc_layout.proofs.RenderLaws.{word_of_lem, pool_size, there as stands}
 use Rattle.words.specs.Bits.{word_bits}
-use Rattle.assoc_lookup.specs.Lookup.{Step, Nothing, Leaf, Into, word, key_in, wanted, single_step, child_step, packed_step, step_of, At, StepOk, is_nothing, is_leaf, is_into, HasBlock, ReadyAt}
+use Rattle.std.specs.Prelude.{Option as Read, None, Some}
+use Rattle.assoc_lookup.specs.Lookup.{Step, Leaf, Into, word, key_in, wanted, single_step, child_step, packed_step, step_of, At, StepOk, is_nothing, is_leaf, is_into, HasBlock, ReadyAt}
 use Rattle.assoc_keys.proofs.NumberLaws.{number_back}
 use Rattle.assoc_tree.proofs.KeyLaws.{block_zero, key_short, size_zero, low_pos, find_some, find_none, has_leaf}
 use Rattle.assoc_tree.proofs.RunLaws.{nd_of}
 use Rattle.assoc_tree.proofs.SlotLaws.{tier_up, in_keep, keep_in, nth_in, nth_some, nth_lt, slot_packed, slot_spread, one_key, upper_child, low_here, upper_here}
 
 -- what looking through leaves finds
-data PackedOk (l : List Item) (ν : Part → ℕ) (k : ℕ) (zs : List Item) : Step → Type 0 where
-  p_none : ((y : Item) → In y zs → y.key ≡ k → ⊥) → PackedOk l ν k zs Nothing
-  p_leaf : (x : Item) → In x l → x.key ≡ k → PackedOk l ν k zs (Leaf (ν (leaf l x.key)))
+data PackedOk (l : List Item) (ν : Part → ℕ) (k : ℕ) (zs : List Item) : Read Step → Type 0 where
+  p_none : ((y : Item) → In y zs → y.key ≡ k → ⊥) → PackedOk l ν k zs None
+  p_leaf : (x : Item) → In x l → x.key ≡ k → PackedOk l ν k zs (Some (Leaf (ν (leaf l x.key))))
 
 -- a slot that is not empty
 child_step_lem : (ws ks : List ℕ) (n w : ℕ) → child_step ws ks (suc n) w ≡
-    pick (eqb (word ws ks n tier_field) 1) (single_step ws ks n) (Into n w)
+    pick (eqb (word ws ks n tier_field) 1) (single_step ws ks n) (Some (Into n w))
 child_step_lem ws ks n w =
     let e : suc n - 1 ≡ n = omega arith in
     rw (ne_eqb (suc n) 0 (omega arith), e)
@@ -121,7 +122,7 @@ module _ {ws : List ℕ} (ks : List ℕ) (s : WellFormed ws) where
           word ws ks m (slot_field + (suc j + i)) ≡ suc (ν (leaf l y.key))
       shift i y h = let d : suc j + i ≡ j + suc i = omega arith in ap (λ (x : ℕ). word ws ks m (slot_field + x)) d ∙ h
 
-      more_ok : {r : Step} → (z.key ≡ k → ⊥) → PackedOk l ν k zs r → PackedOk l ν k (z ∷ zs) r
+      more_ok : {r : Read Step} → (z.key ≡ k → ⊥) → PackedOk l ν k zs r → PackedOk l ν k (z ∷ zs) r
       more_ok n (p_none h) = p_none (λ y i q. go y (in_cons i) q)
         where
           go : (y : Item) → (y ≡ z) ⊎ In y zs → y.key ≡ k → ⊥
@@ -166,7 +167,7 @@ module _ {ws : List ℕ} (ks : List ℕ) (s : WellFormed ws) where
               ap (λ (j : ℕ). word ws ks (ν (nd v x.key)) (slot_field + j)) z ∙ slot_word_lem i (omega arith) ∙
               ap (ref l ν) (slot_packed l v (block_of v x.key) i h q)
 
-          finish : {r : Step} → PackedOk l ν k (in_block l v (block_of v x.key)) r → StepOk l ν k v r
+          finish : {r : Read Step} → PackedOk l ν k (in_block l v (block_of v x.key)) r → StepOk l ν k v r
           finish (p_none f) = is_nothing (find_none {l = l} k (λ y i q. f y
               (in_keep (over v (block_of v x.key)) i (eq-eqb _ _ (ap (block_of v) q ∙ sym agrees))) q))
           finish (p_leaf y i q) = is_leaf y (find_some k s.valid i q)
@@ -355,7 +356,7 @@ module _ {ws : List ℕ} (ks : List ℕ) (s : WellFormed ws) where
               (let c : full < size_over l (low_from l x.key v) x.key = rw a b in c) (low_ends l x.key v)
 
           into : block_of (low_from l x.key v) x.key ≡ block_of (low_from l x.key v) k →
-              StepOk l ν k v (Into (word ws ks (ν (branch l v x.key)) slot_field - 1) (low_from l x.key v))
+              StepOk l ν k v (Some (Into (word ws ks (ν (branch l v x.key)) slot_field - 1) (low_from l x.key v)))
           into f = is_into _ (low_from l x.key v) e (record {
             item = x;
             inside = m;

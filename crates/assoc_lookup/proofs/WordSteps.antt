@@ -8,7 +8,8 @@ use borrow.Author.Tests.{eq-eqb, ne_eqb, le-leb, lt-leb}
 use Rattle.blocks.specs.Choice.{pick}
 use Rattle.assoc_tree.specs.Parts.{block_of, full}
 use Rattle.assoc_layout.specs.Words.{slot_field, skip_field, value_field}
-use Rattle.assoc_lookup.specs.Lookup.{Nothing, Leaf, word, key_in, wanted, packed_step, cut_step, child_step, step_of}
+use Rattle.std.specs.Prelude.{None, Some}
+use Rattle.assoc_lookup.specs.Lookup.{Leaf, word, key_in, wanted, packed_step, cut_step, child_step, step_of}
 
 pub pick_yes : {A : Type 0} (b : Bool) (x y : A) → b ≡ true → x ≡ pick b x y
 pick_yes b x y e = rw e
@@ -18,19 +19,19 @@ pick_no b x y e = rw e
 
 module _ (ws ks : List ℕ) (m : ℕ) where
   packed_one : (j k x : ℕ) → x ≡ word ws ks m (slot_field + j) - 1 → packed_step ws ks m j (suc k) ≡
-      pick (eqb (block_of 0 (key_in ws ks x)) (block_of 0 (wanted ws ks))) (Leaf x) (packed_step ws ks m (suc j) k)
+      pick (eqb (block_of 0 (key_in ws ks x)) (block_of 0 (wanted ws ks))) (Some (Leaf x)) (packed_step ws ks m (suc j) k)
   unfolding packed_step
   packed_one j k x e = rw e
 
   pub packed_hit : (j k n x : ℕ) → n ≡ suc k → x ≡ word ws ks m (slot_field + j) - 1 →
-      block_of 0 (key_in ws ks x) ≡ block_of 0 (wanted ws ks) → packed_step ws ks m j n ≡ Leaf x
+      block_of 0 (key_in ws ks x) ≡ block_of 0 (wanted ws ks) → packed_step ws ks m j n ≡ Some (Leaf x)
   packed_hit j k n x d e q = ap (packed_step ws ks m j) d ∙ packed_one j k x e ∙ rw (eq-eqb _ _ q)
 
   pub packed_next : (j k n x : ℕ) → n ≡ suc k → x ≡ word ws ks m (slot_field + j) - 1 →
       (block_of 0 (key_in ws ks x) ≡ block_of 0 (wanted ws ks) → ⊥) → packed_step ws ks m j n ≡ packed_step ws ks m (suc j) k
   packed_next j k n x d e q = ap (packed_step ws ks m j) d ∙ packed_one j k x e ∙ rw (ne_eqb _ _ q)
 
-  pub packed_end : (j n : ℕ) → n ≡ 0 → packed_step ws ks m j n ≡ Nothing
+  pub packed_end : (j n : ℕ) → n ≡ 0 → packed_step ws ks m j n ≡ None
   unfolding packed_step
   packed_end j n e = ap (packed_step ws ks m j) e
 

@@ -1,6 +1,6 @@
 -- The way down to a key: one step on the words, and what it finds.
-use Rattle.std.specs.Prelude.{ℕ, zero, suc, ◌+◌, ◌-◌, ◌%◌, ◌≤◌, ◌<◌, ◌≡◌, true, List, leb, eqb, get_or, length}
-use Rattle.std.proofs.Math.Option.{Option, none, some}
+use Rattle.std.specs.Prelude.{ℕ, zero, suc, ◌+◌, ◌-◌, ◌%◌, ◌≤◌, ◌<◌, ◌≡◌, true, List, leb, eqb, get_or, length, Option, None, Some}
+use Rattle.std.proofs.Math.Option.{Option as Found, none, some}
 use Rattle.blocks.specs.Choice.{pick}
 use Rattle.blocks.specs.Lists.{In}
 use Rattle.assoc_tree.specs.Keys.{Item, find}
@@ -8,9 +8,7 @@ use Rattle.assoc_tree.specs.Parts.{Part, block_of, is_upper, branch, leaf, full,
 use Rattle.assoc_layout.specs.Words.{place, tier_field, skip_field, value_field, base_field, slot_field, pool_words, max_blocks}
 use Rattle.assoc_keys.specs.Number.{key_at, key_words}
 pub use Rattle.assoc_lookup.specs.declared.Step.{Step}
-pub use Rattle.assoc_lookup.specs.declared.Step.TheVariants.{Nothing, Leaf, Into}
-pub use Rattle.assoc_lookup.specs.declared.Looked.{Looked}
-pub use Rattle.assoc_lookup.specs.declared.Looked.TheVariants.{Absent, Present}
+pub use Rattle.assoc_lookup.specs.declared.Step.TheVariants.{Leaf, Into}
 
 -- ON THE WORDS
 module _ (ws ks : List ℕ) where
@@ -24,27 +22,27 @@ module _ (ws ks : List ℕ) where
   wanted = key_at ks 0
 
   -- at a leaf
-  abbrev pub single_step : ℕ → Step
-  single_step x = pick (eqb (block_of 0 (key_in x)) (block_of 0 wanted)) (Leaf x) Nothing
+  abbrev pub single_step : ℕ → Option Step
+  single_step x = pick (eqb (block_of 0 (key_in x)) (block_of 0 wanted)) (Some (Leaf x)) None
 
   -- at a shortcut, whose lower end is of tier u
-  abbrev pub cut_step : ℕ → ℕ → Step
-  cut_step m u = pick (eqb (block_of u (key_in m)) (block_of u wanted)) (Into (word m slot_field - 1) u) Nothing
+  abbrev pub cut_step : ℕ → ℕ → Option Step
+  cut_step m u = pick (eqb (block_of u (key_in m)) (block_of u wanted)) (Some (Into (word m slot_field - 1) u)) None
 
   -- by a slot's word
-  abbrev pub child_step : ℕ → ℕ → Step
+  abbrev pub child_step : ℕ → ℕ → Option Step
   child_step r w =
-      pick (eqb r 0) Nothing (pick (eqb (word (r - 1) tier_field) 1) (single_step (r - 1)) (Into (r - 1) w))
+      pick (eqb r 0) None (pick (eqb (word (r - 1) tier_field) 1) (single_step (r - 1)) (Some (Into (r - 1) w)))
 
   -- slots j, j + 1, .., k in all, of a node that holds leaves
-  unfoldable pub packed_step : (m j k : ℕ) → Step
-  packed_step m j zero = Nothing
+  unfoldable pub packed_step : (m j k : ℕ) → Option Step
+  packed_step m j zero = None
   packed_step m j (suc k) =
       let x = word m (slot_field + j) - 1 in
-      pick (eqb (block_of 0 (key_in x)) (block_of 0 wanted)) (Leaf x) (packed_step m (suc j) k)
+      pick (eqb (block_of 0 (key_in x)) (block_of 0 wanted)) (Some (Leaf x)) (packed_step m (suc j) k)
 
   -- at block m, whose upper end is of tier v
-  abbrev pub step_of : (m v : ℕ) → Step
+  abbrev pub step_of : (m v : ℕ) → Option Step
   step_of m v =
       pick (eqb (word m skip_field) 0)
       (pick (leb (word m value_field) full) (packed_step m 0 (word m value_field))
@@ -78,9 +76,9 @@ pub record ReadyAt (ws ks : List ℕ) (m v : ℕ) : Type 0 where
       HasBlock ws ks (word ws ks m (slot_field + block_of (v - 1) (key_at ks 0) % 16) - 1)
 
 -- WHAT A LOOK-UP FINDS
-abbrev pub looked_for : Option Item → Looked
-looked_for none = Absent
-looked_for (some x) = Present x.object
+abbrev pub looked_for : Found Item → Option ℕ
+looked_for none = None
+looked_for (some x) = Some x.object
 
 -- WHAT IT MEANS
 -- m is the number of what leads to the keys in the block of k of tier v
@@ -93,7 +91,7 @@ pub record At (l : List Item) (ν : Part → ℕ) (v k m : ℕ) : Type 0 where
   pub low : 1 ≤ v
   pub high : v ≤ top_tier
 
-pub data StepOk (l : List Item) (ν : Part → ℕ) (k v : ℕ) : Step → Type 0 where
-  is_nothing : find k l ≡ none → StepOk l ν k v Nothing
-  is_leaf : (x : Item) → find k l ≡ some x → StepOk l ν k v (Leaf (ν (leaf l x.key)))
-  is_into : (m w : ℕ) → w < v → At l ν w k m → StepOk l ν k v (Into m w)
+pub data StepOk (l : List Item) (ν : Part → ℕ) (k v : ℕ) : Option Step → Type 0 where
+  is_nothing : find k l ≡ none → StepOk l ν k v None
+  is_leaf : (x : Item) → find k l ≡ some x → StepOk l ν k v (Some (Leaf (ν (leaf l x.key))))
+  is_into : (m w : ℕ) → w < v → At l ν w k m → StepOk l ν k v (Some (Into m w))

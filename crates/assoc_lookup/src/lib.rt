@@ -18,35 +18,27 @@ use assoc_layout::{
     TOP_TIER, VALUE_FIELD, field,
 };
 
-// What one step of the way down comes to: the key is not there; its leaf; a block, and the tier of its upper end.
+// What one step of the way down leads to, where it leads anywhere: the key's leaf; or a block, and the tier of its upper end.
 #[derive(Clone, Copy)]
 pub enum Step {
-    Nothing,
     Leaf(u64),
     Into(u64, u64),
 }
 
-// What looking a key up finds.
-#[derive(Clone, Copy)]
-pub enum Looked {
-    Absent,
-    Present(u64),
-}
-
 // At the leaf x.
-fn single(pool: &[u64], key: &[u64], x: u64) -> Step
+fn single(pool: &[u64], key: &[u64], x: u64) -> Option<Step>
     requires { HasBlock pool.now key.now x }
     ensures { result ≡ single_step pool.now key.now x }
 {
     let at = (ANCHOR_WORDS + BLOCK_WORDS * x + BASE_FIELD) as usize;
     if agree(pool, at, key, 0, 0) {
-        return Step::Leaf(x);
+        return Some(Step::Leaf(x));
     }
-    Step::Nothing
+    None
 }
 
 // At the shortcut m, whose lower end is of tier u.
-fn cut(pool: &[u64], key: &[u64], m: u64, u: u64) -> Step
+fn cut(pool: &[u64], key: &[u64], m: u64, u: u64) -> Option<Step>
     requires has_block { HasBlock pool.now key.now m }
     requires u_bound { u ≤ 66 }
     requires bound { 1 ≤ get_or pool.now (place m 8) 0 }
@@ -54,46 +46,41 @@ fn cut(pool: &[u64], key: &[u64], m: u64, u: u64) -> Step
 {
     let at = (ANCHOR_WORDS + BLOCK_WORDS * m + BASE_FIELD) as usize;
     if agree(pool, at, key, 0, u) {
-        return Step::Into(field(pool, m, SLOT_FIELD) - 1, u);
+        return Some(Step::Into(field(pool, m, SLOT_FIELD) - 1, u));
     }
-    Step::Nothing
+    None
 }
 
 // By the word r of a slot of tier w.
-fn child(pool: &[u64], key: &[u64], r: u64, w: u64) -> Step
+fn child(pool: &[u64], key: &[u64], r: u64, w: u64) -> Option<Step>
     requires { 1 ≤ r → HasBlock pool.now key.now (r - 1) }
     ensures { result ≡ child_step pool.now key.now r w }
 {
-    if r == 0 {
-        return Step::Nothing;
-    }
-    let x = r - 1;
+    let x = r.checked_sub(1)?;
     if field(pool, x, TIER_FIELD) == 1 {
         return single(pool, key, x);
     }
-    Step::Into(x, w)
+    Some(Step::Into(x, w))
 }
 
 // Among the leaves in the first slots of node m.
-fn packed(pool: &[u64], key: &[u64], m: u64, count: u64) -> Step
+fn packed(pool: &[u64], key: &[u64], m: u64, count: u64) -> Option<Step>
     requires has_block { HasBlock pool.now key.now m }
     requires leaves_in { LeavesIn pool.now key.now m count }
     ensures { result ≡ packed_step pool.now key.now m 0 count }
 {
-    let mut j = 0;
-    while j < count {
+    for j in 0..count {
         let x = field(pool, m, SLOT_FIELD + j) - 1;
         let at = (ANCHOR_WORDS + BLOCK_WORDS * x + BASE_FIELD) as usize;
         if agree(pool, at, key, 0, 0) {
-            return Step::Leaf(x);
+            return Some(Step::Leaf(x));
         }
-        j = j + 1;
     }
-    Step::Nothing
+    None
 }
 
 // At block m, whose upper end is of tier v.
-fn step_at(pool: &[u64], key: &[u64], m: u64, v: u64) -> Step
+fn step_at(pool: &[u64], key: &[u64], m: u64, v: u64) -> Option<Step>
     requires { ReadyAt pool.now key.now m v }
     ensures { result ≡ step_of pool.now key.now m v }
 {
@@ -111,27 +98,19 @@ fn step_at(pool: &[u64], key: &[u64], m: u64, v: u64) -> Step
 }
 
 // The object of a key.
-pub fn look(pool: &[u64], key: &[u64]) -> Looked
+pub fn look(pool: &[u64], key: &[u64]) -> Option<u64>
     requires well_formed { WellFormed pool.now }
     requires key_len { length key.now ≡ key_words }
     requires key_bound { key_at key.now 0 < 2 ^ 264 }
     ensures { (s : WellFormed pool.now) →
         result ≡ looked_for (find (key_at key.now 0) s.list) }
 {
-    let r = pool[ROOT_WORD];
-    if r == 0 {
-        return Looked::Absent;
-    }
-    let mut m = r - 1;
+    let mut m = pool[ROOT_WORD].checked_sub(1)?;
     let mut v = TOP_TIER;
     while 0 < v {
-        let t = step_at(pool, key, m, v);
-        match t {
-            Step::Nothing => {
-                return Looked::Absent;
-            }
+        match step_at(pool, key, m, v)? {
             Step::Leaf(x) => {
-                return Looked::Present(field(pool, x, VALUE_FIELD));
+                return Some(field(pool, x, VALUE_FIELD));
             }
             Step::Into(x, w) => {
                 m = x;
@@ -139,33 +118,28 @@ pub fn look(pool: &[u64], key: &[u64]) -> Looked
             }
         }
     }
-    Looked::Absent
+    None
 }
 
 // A KEY'S BYTES
-
-fn widen(x: u8) -> u64
-    ensures { (result ≡ x) × (result < 256) }
-{
-    x as u64
-}
 
 // Byte i of a key, 0 after its end.
 fn byte_of(key: &[u8], i: usize) -> u64
     ensures { (result ≡ get_or key.now i 0) × (result < 256) }
 {
-    if i < key.len() {
-        return widen(key[i]);
+    match key.get(i) {
+        Some(x) => u64::from(*x),
+        None => 0,
     }
-    0
 }
 
-// Eight bytes of a key from a place on, the highest first.
+// Eight bytes of a key from a place on, the highest first. (The key may end among them, where words::number8 and `from_be_bytes` want all
+// eight; a copy into a longer array would be a call of memcpy.)
 fn word_of(key: &[u8], at: usize) -> u64
     requires { at ≤ 24 }
     ensures { result ≡ number_at key.now at 8 }
 {
-    let a = byte_of(key, at + 0);
+    let a = byte_of(key, at);
     let b = byte_of(key, at + 1);
     let c = byte_of(key, at + 2);
     let d = byte_of(key, at + 3);
@@ -177,7 +151,7 @@ fn word_of(key: &[u8], at: usize) -> u64
 }
 
 // The object of a key of 1 to 32 bytes.
-pub fn look_bytes(pool: &[u64], key: &[u8]) -> Looked
+pub fn look_bytes(pool: &[u64], key: &[u8]) -> Option<u64>
     requires { WellFormed pool.now × (length key.now ≤ max_key) }
     ensures { (s : WellFormed pool.now) → result ≡ looked_for (find (key_number key.now) s.list) }
 {

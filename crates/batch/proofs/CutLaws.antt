@@ -13,6 +13,7 @@ use Rattle.blocks.proofs.BoolLaws.{by_t}
 use Rattle.blocks.specs.Choice.{pick}
 use Rattle.words.specs.Bytes.{number_at}
 use Rattle.words.proofs.NumberLaws.{number_cut, one_byte}
+use Rattle.std.specs.Prelude.{Some, None}
 use Rattle.batch.specs.Batch.{max_batch, head_bytes, field_bytes, command_at, is_record, next_at, read_at, Read, Next, Bad, End, Command, Cursor, Store, Load, Erase, Mark, Unmark, Find, Reserve, Parsed, cons_to, rest_at, parse}
 use Rattle.batch.proofs.BatchLaws.{skip_whole, read_end, read_next}
 use Rattle.batch.proofs.ParseLaws.{
@@ -77,11 +78,11 @@ module _ (s : List ℕ) (p : ℕ) (fits : p ≤ length s) where
       let q : c ≡ command_at (take p s) tag (at + head_bytes) =
       sym r.command_is ∙ ap (λ (x : ℕ). command_at s x (at + head_bytes)) (sym t)
       ∙ sym (command_cut tag (at + head_bytes) f (omega arith)) in
-      let skipped : at + head_bytes + field_bytes tag ≡ pick (is_record (take p s) at) (next_at (take p s) at).at 0 =
+      let skipped : Some (at + head_bytes + field_bytes tag) ≡ pick (is_record (take p s) at) (Some (next_at (take p s) at).at) None =
       skip_whole (take p s) at tag (field_bytes tag) refl refl (rw cut_length (omega arith)) f
       (number_cut s p fits (at + 1) 2 (omega arith) ∙ w.length_is ∙ sym z) (rw cut_length (omega arith)) in
       let n : Next c (record { at = at + head_bytes + field_bytes tag }) ≡ read_at (take p s) at =
-      read_next (take p s) at (rw cut_length (omega arith)) _ skipped (λ x. omega arith)
+      read_next (take p s) at (rw cut_length (omega arith)) skipped
       (q ∙ ap (λ (x : ℕ). command_at (take p s) x (at + head_bytes)) (one_byte (take p s) at {tag = tag} refl)) in
       ap (λ (x : ℕ). Next c (record { at = x })) (sym place ∙ ap (λ (x : ℕ). at + head_bytes + x) (sym z)) ∙ n
 

@@ -1,6 +1,6 @@
 -- Reading a batch from a place to its end, record by record.
 use Prim.Native.Nat.{ℕ, zero, suc, ◌+◌, ◌-◌, ◌≤◌, ◌<◌}
-use mathlib.Core.Path.{◌≡◌, refl, sym, ap, subst, ◌∙◌}
+use mathlib.Core.Path.{◌≡◌, refl, sym, ap, ◌∙◌}
 use mathlib.Core.Bool.{Bool, true, false, not}
 use mathlib.Core.Logic.{◌≢◌}
 use mathlib.Core.List.{List, []}
@@ -11,8 +11,8 @@ use borrow.Author.Tests.{leb-true, leb-false, eqb-true, eq-eqb, lt-ltb, le-ltb, 
 use Rattle.blocks.specs.Choice.{both}
 use Rattle.blocks.proofs.BoolLaws.{by_t, clash, both_l, both_r}
 use Rattle.words.specs.Bytes.{number_at}
-use Rattle.batch.specs.Batch.{max_batch, head_bytes, field_bytes, command_at, is_record, next_at, read_at, Read, Next, Bad, End, Command, Cursor, Parsed, cons_to, parse_read, parse_from, rest_at, parse, Counted, Commands, Refused, counted}
-use Rattle.words.proofs.NumberLaws.{one_byte}
+use Rattle.batch.specs.Batch.{max_batch, head_bytes, field_bytes, command_at, is_record, next_at, read_at, Read, Next, Bad, End, Command, Cursor, Parsed, cons_to, parse_read, parse_from, rest_at, parse, BadRecord, counted}
+use Rattle.std.specs.Prelude.{Result, Ok, Err}
 
 -- a record that was read
 pub record WasRead (s : List ℕ) (at : ℕ) (c : Command) (k : Cursor) : Type 0 where
@@ -65,9 +65,6 @@ whole s at t =
 
 -- what is read where a good record stands
 module _ (s : List ℕ) (at : ℕ) (r : is_record s at ≡ true) where
-  pub known_room : {tag : ℕ} → tag ≡ number_at s at 1 → (t : ℕ) → tag ≡ t → at + head_bytes + field_bytes t ≤ length s
-  known_room e t k = subst (λ (x : ℕ). at + head_bytes + field_bytes x ≤ length s) (sym (one_byte s at e) ∙ k) (whole s at r).ends
-
   pub read_good : {c : Command} {n : ℕ} → c ≡ command_at s (get_or s at 0) (at + head_bytes) →
       n ≡ at + head_bytes + field_bytes (get_or s at 0) → Next c (record { at = n }) ≡ read_at s at
   unfolding read_at
@@ -121,28 +118,24 @@ not_refused e = let z : ◌≡◌ {A = ℕ} 0 1 = cc in omega arith
 
 -- COUNTING
 -- a count with n commands before it
-abbrev pub plus : ℕ → Counted → Counted
-plus n (Commands k) = Commands (n + k)
-plus n (Refused at) = Refused at
+abbrev pub plus : ℕ → Result ℕ BadRecord → Result ℕ BadRecord
+plus n (Ok k) = Ok (n + k)
+plus n (Err b) = Err b
 
 pub plus_cons : (n : ℕ) (c : Command) (p : Parsed) → plus n (counted (cons_to c p)) ≡ plus (n + 1) (counted p)
-plus_cons n c (Parsed.commands cs) = ap Commands (omega arith)
+plus_cons n c (Parsed.commands cs) = ap Ok (omega arith)
 plus_cons n c (Parsed.refused at) = refl
-
-pub plus_zero : (p : Counted) → plus 0 p ≡ p
-plus_zero (Commands k) = ap Commands (omega arith)
-plus_zero (Refused at) = refl
 
 -- a count so far, n commands up to a place
 module _ (s : List ℕ) (n at : ℕ) where
   abbrev pub CountedTo : Type 0
   CountedTo = counted (rest_at s 0) ≡ plus n (counted (rest_at s at))
 
-  pub count_end : CountedTo → End ≡ read_at s at → Commands n ≡ counted (rest_at s 0)
+  pub count_end : CountedTo → End ≡ read_at s at → Ok n ≡ counted (rest_at s 0)
   count_end i e =
-      sym (i ∙ ap (λ (p : Parsed). plus n (counted p)) (rest_end s at e) ∙ ap Commands (omega arith))
+      sym (i ∙ ap (λ (p : Parsed). plus n (counted p)) (rest_end s at e) ∙ ap Ok (omega arith))
 
-  pub count_bad : CountedTo → Bad ≡ read_at s at → Refused at ≡ counted (rest_at s 0)
+  pub count_bad : CountedTo → Bad ≡ read_at s at → Err (record { at = at }) ≡ counted (rest_at s 0)
   count_bad i e = sym (i ∙ ap (λ (p : Parsed). plus n (counted p)) (rest_bad s at e))
 
   pub count_next : CountedTo → {c : Command} {k : Cursor} → Next c k ≡ read_at s at →

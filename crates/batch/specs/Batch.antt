@@ -1,5 +1,5 @@
 -- Reading a batch (document 01: a sheet), R42 to R48.
-use Rattle.std.specs.Prelude.{ℕ, zero, suc, ◌+◌, ◌-◌, Bool, not, List, [], ◌∷◌, leb, ltb, eqb, length, get_or}
+use Rattle.std.specs.Prelude.{ℕ, zero, suc, ◌+◌, ◌-◌, Bool, not, List, [], ◌∷◌, leb, ltb, eqb, length, get_or, Result, Ok, Err}
 use Rattle.blocks.specs.Choice.{pick, both}
 use Rattle.words.specs.Bytes.{number_at}
 pub use Rattle.batch.specs.declared.Command.{Command}
@@ -7,8 +7,7 @@ pub use Rattle.batch.specs.declared.Command.TheVariants.{Store, Load, Erase, Mar
 pub use Rattle.batch.specs.declared.Cursor.{Cursor}
 pub use Rattle.batch.specs.declared.Read.{Read}
 pub use Rattle.batch.specs.declared.Read.TheVariants.{Next, Bad, End}
-pub use Rattle.batch.specs.declared.Counted.{Counted}
-pub use Rattle.batch.specs.declared.Counted.TheVariants.{Commands, Refused}
+pub use Rattle.batch.specs.declared.BadRecord.{BadRecord}
 
 -- R43
 abbrev pub max_batch : ℕ
@@ -88,6 +87,6 @@ unfoldable pub parse : List ℕ → Parsed
 parse s = pick (ltb max_batch (length s)) (refused max_batch) (rest_at s 0)
 
 -- how many commands, or the place
-abbrev pub counted : Parsed → Counted
-counted (commands cs) = Commands (length cs)
-counted (refused at) = Refused at
+abbrev pub counted : Parsed → Result ℕ BadRecord
+counted (commands cs) = Ok (length cs)
+counted (refused at) = Err (record { at = at })

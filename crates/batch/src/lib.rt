@@ -4,13 +4,15 @@
 // fields; reply: the borrowed bytes of the replies.
 #![tactic(auto)]
 
-ghost use Rattle.std.specs.Prelude.{◌≡◌, true, ◌≢◌, ◌+◌, ◌<◌, ◌≤◌, length};
+ghost use Rattle.std.specs.Prelude.{◌≡◌, true, ◌≢◌, ◌+◌, ◌<◌, ◌≤◌, length, Some, None};
 ghost use Rattle.words.specs.Bytes.{number_at, overwrite};
 ghost use Rattle.batch.specs.Batch.{field_bytes, head_bytes, command_at, is_record, next_at, read_at, rest_at, counted, parse};
 ghost use Rattle.batch.specs.declared.Read.TheVariants.{Next};
+ghost use Rattle.batch.specs.Refusing.{refusal_of};
 ghost use Rattle.blocks.specs.Choice.{pick};
 ghost use Rattle.batch.specs.Reply.{reply_bytes, encode};
 
+use answers::{Answer, Refusal};
 use words::{number1, number2, number8, put1, put2, put8};
 
 // The longest batch, the bytes of a record before its fields, and the bytes of a reply.
@@ -59,7 +61,8 @@ pub struct Cursor {
     pub at: usize,
 }
 
-// What reading at a position finds: a command, with the position after its record; a bad record; the batch's end.
+// What reading at a position finds: a command, with the position after its record; a bad record; the batch's end. It has
+// three outcomes, and so a name for each: a Result of an Option would be no plainer.
 #[derive(Clone, Copy)]
 pub enum Read {
     Next(Command, Cursor),
@@ -74,11 +77,22 @@ pub struct Step {
     pub at: usize,
 }
 
-// What a whole batch comes to: how many commands, or the place of its first bad record.
-#[derive(Clone, Copy)]
-pub enum Counted {
-    Commands(u64),
-    Refused(u64),
+// Why a batch is refused: the place of its first bad record.
+#[derive(Clone, Copy, PartialEq, Eq)]
+pub struct BadRecord {
+    pub at: u64,
+}
+
+// A call refuses such a batch, with that place.
+impl From<BadRecord> for Refusal {
+    ghost from_gives = { λ bad r. r ≡ refusal_of bad };
+
+    fn from(bad: BadRecord) -> Refusal {
+        Refusal {
+            answer: Answer::BadBatch,
+            number: bad.at,
+        }
+    }
 }
 
 // The fields of a reply.
@@ -124,36 +138,26 @@ fn command_at(s: &[u8], tag: u64, at: usize) -> Command
     requires { (field_bytes tag ≢ 0) × (at + field_bytes tag ≤ length s.now) }
     ensures { result ≡ command_at s.now tag at }
 {
-    if tag == 1 {
-        return store_at(s, at);
-    }
-    if tag == 2 {
-        return Command::Load {
+    match tag {
+        1 => store_at(s, at),
+        2 => Command::Load {
             index: number8(s, at),
-        };
-    }
-    if tag == 3 {
-        return Command::Erase {
+        },
+        3 => Command::Erase {
             index: number8(s, at),
-        };
-    }
-    if tag == 4 {
-        return Command::Mark {
+        },
+        4 => Command::Mark {
             index: number8(s, at),
             mark: number1(s, at + 8),
-        };
-    }
-    if tag == 5 {
-        return Command::Unmark {
+        },
+        5 => Command::Unmark {
             index: number8(s, at),
             mark: number1(s, at + 8),
-        };
-    }
-    if tag == 6 {
-        return find_at(s, at);
-    }
-    Command::Reserve {
-        index: number8(s, at),
+        },
+        6 => find_at(s, at),
+        _ => Command::Reserve {
+            index: number8(s, at),
+        },
     }
 }
 
@@ -164,83 +168,47 @@ fn rest_at(s: &[u8], tag: u64, at: usize) -> Command
     requires tag_nonzero_2 { (tag ≢ 1) × (tag ≢ 6) }
     ensures { result ≡ command_at s.now tag at }
 {
-    if tag == 2 {
-        return Command::Load {
+    match tag {
+        2 => Command::Load {
             index: number8(s, at),
-        };
-    }
-    if tag == 3 {
-        return Command::Erase {
+        },
+        3 => Command::Erase {
             index: number8(s, at),
-        };
-    }
-    if tag == 4 {
-        return Command::Mark {
+        },
+        4 => Command::Mark {
             index: number8(s, at),
             mark: number1(s, at + 8),
-        };
-    }
-    if tag == 5 {
-        return Command::Unmark {
+        },
+        5 => Command::Unmark {
             index: number8(s, at),
             mark: number1(s, at + 8),
-        };
-    }
-    Command::Reserve {
-        index: number8(s, at),
+        },
+        _ => Command::Reserve {
+            index: number8(s, at),
+        },
     }
 }
 
-// The place after the record at a place, whose tag has fields of a length wanted and whose length is given; 0 where the
-// record is bad.
-fn skip_of(batch: &[u8], at: usize, size: u64, want: usize) -> usize
-    requires head_bytes_in_bounds { at + head_bytes ≤ length batch.now }
-    requires size_value { (size ≡ number_at batch.now (at + 1) 2) × (want ≡ field_bytes (number_at batch.now at 1)) }
-    requires want_nonzero { (0 < want) × (want ≤ 19) }
-    ensures { result ≡ pick (is_record batch.now at) (next_at batch.now at).at 0 }
-{
-    if size != want as u64 {
-        return 0;
-    }
-    if batch.len() - at < HEAD_BYTES + want {
-        return 0;
-    }
-    at + HEAD_BYTES + want
-}
-
-// The place after the record at a place, by its tag and length alone; 0 where the record is bad. Each tag has an arm with
-// its own length: with a table of them every record would wait for the one before it.
-fn skip_at(batch: &[u8], at: usize) -> usize
+// The place after the record at a place, by its tag and length alone, unless the record is bad. Each tag has an arm with
+// its own length, and with the head's three bytes: joined, or by a table, every record would wait for the one before it.
+fn skip_at(batch: &[u8], at: usize) -> Option<usize>
     requires { at < length batch.now }
-    ensures { result ≡ pick (is_record batch.now at) (next_at batch.now at).at 0 }
+    ensures { result ≡ pick (is_record batch.now at) (Some (next_at batch.now at).at) None }
 {
-    if batch.len() - at < HEAD_BYTES {
-        return 0;
+    let room = batch.len() - at;
+    if room < HEAD_BYTES {
+        return None;
     }
-    let tag = number1(batch, at);
-    let size = number2(batch, at + 1);
-    if tag == 1 {
-        return skip_of(batch, at, size, 17);
+    match (number1(batch, at), number2(batch, at + 1)) {
+        (1, 17) if 20 <= room => Some(at + 20),
+        (2, 8) if 11 <= room => Some(at + 11),
+        (3, 8) if 11 <= room => Some(at + 11),
+        (4, 9) if 12 <= room => Some(at + 12),
+        (5, 9) if 12 <= room => Some(at + 12),
+        (6, 19) if 22 <= room => Some(at + 22),
+        (7, 8) if 11 <= room => Some(at + 11),
+        _ => None,
     }
-    if tag == 2 {
-        return skip_of(batch, at, size, 8);
-    }
-    if tag == 3 {
-        return skip_of(batch, at, size, 8);
-    }
-    if tag == 4 {
-        return skip_of(batch, at, size, 9);
-    }
-    if tag == 5 {
-        return skip_of(batch, at, size, 9);
-    }
-    if tag == 6 {
-        return skip_of(batch, at, size, 19);
-    }
-    if tag == 7 {
-        return skip_of(batch, at, size, 8);
-    }
-    0
 }
 
 // What stands at a place of a batch.
@@ -250,10 +218,9 @@ pub fn read_at(batch: &[u8], at: usize) -> Read
     if batch.len() <= at {
         return Read::End;
     }
-    let next = skip_at(batch, at);
-    if next == 0 {
+    let Some(next) = skip_at(batch, at) else {
         return Read::Bad;
-    }
+    };
     let tag = number1(batch, at);
     Read::Next(command_at(batch, tag, at + HEAD_BYTES), Cursor { at: next })
 }
@@ -266,18 +233,16 @@ pub fn step_at(batch: &[u8], at: usize) -> Step
 {
     let tag = number1(batch, at);
     let start = at + HEAD_BYTES;
-    if tag == 1 {
-        return Step {
+    match tag {
+        1 => Step {
             command: Command::Store {
                 index: number8(batch, start),
                 order: number1(batch, start + 8),
                 word: number8(batch, start + 9),
             },
             at: start + 17,
-        };
-    }
-    if tag == 6 {
-        return Step {
+        },
+        6 => Step {
             command: Command::Find {
                 first: number8(batch, start),
                 last: number8(batch, start + 8),
@@ -285,11 +250,11 @@ pub fn step_at(batch: &[u8], at: usize) -> Step
                 budget: number2(batch, start + 17),
             },
             at: start + 19,
-        };
-    }
-    Step {
-        command: rest_at(batch, tag, start),
-        at: start + number2(batch, at + 1) as usize,
+        },
+        _ => Step {
+            command: rest_at(batch, tag, start),
+            at: start + number2(batch, at + 1) as usize,
+        },
     }
 }
 
@@ -306,28 +271,29 @@ pub fn record_at(batch: &[u8], at: usize) -> Step
 }
 
 // The whole batch from its beginning, where it is not too long; no field is decoded.
-fn count_records(batch: &[u8]) -> Counted
+fn count_records(batch: &[u8]) -> Result<u64, BadRecord>
     ensures { result ≡ counted (rest_at batch.now 0) }
 {
     let mut at: usize = 0;
     let mut n: u64 = 0;
     while at < batch.len() {
-        let next = skip_at(batch, at);
-        if next == 0 {
-            return Counted::Refused(at as u64);
-        }
+        let Some(next) = skip_at(batch, at) else {
+            return Err(BadRecord { at: at as u64 });
+        };
         at = next;
-        n = n + 1;
+        n += 1;
     }
-    Counted::Commands(n)
+    Ok(n)
 }
 
 // How many commands a batch has, or the place of its first bad record.
-pub fn count(batch: &[u8]) -> Counted
+pub fn count(batch: &[u8]) -> Result<u64, BadRecord>
     ensures { result ≡ counted (parse batch.now) }
 {
     if batch.len() > MAX_BATCH {
-        return Counted::Refused(MAX_BATCH as u64);
+        return Err(BadRecord {
+            at: MAX_BATCH as u64,
+        });
     }
     count_records(batch)
 }

@@ -9,7 +9,8 @@ use borrow.Author.Tests.{eq-eqb, ne_eqb, lt-ltb, le-ltb}
 use Rattle.layout.specs.Decide.{node_count}
 use Rattle.verify.specs.Answers.{check_answer}
 use Rattle.verify.proofs.AnswerLaws.{accepted}
-use Rattle.batch.specs.declared.Counted.TheVariants.{Commands, Refused}
+use Rattle.std.specs.Prelude.{Ok, Err}
+use Rattle.batch.specs.declared.BadRecord.{BadRecord}
 use Rattle.batch.specs.Batch.{Parsed, counted, parse}
 use Rattle.batch.specs.Reply.{reply_bytes}
 use Rattle.commands.proofs.BatchesLaws.{Read, was_read, was_refused, replies_all}
@@ -19,11 +20,11 @@ use Rattle.answers.specs.Answers.{result_of, bad_batch, reply_space, done}
 use Rattle.calls.specs.Running.{Ends}
 
 -- THE COUNT
-pub count_done : (bs : List ℕ) {k : ℕ} → Commands k ≡ counted (parse bs) → result_of done k ≡ count_result bs
+pub count_done : (bs : List ℕ) {k : ℕ} → Ok k ≡ counted (parse bs) → result_of done k ≡ count_result bs
 count_done bs e =
     let r : Read bs _ = was_read e in sym (ap counts r.parsed ∙ ap (result_of done) r.count)
 
-pub count_refused : (bs : List ℕ) {at : ℕ} → Refused at ≡ counted (parse bs) → result_of bad_batch at ≡ count_result bs
+pub count_refused : (bs : List ℕ) {b : BadRecord} → Err b ≡ counted (parse bs) → result_of bad_batch b.at ≡ count_result bs
 count_refused bs e = sym (ap counts (was_refused bs e))
 
 -- REFUSALS
@@ -37,7 +38,7 @@ module _ (ws bs rs : List ℕ) where
     unfolding run
     run_checked q = rw (eq-eqb (check_answer ws) done e, q)
 
-    pub run_bad : {at : ℕ} → Refused at ≡ counted (parse bs) → run ws bs rs ≡ refuse_call ws rs bad_batch at
+    pub run_bad : {b : BadRecord} → Err b ≡ counted (parse bs) → run ws bs rs ≡ refuse_call ws rs bad_batch b.at
     run_bad f = run_checked (was_refused bs f)
 
     module _ {k : ℕ} (r : Read bs k) where

@@ -13,7 +13,8 @@ use Rattle.layout.specs.Decode.{list_of}
 use Rattle.decode.proofs.DecodeLaws.{well_formed_list}
 use Rattle.verify.specs.Answers.{check_answer, Verdict, Verdict.well_formed_lem, Verdict.wrong_size, Verdict.malformed}
 use Rattle.verify.proofs.AnswerLaws.{answered, meaning, accepted, well_formed_0}
-use Rattle.listing.specs.declared.Listed.{Listed}
+use Rattle.std.specs.Prelude as L
+use Rattle.listing.specs.declared.Short.{Short}
 use Rattle.listing.specs.Listing.{listed, entry_bytes, fits, outcome, filled_with}
 use Rattle.calls.specs.Calls.{Listing, refuse_list, list_result, list_over, list}
 use Rattle.answers.specs.Answers.{result_of, done, first_above_last}
@@ -53,7 +54,7 @@ module _ (ws : List ℕ) (a z : ℕ) (bs : List ℕ) where
         record { result = list_result (outcome (listed (list_of ws) a z) bs); buffer = filled_with (listed (list_of ws) a z) bs }
     listed_as = list_checked h ∙ rw (le-ltb z a le)
 
-    pub list_result_lem : (k : Listed) → ((s : WellFormed ws) → k ≡ outcome (listed s.list a z) bs) →
+    pub list_result_lem : (k : L.Result ℕ Short) → ((s : WellFormed ws) → k ≡ outcome (listed s.list a z) bs) →
         list_result k ≡ (list ws a z bs).result
     list_result_lem k q =
         let s : WellFormed ws = accepted ws h in

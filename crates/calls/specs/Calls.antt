@@ -1,5 +1,5 @@
 -- The calls: the result, and every word and byte after the call (R68 to R72, R81 to R84, R87, R145 to R148).
-use Rattle.std.specs.Prelude.{ℕ, ◌*◌, List, ◌++◌, ltb, eqb, length, drop}
+use Rattle.std.specs.Prelude.{ℕ, ◌*◌, List, ◌++◌, ltb, eqb, length, drop, Result, Ok, Err}
 use Rattle.blocks.specs.Choice.{pick}
 use Rattle.model.specs.declared.Entry.{Entry}
 use Rattle.layout.specs.Places.{render}
@@ -11,16 +11,15 @@ use Rattle.batch.specs.Batch.{Parsed, Parsed.commands, Parsed.refused, parse}
 use Rattle.batch.specs.Reply.{reply_bytes}
 use Rattle.commands.specs.Batches.{replies_by}
 use Rattle.listing.specs.Listing.{listed, outcome, filled_with}
-use Rattle.listing.specs.declared.Listed.{Listed}
-use Rattle.listing.specs.declared.Listed.TheVariants.{Short, Done}
+use Rattle.listing.specs.declared.Short.{Short}
 use Rattle.execute.specs.Execute.{execute}
 use Rattle.execute.specs.State.{State, states}
-use Rattle.answers.specs.declared.Result.{Result}
+use Rattle.answers.specs.declared.Report.{Report}
 use Rattle.answers.specs.Answers.{result_of, done, bad_batch, reply_space, first_above_last}
 
 -- what a call leaves: its result, the pool's words and the reply's bytes
 pub record Called : Type 0 where
-  pub result : Result
+  pub result : Report
   pub words : List ℕ
   pub reply : List ℕ
 
@@ -29,18 +28,18 @@ abbrev pub refuse_call : List ℕ → List ℕ → ℕ → ℕ → Called
 refuse_call ws rs a n = record { result = result_of a n; words = ws; reply = rs }
 
 -- INIT (document 01: blanking) and CHECK (R84)
-abbrev pub init_result : List ℕ → Result
+abbrev pub init_result : List ℕ → Report
 init_result ws = result_of (init_answer ws) 0
 
-abbrev pub check_result : List ℕ → Result
+abbrev pub check_result : List ℕ → Report
 check_result ws = result_of (check_answer ws) 0
 
 -- THE COUNT of a batch by itself: what a run would make of the batch
-abbrev pub counts : Parsed → Result
+abbrev pub counts : Parsed → Report
 counts (commands cs) = result_of done (length cs)
 counts (refused at) = result_of bad_batch at
 
-abbrev pub count_result : List ℕ → Result
+abbrev pub count_result : List ℕ → Report
 count_result bs = counts (parse bs)
 
 -- RUN
@@ -74,16 +73,16 @@ run ws bs rs =
 -- LIST
 -- what a listing leaves: its result and the buffer's bytes; it writes nothing in the pool (R147)
 pub record Listing : Type 0 where
-  pub result : Result
+  pub result : Report
   pub buffer : List ℕ
 
 abbrev pub refuse_list : List ℕ → ℕ → ℕ → Listing
 refuse_list bs a n = record { result = result_of a n; buffer = bs }
 
 -- R145, R146: where it does not fit, the answer is that of a reply space too small
-abbrev pub list_result : Listed → Result
-list_result (Short n) = result_of reply_space n
-list_result (Done n) = result_of done n
+abbrev pub list_result : Result ℕ Short → Report
+list_result (Err s) = result_of reply_space s.entries
+list_result (Ok n) = result_of done n
 
 -- R148: on a well-formed pool, of the list that it holds
 abbrev pub list_over : List Entry → (first last : ℕ) → (buffer : List ℕ) → Listing

@@ -13,7 +13,8 @@ use Rattle.model.specs.declared.Entry.{Entry}
 use Rattle.words.specs.Bytes.{overwrite}
 use Rattle.words.proofs.WriteLaws.{overwrite_append, overwrite_all}
 use Rattle.batch.specs.declared.Command.{Command}
-use Rattle.batch.specs.declared.Counted.TheVariants.{Commands, Refused}
+use Rattle.batch.specs.declared.BadRecord.{BadRecord}
+use Rattle.std.specs.Prelude.{Result, Ok, Err}
 use Rattle.batch.specs.declared.Cursor.{Cursor}
 use Rattle.batch.specs.declared.Read.TheVariants.{Next}
 use Rattle.batch.specs.Batch.{max_batch, Parsed, cons_to, counted, is_record, read_at, rest_at, parse}
@@ -38,7 +39,7 @@ parse_is bs e =
     by_t (ltb max_batch (length bs)) (λ t. absurd (not_refused (sym (parse_long bs (ltb-true _ _ t)) ∙ e)))
     (λ t. sym (parse_rest bs (ltb-false _ _ t)) ∙ e)
 
-pub was_read : {bs : List ℕ} {k : ℕ} → Commands k ≡ counted (parse bs) → Read bs k
+pub was_read : {bs : List ℕ} {k : ℕ} → Ok k ≡ counted (parse bs) → Read bs k
 was_read {bs} {k} e = go (parse bs) refl
   where
     go : (p : Parsed) → parse bs ≡ p → Read bs k
@@ -49,24 +50,24 @@ was_read {bs} {k} e = go (parse bs) refl
       count = same (e ∙ ap counted q);
     }
       where
-        same : Commands k ≡ Commands (length cs) → length cs ≡ k
+        same : ◌≡◌ {A = Result ℕ BadRecord} (Ok k) (Ok (length cs)) → length cs ≡ k
         same x = cc
     go (Parsed.refused at) q = absurd (never (e ∙ ap counted q))
       where
-        never : Commands k ≡ Refused at → ⊥
+        never : {b : BadRecord} → Ok k ≡ Err b → ⊥
         never x = let z : ◌≡◌ {A = ℕ} 0 1 = cc in omega arith
 
-pub was_refused : (bs : List ℕ) {at : ℕ} → Refused at ≡ counted (parse bs) → parse bs ≡ Parsed.refused at
-was_refused bs {at} e = go (parse bs) refl
+pub was_refused : (bs : List ℕ) {b : BadRecord} → Err b ≡ counted (parse bs) → parse bs ≡ Parsed.refused b.at
+was_refused bs {b} e = go (parse bs) refl
   where
-    go : (p : Parsed) → parse bs ≡ p → parse bs ≡ Parsed.refused at
+    go : (p : Parsed) → parse bs ≡ p → parse bs ≡ Parsed.refused b.at
     go (Parsed.refused p) q = q ∙ ap Parsed.refused (same (e ∙ ap counted q))
       where
-        same : Refused at ≡ Refused p → p ≡ at
+        same : ◌≡◌ {A = Result ℕ BadRecord} (Err b) (Err (record { at = p })) → p ≡ b.at
         same x = cc
     go (Parsed.commands cs) q = absurd (never (e ∙ ap counted q))
       where
-        never : Refused at ≡ Commands (length cs) → ⊥
+        never : ◌≡◌ {A = Result ℕ BadRecord} (Err b) (Ok (length cs)) → ⊥
         never x = let z : ◌≡◌ {A = ℕ} 0 1 = cc in omega arith
 
 -- there is room for all replies

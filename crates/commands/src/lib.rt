@@ -4,14 +4,15 @@
 #![tactic(auto)]
 
 ghost use Rattle.std.specs.Prelude.{◌≡◌, ◌≤◌};
-ghost use Rattle.blocks.specs.Choice.{either};
+ghost use Rattle.answers.specs.Answers.{number_of};
+ghost use Rattle.blocks.specs.Choice.{pick, either};
 ghost use Rattle.model.specs.Model.{storable, max_order, aligned};
-ghost use Rattle.batch.specs.Reply.{answered, answered_by};
+ghost use Rattle.batch.specs.Reply.{mark_reply, unmark_reply, answered, answered_by};
 ghost use Rattle.commands.specs.Replies.{covered_reply};
 
-use answers::{ABSENT, DONE};
+use answers::{Answer, DONE};
 use batch::Reply;
-use model::{Covered, Entry, shown_word};
+use model::{Entry, shown_word};
 use words::pow2;
 
 // The tags of replies: each its command's plus 128.
@@ -61,13 +62,20 @@ pub fn is_aligned(index: u64, order: u64) -> bool
 
 // REPLIES
 
+// The tag of a mark's reply, or of an unmark's.
+pub fn remarked_tag(on: bool) -> u64
+    ensures { result ≡ pick on mark_reply unmark_reply }
+{
+    if on { MARK_REPLY } else { UNMARK_REPLY }
+}
+
 // An answer with an index and a count, all else 0.
-pub fn answered(tag: u64, answer: u64, index: u64, count: u64) -> Reply
-    ensures { result ≡ answered tag answer index count }
+pub fn answered(tag: u64, answer: Answer, index: u64, count: u64) -> Reply
+    ensures { result ≡ answered tag (number_of answer) index count }
 {
     Reply {
         tag,
-        answer,
+        answer: answer.number(),
         index,
         order: 0,
         word: 0,
@@ -92,11 +100,11 @@ pub fn answered_by(tag: u64, e: Entry, count: u64) -> Reply
     }
 }
 
-pub fn covered_reply(tag: u64, c: Covered) -> Reply
+pub fn covered_reply(tag: u64, c: Option<Entry>) -> Reply
     ensures { result ≡ covered_reply tag c }
 {
     match c {
-        Covered::Nothing => answered(tag, ABSENT, 0, 0),
-        Covered::By(e) => answered_by(tag, e, 0),
+        None => answered(tag, Answer::Absent, 0, 0),
+        Some(e) => answered_by(tag, e, 0),
     }
 }

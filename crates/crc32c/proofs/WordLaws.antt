@@ -6,6 +6,9 @@ use Prim.Native.Nat.{ℕ, zero, suc, ◌+◌, ◌*◌, ◌/◌, ◌%◌, ◌^◌
 use native.Mathlib.Nat.{add-zero, add_assoc, mul-one, mul-suc, zero-mul}
 use native.Mathlib.Omega.{arith}
 use lib.Bits.{bit_xor, xor_zero_r}
+use Rattle.std.specs.Int.Bits.{xor_shifted}
+use Rattle.std.specs.Simd.{first_chunks}
+use Rattle.std.proofs.lemmas.Nat.{xor_comm}
 use lib.ListN.{length, get_or, take, drop, length-drop, take-append-drop}
 use lib.Seq.{take-suc, get_or-drop, drop-drop, take-add}
 use Rattle.crc32c.specs.Crc.{bit_steps, byte_step, register}
@@ -52,12 +55,23 @@ by_word s at (suc n) c h =
     ∙ ap₂ byte_step (by_word s at n c (omega arith)) (get_or-drop at s n 0)
     ∙ byte_after n c (word s at n) (get_or s (at + n) 0)
 
-pub word_four : (s : List ℕ) (at : ℕ) {a b c d : ℕ} → a ≡ get_or s at 0 → b ≡ get_or s (at + 1) 0 → c ≡ get_or s (at + 2) 0 → d ≡ get_or s (at + 3) 0
-    → bit_xor (bit_xor (bit_xor a (b * 256)) (c * 65536)) (d * 16777216) ≡ word s at 4
+-- where x has k bits, y past them is added
+past : (k x y : ℕ) → x < 2 ^ k → bit_xor x (y * 2 ^ k) ≡ x + y * 2 ^ k
+past k x y h = xor_comm x (y * 2 ^ k) ∙ xor_shifted y k x h ∙ omega arith
+
+pub word_four : (s : List ℕ) (at : ℕ) → ((i : ℕ) → get_or s i 0 < 256) →
+    get_or s at 0 + get_or s (at + 1) 0 * 256 + get_or s (at + 2) 0 * 65536 + get_or s (at + 3) 0 * 16777216 ≡ word s at 4
 unfolding word
-word_four s at {a} {b} {c} {d} ea eb ec ed =
-    let e : a ≡ get_or s (at + 0) 0 * 1 = ea ∙ sym (mul-one (get_or s (at + 0) 0) ∙ ap (λ (i : ℕ). get_or s i 0) (add-zero at)) in
-    ap₂ bit_xor (ap₂ bit_xor (ap₂ bit_xor e (ap (λ (x : ℕ). x * 256) eb)) (ap (λ (x : ℕ). x * 65536) ec)) (ap (λ (x : ℕ). x * 16777216) ed)
+word_four s at small =
+    let g = λ (i : ℕ). get_or s i 0 in
+    let two : bit_xor (g at) (g (at + 1) * 256) ≡ g at + g (at + 1) * 256 = past 8 (g at) (g (at + 1)) (small at) in
+    let three = past 16 (g at + g (at + 1) * 256) (g (at + 2)) (omega (arith, small at, small (at + 1))) in
+    let four = past 24 (g at + g (at + 1) * 256 + g (at + 2) * 65536) (g (at + 3))
+    (omega (arith, small at, small (at + 1), small (at + 2))) in
+    let e : g at ≡ g (at + 0) * 1 = sym (mul-one (g (at + 0)) ∙ ap g (add-zero at)) in
+    sym (ap (λ (x : ℕ). bit_xor (bit_xor x (g (at + 2) * 65536)) (g (at + 3) * 16777216)) two
+    ∙ ap (λ (x : ℕ). bit_xor x (g (at + 3) * 16777216)) three ∙ four)
+    ∙ ap (λ (x : ℕ). bit_xor (bit_xor (bit_xor x (g (at + 1) * 256)) (g (at + 2) * 65536)) (g (at + 3) * 16777216)) e
 
 -- a part and then the rest
 pub register_on : (c : ℕ) (s : List ℕ) (i n : ℕ) → register (register c (take n (drop i s))) (drop (i + n) s) ≡ register c (drop i s)
@@ -65,6 +79,23 @@ register_on c s i n =
     ap (register (register c (take n (drop i s)))) (sym (drop-drop n i s))
     ∙ sym (register_append c (take n (drop i s)) (drop n (drop i s)))
     ∙ ap (register c) (take-append-drop n (drop i s))
+
+-- the chunks of n bytes, each by its place
+pub chunk_at : (n k : ℕ) (xs : List ℕ) (i : ℕ) (d : List ℕ) → i < k → get_or (first_chunks n k xs) i d ≡ take n (drop (i * n) xs)
+chunk_at n zero xs i d h = absurd (omega arith)
+chunk_at n (suc k) xs zero d h = ap (λ (m : ℕ). take n (drop m xs)) (sym (zero-mul n))
+chunk_at n (suc k) xs (suc i) d h =
+    let e : n + i * n ≡ suc i * n = omega arith in
+    chunk_at n k (drop n xs) i d (omega arith) ∙ ap (take n) (drop-drop (i * n) n xs ∙ ap (λ (m : ℕ). drop m xs) e)
+
+-- one chunk of eight more
+pub chunk_step : {cs : List (List ℕ)} {r a : ℕ} (s d : List ℕ) (i c : ℕ) → cs ≡ first_chunks 8 (length s / 8) s →
+    i < length s / 8 → r ≡ register c (get_or cs i d) → register c (drop (i * 8) s) ≡ a → register r (drop ((i + 1) * 8) s) ≡ a
+chunk_step {cs} {r} {a} s d i c q h e f =
+    let n : (i + 1) * 8 ≡ i * 8 + 8 = omega arith in
+    ap₂ (λ (x m : ℕ). register x (drop m s))
+    (e ∙ ap (λ (xs : List (List ℕ)). register c (get_or xs i d)) q ∙ ap (register c) (chunk_at 8 (length s / 8) s i d h)) n
+    ∙ register_on c s (i * 8) 8 ∙ f
 
 -- eight bytes as two numbers of four
 pub by_two : (s : List ℕ) (at c : ℕ) → at + 8 ≤ length s

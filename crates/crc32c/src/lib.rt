@@ -31,33 +31,23 @@ fn further_tables() -> [u32; 1792]
     FURTHER
 }
 
-fn widen(b: u8) -> u32
-    ensures { result ≡ b }
-{
-    b as u32
-}
-
 // The register after one byte.
 fn byte_step(t: &[u32], c: u32, b: u8) -> u32
     requires { Table t.now }
     ensures { result ≡ byte_step c b }
 {
-    let x = c ^ widen(b);
+    let x = c ^ u32::from(b);
     let i = (x % 256) as usize;
     t[i] ^ (x >> 8)
 }
 
-// The register after the bytes from `from` on, one at a time.
-fn by_bytes(t: &[u32], c: u32, s: &[u8], from: usize) -> u32
-    requires table { Table t.now }
-    requires from_in_bounds { from ≤ length s.now }
-    ensures { result ≡ register c (drop from s.now) }
+// The register after all bytes, one at a time.
+fn by_bytes(t: &[u32], mut c: u32, s: &[u8]) -> u32
+    requires { Table t.now }
+    ensures { result ≡ register c s.now }
 {
-    let mut c = c;
-    let mut i = from;
-    while i < s.len() {
-        c = byte_step(t, c, s[i]);
-        i += 1;
+    for b in s {
+        c = byte_step(t, c, *b);
     }
     c
 }
@@ -67,10 +57,7 @@ fn word(s: &[u8], at: usize) -> u32
     requires { at + 4 ≤ length s.now }
     ensures { result ≡ word s.now at 4 }
 {
-    widen(s[at])
-        ^ (widen(s[at + 1]) * 256)
-        ^ (widen(s[at + 2]) * 65536)
-        ^ (widen(s[at + 3]) * 16777216)
+    u32::from_le_bytes([s[at], s[at + 1], s[at + 2], s[at + 3]])
 }
 
 // The low byte of x, with `level` bytes of zeros after its own, by a look-up.
@@ -104,31 +91,28 @@ fn four(t: &[u32], f: &[u32], level: usize, x: u32) -> u32
     a ^ b ^ c ^ d
 }
 
-// The register after the eight bytes from `at` on.
-fn eight(t: &[u32], f: &[u32], c: u32, s: &[u8], at: usize) -> u32
-    requires table { Table t.now }
-    requires further { Further t.now f.now }
-    requires at_in_bounds { at + 8 ≤ length s.now }
-    ensures { result ≡ register c (take 8 (drop at s.now)) }
-{
-    let x = c ^ word(s, at);
-    let y = word(s, at + 4);
-    four(t, f, 4, x) ^ four(t, f, 0, y)
-}
-
-// The register after all bytes, eight at a time while there are eight.
-fn by_eights(t: &[u32], f: &[u32], c: u32, s: &[u8]) -> u32
+// The register after eight bytes.
+fn eight(t: &[u32], f: &[u32], c: u32, s: &[u8; 8]) -> u32
     requires table { Table t.now }
     requires further { Further t.now f.now }
     ensures { result ≡ register c s.now }
 {
-    let mut c = c;
-    let mut i: usize = 0;
-    while 8 <= s.len() - i {
-        c = eight(t, f, c, s, i);
-        i += 8;
+    let x = c ^ word(s, 0);
+    let y = word(s, 4);
+    four(t, f, 4, x) ^ four(t, f, 0, y)
+}
+
+// The register after all bytes, eight at a time while there are eight.
+fn by_eights(t: &[u32], f: &[u32], mut c: u32, s: &[u8]) -> u32
+    requires table { Table t.now }
+    requires further { Further t.now f.now }
+    ensures { result ≡ register c s.now }
+{
+    let (eights, rest) = s.as_chunks::<8>();
+    for part in eights {
+        c = eight(t, f, c, part);
     }
-    by_bytes(t, c, s, i)
+    by_bytes(t, c, rest)
 }
 
 /// The digest of a region that goes on from `crc`, 0 to begin.
@@ -137,7 +121,7 @@ pub fn crc32c(crc: u32, s: &[u8]) -> u32
 {
     let t = byte_table();
     if s.len() < LONG {
-        return by_bytes(&t, crc ^ ALL, s, 0) ^ ALL;
+        return by_bytes(&t, crc ^ ALL, s) ^ ALL;
     }
     let f = further_tables();
     by_eights(&t, &f, crc ^ ALL, s) ^ ALL

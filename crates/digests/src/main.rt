@@ -10,29 +10,32 @@ fn digit(x: u32) -> u8 {
     if d < 10 { b'0' + d } else { b'a' + (d - 10) }
 }
 
-// Writes all of `bytes`, or stops at the first write that takes nothing or fails.
+// Writes all of `bytes`, or stops at the first write that takes nothing or fails. (As the program tamburish has it: a crate of both would
+// serve nothing else. std's `write_all` tries again where a write was interrupted.)
 fn write_all<W: Write>(out: &mut W, bytes: &[u8]) {
-    let mut done = 0;
-    while done < bytes.len() {
-        let n = match out.write(&bytes[done..]) {
-            Ok(n) => n,
-            Err(_) => 0,
-        };
-        if n == 0 {
-            break;
+    let mut rest = bytes;
+    while !rest.is_empty() {
+        match out.write(rest) {
+            Ok(0) | Err(_) => return,
+            Ok(n) => rest = &rest[n..],
         }
-        done += n;
     }
 }
 
 fn put<W: Write>(out: &mut W, x: u32) {
     let high = [
-        digit(x / 268435456),
-        digit(x / 16777216),
-        digit(x / 1048576),
-        digit(x / 65536),
+        digit(x >> 28),
+        digit(x >> 24),
+        digit(x >> 20),
+        digit(x >> 16),
     ];
-    let low = [digit(x / 4096), digit(x / 256), digit(x / 16), digit(x), 10];
+    let low = [
+        digit(x >> 12),
+        digit(x >> 8),
+        digit(x >> 4),
+        digit(x),
+        b'\n',
+    ];
     write_all(out, &high);
     write_all(out, &low);
 }
@@ -44,11 +47,9 @@ fn put_digest<W: Write>(out: &mut W, s: &[u8]) {
 // Bytes from `first` on, each `by` more than the last, wrapping at 256.
 fn progression(s: &mut [u8], first: u8, by: u8) {
     let mut b = first;
-    let mut i: usize = 0;
-    while i < s.len() {
-        s[i] = b;
+    for x in s.iter_mut() {
+        *x = b;
         b = b.wrapping_add(by);
-        i += 1;
     }
 }
 
@@ -76,13 +77,9 @@ fn cut_at(s: &[u8], cut: usize) -> bool {
 
 // How many cuts, at 0 to 64, do.
 fn cuts(s: &[u8]) -> u32 {
-    let mut good: u32 = 0;
-    let mut cut: usize = 0;
-    while cut <= 64 {
-        if cut_at(s, cut) {
-            good = good.wrapping_add(1);
-        }
-        cut += 1;
+    let mut good = 0;
+    for cut in 0..=64 {
+        good += u32::from(cut_at(s, cut));
     }
     good
 }

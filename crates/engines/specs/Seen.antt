@@ -2,7 +2,7 @@
 -- keeps the plain list (R309).
 use Rattle.std.specs.Prelude.{ℕ, zero, suc, ◌+◌, ◌*◌, ◌<◌, ◌≡◌, ◌≢◌, List, [], ◌∷◌, ◌++◌, ltb, eqb, length, get_or, take, drop}
 use Rattle.blocks.specs.Choice.{pick, either}
-use Rattle.answers.specs.declared.Result.{Result}
+use Rattle.answers.specs.declared.Report.{Report}
 use Rattle.answers.specs.Answers.{result_of, done, bad_batch, reply_space}
 use Rattle.model.specs.declared.Entry.{Entry}
 use Rattle.batch.specs.declared.Command.{Command}
@@ -18,7 +18,7 @@ pub record Seen : Type 0 where
   pub number : ℕ
   pub reply : List ℕ
 
-abbrev pub seen : Result → List ℕ → Seen
+abbrev pub seen : Report → List ℕ → Seen
 seen r rs = record { answer = r.answer; number = r.number; reply = rs }
 
 -- LEFT OUT: in the bytes of a reply the last two, its count, where the tag is that of a load or a find (R49, R78)

@@ -495,6 +495,17 @@ module _ {k h : ℕ} {l : List Entry} {os : Places} {ws : List ℕ} (w₀ : Tall
   pub top_sibling : (j : ℕ) → s ≡ Sibling j → ⊥
   top_sibling j e = head_sibling w₁ r q j e
 
+  -- no node is the head
+  bare_at : (x : Slot) → s ≡ x → ((m : ℕ) → s ≡ Child m → ⊥) → ws ≡ render l (prune l os) k
+  bare_at Empty e f = top_empty e
+  bare_at Reserved e f = absurd (top_held (inr e))
+  bare_at Held e f = absurd (top_held (inl e))
+  bare_at (Sibling j) e f = absurd (top_sibling j e)
+  bare_at (Child m) e f = absurd (f m e)
+
+  pub top_bare : ((m : ℕ) → s ≡ Child m → ⊥) → ws ≡ render l (prune l os) k
+  top_bare f = bare_at s refl f
+
 pub tall_flat : {k h : ℕ} {l : List Entry} {os : Places} {ws : List ℕ} → Tall k h l os ws → h ≡ 0 →
     ws ≡ render l (prune l os) k
 tall_flat w z = tall_words w (omega (arith, w.fit))

@@ -27,7 +27,7 @@ use layout::{
 };
 use lookup::{Located, Spot, locate, order_of};
 use marks::climb;
-use model::Covered;
+use model::Entry;
 use words::pow2;
 
 // FREEING A NODE
@@ -94,22 +94,14 @@ fn drop_head(pool: &mut [u64], n: u64, h: u64) -> bool
             raise(pool, n, m, x);
             true
         }
-        Slot::Held => {
+        Slot::Held | Slot::Reserved => {
             if h != 1 {
                 return false;
             }
             free_head(pool, n, x);
             true
         }
-        Slot::Empty => false,
-        Slot::Sibling(_) => false,
-        Slot::Reserved => {
-            if h > 1 {
-                return false;
-            }
-            free_head(pool, n, x);
-            true
-        }
+        Slot::Empty | Slot::Sibling(_) => false,
     }
 }
 
@@ -121,30 +113,14 @@ fn shrink(pool: &mut [u64], map: &mut [u64], top: u64)
     ensures by_index { (k : ℕ) (l : List Entry) (os : Places) → Tall k top l os pool.old →
         pool.new ≡ render l (prune l os) k }
 {
-    let mut h = top;
-    while h > 0 {
-        let k = read_slot(pool[HEAD_WORD]);
-        match k {
-            Slot::Child(n) => {
-                if !drop_head(pool, n, h) {
-                    return;
-                }
-                give(map, n);
-                h = h - 1;
-            }
-            Slot::Held => {
-                return;
-            }
-            Slot::Empty => {
-                return;
-            }
-            Slot::Sibling(_) => {
-                return;
-            }
-            Slot::Reserved => {
-                return;
-            }
+    for h in (1..=top).rev() {
+        let Slot::Child(m) = read_slot(pool[HEAD_WORD]) else {
+            return;
+        };
+        if !drop_head(pool, m, h) {
+            return;
         }
+        give(map, m);
     }
 }
 
@@ -202,7 +178,7 @@ fn prune_up(pool: &mut [u64], map: &mut [u64], i: u64, first: u64, tier: u64)
         let m = (p - 1) / SLOTS;
         unlink(pool, n, m, (p - 1) % SLOTS);
         n = m;
-        v = v + 1;
+        v += 1;
     }
 }
 
@@ -217,14 +193,12 @@ fn cut(pool: &mut [u64], map: &mut [u64], i: u64, at: Spot)
         pool.new ≡ render (Model.erase s.list i) (prune (Model.erase s.list i) s.places) s.n }
 {
     cut_run(pool, i, at);
-    let n = at.node;
-    let v = at.tier;
-    let top = at.top;
-    prune_up(pool, map, i, n, v);
-    shrink(pool, map, top);
+    prune_up(pool, map, i, at.node, at.tier);
+    shrink(pool, map, at.top);
 }
 
-// Takes out the entry that covers i and stands at a spot: its marks off first, so that then no mark word changes.
+// Takes out the entry that covers i and stands at a spot: its marks off first, so that then no mark word changes. Three
+// calls, since a loop over the marks takes as many lines, and an invariant.
 fn remove(pool: &mut [u64], map: &mut [u64], i: u64, at: Spot)
     requires free_map { FreeMap pool.old map.old }
     requires erasing { Erasing i at.node at.tier at.slot at.top pool.old }
@@ -240,7 +214,7 @@ fn remove(pool: &mut [u64], map: &mut [u64], i: u64, at: Spot)
 }
 
 // Takes out the entry that covers i; what it was. The nodes that it frees enter the map.
-pub fn erase(pool: &mut [u64], map: &mut [u64], i: u64) -> Covered
+pub fn erase(pool: &mut [u64], map: &mut [u64], i: u64) -> Option<Entry>
     requires well_formed { WellFormed pool.old }
     requires free_map { FreeMap pool.old map.old }
     ensures value { (s : WellFormed pool.old) → result ≡ covered (covering s.list i) }
@@ -250,16 +224,15 @@ pub fn erase(pool: &mut [u64], map: &mut [u64], i: u64) -> Covered
 {
     let k = locate(pool, i);
     match k {
-        Located::Apart => Covered::Nothing,
-        Located::Vacant(_, _, _) => Covered::Nothing,
+        Located::Apart | Located::Vacant(_, _, _) => None,
         Located::AtHead(e) => {
             pool[HEAD_WORD] = 0;
             pool[MARKS_WORD] = 0;
-            Covered::By(e)
+            Some(e)
         }
         Located::InNode(e, at, _) => {
             remove(pool, map, i, at);
-            Covered::By(e)
+            Some(e)
         }
     }
 }

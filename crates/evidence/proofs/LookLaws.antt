@@ -17,10 +17,9 @@ use Rattle.evidence.specs.Sheets.{
   rest_at,
   sought_in,
   seek,
+  Span,
   Sought,
-  Nothing,
-  Text,
-  Malformed,
+  malformed,
   Found,
   InBase,
   InSupplement,
@@ -29,6 +28,8 @@ use Rattle.evidence.specs.Sheets.{
   together,
   look,
 }
+use Rattle.std.specs.Prelude as rust
+use Rattle.std.specs.Prelude.{None, Some, Ok, Err}
 use Rattle.evidence.specs.Reading.{newer}
 use Rattle.evidence.specs.Parts.{PartOf}
 use Rattle.evidence.specs.Claims.{
@@ -62,17 +63,17 @@ use Rattle.evidence.proofs.SheetLaws.{good, rest_end, rest_bad, sought_on}
 -- DAMAGE
 -- from where a record begins on, with what is known there
 record From (s : List ℕ) (i at : ℕ) : Type 0 where
-  best : Sought
+  best : rust.Option Span
   same : seek s i ≡ sought_in s i best (rest_at s at)
 
 from : (s : List ℕ) (i : ℕ) {at : ℕ} → Begins s at → From s i at
 unfolding seek
-from s i first = record { best = Nothing; same = refl }
+from s i first = record { best = None; same = refl }
 from s i (later {at} b h r) =
     let f : From s i at = from s i b in
     record { best = newer s at i f.best; same = f.same ∙ sought_on s at i f.best h r }
 
-pub damaged : (s : List ℕ) (i : ℕ) {at : ℕ} → DamagedAt s at → seek s i ≡ Malformed
+pub damaged : (s : List ℕ) (i : ℕ) {at : ℕ} → DamagedAt s at → seek s i ≡ malformed
 damaged s i {at} d =
     let f : From s i at = from s i d.begins in
     f.same ∙ ap (sought_in s i f.best) (rest_bad s at d.inside d.bad)
@@ -82,10 +83,9 @@ pub damaged_base : (b s : List ℕ) (i : ℕ) {at : ℕ} → DamagedAt b at → 
 unfolding look
 damaged_base b s i d = ap (λ (x : Sought). together x (seek s i)) (damaged b i d)
 
-with_bad : (x : Sought) → together x Malformed ≡ BadSheet
-with_bad Nothing = refl
-with_bad (Text p n) = refl
-with_bad Malformed = refl
+with_bad : (x : Sought) → together x malformed ≡ BadSheet
+with_bad (Ok b) = refl
+with_bad (Err e) = refl
 
 pub damaged_supplement : (b s : List ℕ) (i : ℕ) {at : ℕ} → DamagedAt s at → look b s i ≡ BadSheet
 unfolding look
@@ -105,9 +105,9 @@ past s (suc n) {j} {k} h (later {at} b i t) c r l =
     subst (λ m. m + (3 + body_bytes s m) ≤ at + (3 + body_bytes s at)) (sym e) (omega arith)))
 
 -- before a place where a record begins
-data Upto (s : List ℕ) (i k : ℕ) : Sought → Type 0 where
-  none_yet : ((j : ℕ) → Names s i j → k ≤ j) → Upto s i k Nothing
-  so_far : {at : ℕ} → Names s i at → ((j : ℕ) → Names s i j → j < k → j ≤ at) → Upto s i k (text_at s at)
+data Upto (s : List ℕ) (i k : ℕ) : rust.Option Span → Type 0 where
+  none_yet : ((j : ℕ) → Names s i j → k ≤ j) → Upto s i k None
+  so_far : {at : ℕ} → Names s i at → ((j : ℕ) → Names s i j → j < k → j ≤ at) → Upto s i k (Some (text_at s at))
 
 module _ (s : List ℕ) (i k : ℕ) (b : Begins s k) (h : k < length s) (r : is_record s k ≡ true) where
   within : {j : ℕ} → Names s i j → j < k + (3 + body_bytes s k) → j ≤ k
@@ -116,13 +116,13 @@ module _ (s : List ℕ) (i k : ℕ) (b : Begins s k) (h : k < length s) (r : is_
       (λ t. let z : k + (3 + body_bytes s k) ≤ j = past s (suc (j + k)) (omega arith) n.begins b r (ltb-true k j t) in absurd (omega arith))
       (λ t. ltb-false k j t)
 
-  named : index_at s k ≡ i → Upto s i (k + (3 + body_bytes s k)) (text_at s k)
+  named : index_at s k ≡ i → Upto s i (k + (3 + body_bytes s k)) (Some (text_at s k))
   named e = so_far (record { begins = b; inside = h; good = r; index = e }) (λ j n l. within n l)
 
   at_other : (index_at s k ≡ i → ⊥) → {j : ℕ} → Names s i j → j ≡ k → ⊥
   at_other f n e = f (subst (λ m. index_at s m ≡ i) e n.index)
 
-  unnamed : {x : Sought} → (index_at s k ≡ i → ⊥) → Upto s i k x → Upto s i (k + (3 + body_bytes s k)) x
+  unnamed : {x : rust.Option Span} → (index_at s k ≡ i → ⊥) → Upto s i k x → Upto s i (k + (3 + body_bytes s k)) x
   unnamed f (none_yet g) = none_yet (λ j n.
       by_t (ltb j (k + (3 + body_bytes s k)))
       (λ t. absurd (at_other f n (let z : j ≤ k = within n (ltb-true j _ t) in omega (arith, g j n))))
@@ -131,29 +131,26 @@ module _ (s : List ℕ) (i k : ℕ) (b : Begins s k) (h : k < length s) (r : is_
       g j n (by_t (ltb j k) (λ t. ltb-true j k t)
       (λ t. absurd (at_other f n (let z : j ≤ k = within n l in omega (arith, ltb-false j k t))))))
 
-  step : {x : Sought} → Upto s i k x → Upto s i (k + (3 + body_bytes s k)) (newer s k i x)
+  step : {x : rust.Option Span} → Upto s i k x → Upto s i (k + (3 + body_bytes s k)) (newer s k i x)
   step {x} u =
       by_t (eqb (index_at s k) i)
       (λ t. rw t (named (eqb-true (index_at s k) i t)))
       (λ t. rw t (unnamed (eqb-false (index_at s k) i t) u))
 
-ended : (s : List ℕ) (i k : ℕ) {x : Sought} → Whole s → length s ≤ k → Upto s i k x → Outcome s i x
+ended : (s : List ℕ) (i k : ℕ) {x : rust.Option Span} → Whole s → length s ≤ k → Upto s i k x → Outcome s i (Ok x)
 ended s i k w l (none_yet g) = is_nothing (λ j n. let a : j < length s = n.inside in omega (arith, g j n)) w
 ended s i k w l (so_far m g) =
     is_text (record { names = m; last = λ j n. g j n (let a : j < length s = n.inside in omega arith) }) w
 
-not_bad : (s : List ℕ) (i k : ℕ) {x : Sought} → Upto s i k x → Malformed ≡ x → ⊥
-not_bad s i k (none_yet g) e = let z : ◌≡◌ {A = ℕ} 0 1 = cc in omega arith
-not_bad s i k (so_far m g) e = let z : ◌≡◌ {A = ℕ} 0 1 = cc in omega arith
-
 -- from a place where a record begins to the end
-walk : (s : List ℕ) (i n k : ℕ) {x : Sought} → length s - k < n → Begins s k → Upto s i k x →
+walk : (s : List ℕ) (i n k : ℕ) {x : rust.Option Span} → length s - k < n → Begins s k → Upto s i k x →
     seek s i ≡ sought_in s i x (rest_at s k) → Outcome s i (seek s i)
 walk s i zero k l b u e = absurd (omega arith)
 walk s i (suc n) k {x} l b u e =
     by_t (leb (length s) k)
-    (λ t. let f : seek s i ≡ x = e ∙ ap (sought_in s i x) (rest_end s k (leb-true _ _ t)) in
-    subst (Outcome s i) (sym f) (ended s i k (λ at d. not_bad s i k u (sym (damaged s i d) ∙ f)) (leb-true _ _ t) u))
+    (λ t. let f : seek s i ≡ Ok x = e ∙ ap (sought_in s i x) (rest_end s k (leb-true _ _ t)) in
+    let whole : Whole s = λ at d. let z : malformed ≡ Ok x = sym (damaged s i d) ∙ f in cc in
+    subst (Outcome s i) (sym f) (ended s i k whole (leb-true _ _ t) u))
     (λ t. let h : k < length s = leb-false _ _ t in
     by_t (is_record s k)
     (λ r. walk s i n (k + (3 + body_bytes s k)) (let g = good s k r in omega (arith, g.ends)) (later b h r) (step s i k b h r u)
@@ -169,18 +166,18 @@ counts_sole : (s : List ℕ) (i : ℕ) {j k : ℕ} → Counts s i j → Counts s
 counts_sole s i {j} {k} c d = omega (arith, c.last k d.names, d.last j c.names)
 
 -- R255: of the records of an index the last counts, whatever stands between
-pub last_counts : (s : List ℕ) (i : ℕ) {at : ℕ} → Whole s → Counts s i at → seek s i ≡ text_at s at
+pub last_counts : (s : List ℕ) (i : ℕ) {at : ℕ} → Whole s → Counts s i at → seek s i ≡ Ok (Some (text_at s at))
 last_counts s i {at} w c = go (outcome s i)
   where
-    go : {x : Sought} → Outcome s i x → x ≡ text_at s at
+    go : {x : Sought} → Outcome s i x → x ≡ Ok (Some (text_at s at))
     go (is_malformed d) = absurd (w _ d)
     go (is_nothing f v) = absurd (f _ c.names)
-    go (is_text d v) = ap (text_at s) (counts_sole s i d c)
+    go (is_text d v) = ap (λ (j : ℕ). Ok (Some (text_at s j))) (counts_sole s i d c)
 
-unnamed_nothing : (s : List ℕ) (i : ℕ) → Whole s → Unnamed s i → seek s i ≡ Nothing
+unnamed_nothing : (s : List ℕ) (i : ℕ) → Whole s → Unnamed s i → seek s i ≡ Ok None
 unnamed_nothing s i w f = go (outcome s i)
   where
-    go : {x : Sought} → Outcome s i x → x ≡ Nothing
+    go : {x : Sought} → Outcome s i x → x ≡ Ok None
     go (is_malformed d) = absurd (w _ d)
     go (is_nothing g v) = refl
     go (is_text d v) = absurd (f _ d.names)
@@ -200,25 +197,20 @@ looked b s i = go (outcome b i) (outcome s i)
     go (is_text c v) (is_nothing g w) = in_base v w g c
     go (is_text c v) (is_text d w) = in_supplement v w d
 
-over_nothing : (x : Sought) (s : List ℕ) (at : ℕ) → (x ≡ Malformed → ⊥) → together x (text_at s at) ≡ InSupplement (at + 11) (body_bytes s at - 8)
-over_nothing Nothing s at h = refl
-over_nothing (Text p n) s at h = refl
-over_nothing Malformed s at h = absurd (h refl)
-
-whole_seek : (s : List ℕ) (i : ℕ) → Whole s → seek s i ≡ Malformed → ⊥
-whole_seek s i w e = go (outcome s i) e
+over_whole : (b : List ℕ) (i : ℕ) (t : Span) → Whole b → together (seek b i) (Ok (Some t)) ≡ InSupplement t.place t.size
+over_whole b i t w = go (outcome b i)
   where
-    go : {x : Sought} → Outcome s i x → x ≡ Malformed → ⊥
-    go (is_malformed d) q = w _ d
-    go (is_nothing f v) q = let z : ◌≡◌ {A = ℕ} 0 1 = cc in omega arith
-    go (is_text c v) q = let z : ◌≡◌ {A = ℕ} 0 1 = cc in omega arith
+    go : {x : Sought} → Outcome b i x → together x (Ok (Some t)) ≡ InSupplement t.place t.size
+    go (is_malformed d) = absurd (w _ d)
+    go (is_nothing f v) = refl
+    go (is_text c v) = refl
 
 -- R256, R257: a record in the supplement hides the base sheet's, whatever that has, and however short the text
 pub hides_base : (b s : List ℕ) (i : ℕ) {at : ℕ} → Whole b → Whole s → Counts s i at →
     look b s i ≡ InSupplement (at + 11) (body_bytes s at - 8)
 unfolding look
 hides_base b s i {at} v w c =
-    ap (together (seek b i)) (last_counts s i w c) ∙ over_nothing (seek b i) s at (whole_seek b i v)
+    ap (together (seek b i)) (last_counts s i w c) ∙ over_whole b i (text_at s at) v
 
 -- and a row that holds is the one that a look-up comes to
 pub looked_sole : (b s : List ℕ) (i : ℕ) {f : Found} → Looked b s i f → look b s i ≡ f
@@ -227,9 +219,9 @@ looked_sole b s i (bad_base d) = damaged_base b s i d
 looked_sole b s i (bad_supplement d) = damaged_supplement b s i d
 looked_sole b s i (in_supplement v w c) = hides_base b s i v w c
 looked_sole b s i (in_base {at} v w f c) =
-    ap (λ (y : Sought). together (seek b i) y) (unnamed_nothing s i w f) ∙ ap (λ (x : Sought). together x Nothing) (last_counts b i v c)
+    ap (λ (y : Sought). together (seek b i) y) (unnamed_nothing s i w f) ∙ ap (λ (x : Sought). together x (Ok None)) (last_counts b i v c)
 looked_sole b s i (nowhere v w f g) =
-    ap (λ (y : Sought). together (seek b i) y) (unnamed_nothing s i w g) ∙ ap (λ (x : Sought). together x Nothing) (unnamed_nothing b i v f)
+    ap (λ (y : Sought). together (seek b i) y) (unnamed_nothing s i w g) ∙ ap (λ (x : Sought). together x (Ok None)) (unnamed_nothing b i v f)
 
 -- R256, R258: in whole sheets a text is found exactly if a record names the index
 pub found_exactly : (b s : List ℕ) (i : ℕ) → Whole b → Whole s →

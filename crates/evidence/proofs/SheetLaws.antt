@@ -1,18 +1,19 @@
 -- Reading a sheet record by record.
 use Prim.Native.Nat.{ℕ, zero, suc, ◌+◌, ◌-◌, ◌≤◌, ◌<◌}
-use mathlib.Core.Path.{◌≡◌, refl, sym, ap, ◌∙◌}
+use mathlib.Core.Path.{◌≡◌, refl, ap, ◌∙◌}
 use mathlib.Core.Bool.{Bool, true, false}
-use mathlib.Core.Logic.{◌≢◌}
 use mathlib.Core.List.{List, []}
 use mathlib.Core.Option.{Option, none, some}
 use native.Mathlib.Omega.{arith}
 use lib.Dec.{leb, eqb}
 use lib.ListN.{length, get_or}
-use borrow.Author.Tests.{leb-true, leb-false, eqb-true, le-leb, lt-leb, eq-eqb}
+use borrow.Author.Tests.{leb-true, leb-false, eqb-true, le-leb, lt-leb}
 use Rattle.blocks.specs.Choice.{both}
-use Rattle.blocks.proofs.BoolLaws.{by_t, is_false, both_l, both_r}
-use Rattle.evidence.specs.Sheets.{body_bytes, is_record, index_at, onto, records_from, rest_at, latest, sought_in, Sought}
-use Rattle.evidence.specs.Reading.{size_at, newer}
+use Rattle.blocks.proofs.BoolLaws.{by_t, both_l, both_r}
+use Rattle.evidence.specs.Sheets.{body_bytes, is_record, index_at, onto, records_from, rest_at, latest, sought_in, Span}
+use Rattle.evidence.specs.Reading.{newer}
+use Rattle.std.specs.Prelude as rust
+use Rattle.std.specs.Prelude.{Ok}
 
 -- the tests of a whole record
 pub record Good (s : List ℕ) (at : ℕ) : Type 0 where
@@ -29,50 +30,6 @@ good s at t =
     let t₁ : both b (both c d) ≡ true = both_r a (both b (both c d)) t in
     let t₂ : both c d ≡ true = both_r b (both c d) t₁ in
     record { tag_is = eqb-true _ _ (both_l b (both c d) t₁); body = leb-true _ _ (both_l c d t₂); ends = leb-true _ _ (both_r c d t₂) }
-
--- ITS SIZE
-pub size_yes : (s : List ℕ) (at : ℕ) → is_record s at ≡ true → size_at s at ≡ 3 + body_bytes s at
-unfolding size_at
-size_yes s at t = rw t
-
-size_no : (s : List ℕ) (at : ℕ) → is_record s at ≡ false → 0 ≡ size_at s at
-unfolding size_at
-size_no s at t = rw t
-
-pub has_size : (s : List ℕ) (at : ℕ) {r : ℕ} → r ≡ size_at s at → r ≢ 0 → is_record s at ≡ true
-has_size s at e h = by_t (is_record s at) (λ t. t) (λ t. absurd (h (e ∙ sym (size_no s at t))))
-
-pub no_size : (s : List ℕ) (at : ℕ) {r : ℕ} → r ≡ size_at s at → r ≡ 0 → is_record s at ≡ false
-no_size s at {r} e h = by_t (is_record s at) (λ t. let z : size_at s at ≡ 3 + body_bytes s at = size_yes s at t in absurd (omega arith)) (λ t. t)
-
--- what is left of it for the text
-pub text_size : (s : List ℕ) (at : ℕ) {r : ℕ} → is_record s at ≡ true → r ≡ size_at s at → r - 11 ≡ body_bytes s at - 8
-text_size s at {r} t e = let z : size_at s at ≡ 3 + body_bytes s at = size_yes s at t in omega arith
-
--- why there is none, and its size where there is
-module _ (s : List ℕ) (at : ℕ) where
-  pub size_cut : length s - at < 3 → 0 ≡ size_at s at
-  size_cut h = size_no s at (is_false (λ t. omega (arith, (good s at t).ends)))
-
-  pub size_tag : get_or s at 0 ≢ 48 → 0 ≡ size_at s at
-  size_tag h = size_no s at (is_false (λ t. h (good s at t).tag_is))
-
-  pub size_short : {n : ℕ} → n ≡ body_bytes s at → n < 8 → 0 ≡ size_at s at
-  size_short e h = size_no s at (is_false (λ t. omega (arith, (good s at t).body)))
-
-  pub size_long : {n : ℕ} → n ≡ body_bytes s at → length s - at < 3 + n → 0 ≡ size_at s at
-  size_long e h = size_no s at (is_false (λ t. omega (arith, (good s at t).ends)))
-
-  pub size_full : {n : ℕ} → at < length s → get_or s at 0 ≡ 48 → n ≡ body_bytes s at → 8 ≤ n → 3 + n ≤ length s - at → 3 + n ≡ size_at s at
-  unfolding size_at
-  size_full {n} h g e b l = rw (
-    ← e,
-    le-leb (at + 3) (length s) (omega arith),
-    eq-eqb (get_or s at 0) 48 g,
-    le-leb 8 n b,
-    le-leb
-        (at + 3 + n) (length s) (omega arith),
-  )
 
 -- THE RECORDS IN ORDER
 -- more than enough places to read change nothing
@@ -104,10 +61,10 @@ rest_on s at h r =
     (omega (arith, w.ends)) (omega (arith, w.ends))))
 
 -- WHAT IS KNOWN AFTER A RECORD
-known : (s : List ℕ) (at i : ℕ) (b : Sought) (r : Option (List ℕ)) → sought_in s i b (onto at r) ≡ sought_in s i (newer s at i b) r
+known : (s : List ℕ) (at i : ℕ) (b : rust.Option Span) (r : Option (List ℕ)) → sought_in s i b (onto at r) ≡ sought_in s i (newer s at i b) r
 known s at i b none = refl
-known s at i b (some ats) = ap (latest s i ats) (by_t (eqb (index_at s at) i) (λ t. rw t) (λ t. rw t))
+known s at i b (some ats) = ap (λ (x : rust.Option Span). Ok (latest s i ats x)) (by_t (eqb (index_at s at) i) (λ t. rw t) (λ t. rw t))
 
-pub sought_on : (s : List ℕ) (at i : ℕ) (b : Sought) → at < length s → is_record s at ≡ true →
+pub sought_on : (s : List ℕ) (at i : ℕ) (b : rust.Option Span) → at < length s → is_record s at ≡ true →
     sought_in s i b (rest_at s at) ≡ sought_in s i (newer s at i b) (rest_at s (at + (3 + body_bytes s at)))
 sought_on s at i b h r = ap (sought_in s i b) (rest_on s at h r) ∙ known s at i b (rest_at s (at + (3 + body_bytes s at)))

@@ -1,13 +1,12 @@
 -- Records, damage and what a sheet names, as R254 and R255 word them and without the reading in order.
-use Rattle.std.specs.Prelude.{ℕ, ◌+◌, ◌-◌, ◌≤◌, ◌<◌, ◌≡◌, true, false, List, length}
+use Rattle.std.specs.Prelude.{ℕ, ◌+◌, ◌-◌, ◌≤◌, ◌<◌, ◌≡◌, true, false, List, length, None, Some, Ok}
 use Rattle.evidence.specs.Sheets.{
   body_bytes,
   is_record,
   index_at,
   text_at,
   Sought,
-  Nothing,
-  Malformed,
+  malformed,
   Found,
   Nowhere,
   InBase,
@@ -46,9 +45,9 @@ Unnamed s i = (at : ℕ) → Names s i at → ⊥
 
 -- ONE SHEET: a row for each outcome
 pub data Outcome (s : List ℕ) (i : ℕ) : Sought → Type 0 where
-  is_malformed : {at : ℕ} → DamagedAt s at → Outcome s i Malformed
-  is_nothing : Unnamed s i → Whole s → Outcome s i Nothing
-  is_text : {at : ℕ} → Counts s i at → Whole s → Outcome s i (text_at s at)
+  is_malformed : {at : ℕ} → DamagedAt s at → Outcome s i malformed
+  is_nothing : Unnamed s i → Whole s → Outcome s i (Ok None)
+  is_text : {at : ℕ} → Counts s i at → Whole s → Outcome s i (Ok (Some (text_at s at)))
 
 -- BOTH SHEETS: a row for each answer (R256 to R259)
 pub data Looked (b s : List ℕ) (i : ℕ) : Found → Type 0 where

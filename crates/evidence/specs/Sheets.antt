@@ -3,8 +3,10 @@ use Rattle.std.specs.Prelude.{ℕ, zero, suc, ◌+◌, ◌-◌, Bool, List, [], 
 use Rattle.std.proofs.Math.Option.{Option, none, some}
 use Rattle.blocks.specs.Choice.{pick, both}
 use Rattle.words.specs.Bytes.{number_at}
-pub use Rattle.evidence.specs.declared.Sought.{Sought}
-pub use Rattle.evidence.specs.declared.Sought.TheVariants.{Nothing, Text, Malformed}
+use Rattle.std.specs.Prelude as rust
+use Rattle.std.specs.Prelude.{None, Some, Ok, Err}
+pub use Rattle.evidence.specs.declared.Span.{Span}
+pub use Rattle.evidence.specs.declared.Malformed.{Malformed}
 pub use Rattle.evidence.specs.declared.Found.{Found}
 pub use Rattle.evidence.specs.declared.Found.TheVariants.{Nowhere, InBase, InSupplement, BadSheet}
 
@@ -23,8 +25,8 @@ abbrev pub index_at : List ℕ → ℕ → ℕ
 index_at s at = number_at s (at + 3) 8
 
 -- where its text stands, and its length
-abbrev pub text_at : List ℕ → ℕ → Sought
-text_at s at = Text (at + 11) (body_bytes s at - 8)
+abbrev pub text_at : List ℕ → ℕ → Span
+text_at s at = record { place = at + 11; size = body_bytes s at - 8 }
 
 -- A SHEET (R252)
 -- where its records begin, in order, from a place on, at most n of them; none where one is malformed
@@ -43,26 +45,31 @@ unfoldable pub rest_at : List ℕ → ℕ → Option (List ℕ)
 rest_at s at = records_from s (suc (length s - at)) at
 
 -- R255: a later record of the index takes an earlier one's place
-abbrev pub latest : List ℕ → ℕ → List ℕ → Sought → Sought
+abbrev pub latest : List ℕ → ℕ → List ℕ → rust.Option Span → rust.Option Span
 latest s i [] b = b
-latest s i (at ∷ ats) b = latest s i ats (pick (eqb (index_at s at) i) (text_at s at) b)
+latest s i (at ∷ ats) b = latest s i ats (pick (eqb (index_at s at) i) (Some (text_at s at)) b)
 
-abbrev pub sought_in : List ℕ → ℕ → Sought → Option (List ℕ) → Sought
-sought_in s i b none = Malformed
-sought_in s i b (some ats) = latest s i ats b
+-- what a look-up in one sheet comes to: no text of the index, or the last, or that the sheet is malformed
+abbrev pub Sought : Type 0
+Sought = rust.Result (rust.Option Span) Malformed
+
+abbrev pub malformed : Sought
+malformed = Err (record {})
+
+abbrev pub sought_in : List ℕ → ℕ → rust.Option Span → Option (List ℕ) → Sought
+sought_in s i b none = malformed
+sought_in s i b (some ats) = Ok (latest s i ats b)
 
 unfoldable pub seek : List ℕ → ℕ → Sought
-seek s i = sought_in s i Nothing (rest_at s 0)
+seek s i = sought_in s i None (rest_at s 0)
 
 -- BOTH SHEETS (R256 to R259): the supplement before the base sheet; a malformed one, either, before all
 abbrev pub together : (base supplement : Sought) → Found
-together Malformed s = BadSheet
-together Nothing Malformed = BadSheet
-together Nothing Nothing = Nowhere
-together Nothing (Text p n) = InSupplement p n
-together (Text q m) Malformed = BadSheet
-together (Text q m) Nothing = InBase q m
-together (Text q m) (Text p n) = InSupplement p n
+together (Err e) s = BadSheet
+together (Ok b) (Err e) = BadSheet
+together (Ok b) (Ok (Some t)) = InSupplement t.place t.size
+together (Ok (Some t)) (Ok None) = InBase t.place t.size
+together (Ok None) (Ok None) = Nowhere
 
 unfoldable pub look : (base supplement : List ℕ) → (index : ℕ) → Found
 look b s i = together (seek b i) (seek s i)

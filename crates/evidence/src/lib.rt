@@ -4,10 +4,10 @@
 // s, base, supplement: the borrowed bytes of a sheet; at: a place in them; size: the bytes of a record, or of a text.
 #![tactic(auto)]
 
-ghost use Rattle.std.specs.Prelude.{◌≡◌, true, ◌<◌, length};
-ghost use Rattle.evidence.specs.Sheets.{is_record, seek, together, look};
+ghost use Rattle.std.specs.Prelude.{◌≡◌, true, ◌+◌, ◌<◌, length};
+ghost use Rattle.evidence.specs.Sheets.{body_bytes, is_record, seek, together, look};
 ghost use Rattle.evidence.specs.Parts.{IsPart};
-ghost use Rattle.evidence.specs.Reading.{size_at, named_at, over};
+ghost use Rattle.evidence.specs.Reading.{SizeAt, named_at};
 
 const TAG: u8 = 48;
 
@@ -18,15 +18,21 @@ const INDEX_BYTES: usize = 8;
 
 const TEXT_AT: usize = 11;
 
-// What a look-up in one sheet comes to.
+// Where a text stands in its sheet.
 #[derive(Clone, Copy)]
-pub enum Sought {
-    Nothing,
-    Text { place: usize, size: usize },
-    Malformed,
+pub struct Span {
+    pub place: usize,
+    pub size: usize,
 }
 
-// What a look-up in both comes to.
+// A sheet that is not records to its end.
+#[derive(Clone, Copy)]
+pub struct Malformed;
+
+// What a look-up in one sheet comes to.
+pub type Sought = Result<Option<Span>, Malformed>;
+
+// What a look-up in both comes to: the answers of R256 to R259, which xapool hands on by these names.
 #[derive(Clone, Copy)]
 pub enum Found {
     Nowhere,
@@ -35,55 +41,34 @@ pub enum Found {
     BadSheet,
 }
 
-// The bytes of the record at a place; 0 where there is no whole one.
-fn size_at(s: &[u8], at: usize) -> usize
+// The bytes of the record at a place, if there is a whole one.
+fn size_at(s: &[u8], at: usize) -> Option<usize>
     requires { at < length s.now }
-    ensures { result ≡ size_at s.now at }
+    ensures { SizeAt s.now at result }
 {
-    if s.len() - at < HEAD_BYTES {
-        return 0;
-    }
-    if s[at] != TAG {
-        return 0;
+    if s.len() - at < HEAD_BYTES || s[at] != TAG {
+        return None;
     }
     let n = words::number2(s, at + 1) as usize;
-    if n < INDEX_BYTES {
-        return 0;
+    if n < INDEX_BYTES || s.len() - at < HEAD_BYTES + n {
+        return None;
     }
-    if s.len() - at < HEAD_BYTES + n {
-        return 0;
-    }
-    HEAD_BYTES + n
+    Some(HEAD_BYTES + n)
 }
 
 // The text of the record at a place, if it names the index.
-fn named_at(s: &[u8], at: usize, size: usize, index: u64) -> Sought
+fn named_at(s: &[u8], at: usize, size: usize, index: u64) -> Option<Span>
     requires at_value { is_record s.now at ≡ true }
-    requires size_value { size ≡ size_at s.now at }
+    requires size_value { size ≡ 3 + body_bytes s.now at }
     ensures { result ≡ named_at s.now at index }
 {
     if words::number8(s, at + HEAD_BYTES) == index {
-        return Sought::Text {
+        Some(Span {
             place: at + TEXT_AT,
             size: size - TEXT_AT,
-        };
-    }
-    Sought::Nothing
-}
-
-// A later text, if there is one, takes an earlier one's place. The earlier one is written anew and not handed on: an enum that is
-// copied whole, with the bytes between its fields, costs the loop four times as much.
-fn over(later: Sought, earlier: Sought) -> Sought
-    ensures { result ≡ over later earlier }
-{
-    match later {
-        Sought::Text { place, size } => Sought::Text { place, size },
-        Sought::Malformed => Sought::Malformed,
-        Sought::Nothing => match earlier {
-            Sought::Text { place: p, size: n } => Sought::Text { place: p, size: n },
-            Sought::Nothing => Sought::Nothing,
-            Sought::Malformed => Sought::Malformed,
-        },
+        })
+    } else {
+        None
     }
 }
 
@@ -92,35 +77,27 @@ pub fn seek(s: &[u8], index: u64) -> Sought
     ensures { result ≡ seek s.now index }
 {
     let mut at: usize = 0;
-    let mut best = Sought::Nothing;
+    let mut best = None;
     while at < s.len() {
-        let size = size_at(s, at);
-        if size == 0 {
-            return Sought::Malformed;
-        }
-        let text = named_at(s, at, size, index);
-        best = over(text, best);
-        at = at + size;
+        let Some(size) = size_at(s, at) else {
+            return Err(Malformed);
+        };
+        best = named_at(s, at, size, index).or(best);
+        at += size;
     }
-    best
+    Ok(best)
 }
 
 // The supplement goes first; a malformed sheet, either one, before all.
 fn together(base: Sought, supplement: Sought) -> Found
     ensures { result ≡ together base supplement }
 {
-    match base {
-        Sought::Malformed => Found::BadSheet,
-        Sought::Nothing => match supplement {
-            Sought::Malformed => Found::BadSheet,
-            Sought::Nothing => Found::Nowhere,
-            Sought::Text { place, size } => Found::InSupplement { place, size },
-        },
-        Sought::Text { place, size } => match supplement {
-            Sought::Malformed => Found::BadSheet,
-            Sought::Nothing => Found::InBase { place, size },
-            Sought::Text { place: p, size: n } => Found::InSupplement { place: p, size: n },
-        },
+    match (base, supplement) {
+        (Err(_), _) => Found::BadSheet,
+        (_, Err(_)) => Found::BadSheet,
+        (_, Ok(Some(Span { place, size }))) => Found::InSupplement { place, size },
+        (Ok(Some(Span { place, size })), Ok(None)) => Found::InBase { place, size },
+        (Ok(None), Ok(None)) => Found::Nowhere,
     }
 }
 

@@ -25,9 +25,10 @@ use Rattle.layout.proofs.PlacesLaws.{free_places}
 use Rattle.layout.proofs.StayLaws.{same_places, places_prune}
 use Rattle.lookup.specs.Load.{load, loaded, depth}
 use Rattle.lookup.specs.Find.{any_mark, find}
-use Rattle.store.specs.declared.Stored.{Stored}
-use Rattle.store.specs.declared.Stored.TheVariants.{Done, Short, Taken}
-use Rattle.store.specs.Stored.{Holding, Stores, Reserves, taken, tried}
+use Rattle.std.specs.Prelude.{Some, Ok, Err}
+use Rattle.std.proofs.lemmas.Option.{none-some, same_Some}
+use Rattle.store.specs.declared.Refused.{Refused}
+use Rattle.store.specs.Stored.{Stored, Holding, Stores, Reserves, taken, tried}
 use Rattle.store.proofs.AfterLaws.{after_done}
 use Rattle.freenodes.proofs.FollowLaws.{map_stays}
 use Rattle.erase.proofs.FreedLaws.{map_remark}
@@ -168,7 +169,7 @@ module _ (n : ℕ) (l : List Entry) (i k w : ℕ) where
 
 -- its last step, by what it came to
 module _ {ws : List ℕ} (s : WellFormed ws) (i : ℕ) {x : Stored} {q : Reply} where
-  pub settles_done : {ws' : List ℕ} {e : Entry} → x ≡ Done e →
+  pub settles_done : {ws' : List ℕ} {e : Entry} → x ≡ Ok e →
       (covering s.list i ≡ some e → (q ≡ covered_reply store_reply (covered (covering (remark s.list i matched_mark false) i)))
       × (ws' ≡ render (remark s.list i matched_mark false) s.places s.n)) →
       Settles s i x q ws'
@@ -177,16 +178,10 @@ module _ {ws : List ℕ} (s : WellFormed ws) (i : ℕ) {x : Stored} {q : Reply} 
     short = λ o. let w : ◌≡◌ {A = ℕ} 0 1 = cc in absurd (omega arith);
   }
 
-  pub settles_short : x ≡ Short → q ≡ answered store_reply too_few_nodes 0 0 → Settles s i x q ws
-  settles_short d e = record {
+  pub settles_refused : {y : Refused} → x ≡ Err y → q ≡ answered store_reply too_few_nodes 0 0 → Settles s i x q ws
+  settles_refused d e = record {
     done = λ o c. let w : ◌≡◌ {A = ℕ} 0 1 = cc in absurd (omega arith);
     short = λ _. (e, refl);
-  }
-
-  pub settles_taken : x ≡ Taken → Settles s i x q ws
-  settles_taken d = record {
-    done = λ o c. let w : ◌≡◌ {A = ℕ} 0 1 = cc in absurd (omega arith);
-    short = λ o. let w : ◌≡◌ {A = ℕ} 0 1 = cc in absurd (omega arith);
   }
 
 -- done, or short of nodes: exactly as the free nodes are enough. Crate store leaves ws₁, in ws' mark 2 is clear as well
@@ -348,28 +343,11 @@ pub words_stay : {ws ws₁ ws' : List ℕ} (s : WellFormed ws) {c : Command} {q 
 words_stay s {c} {q} e x = subst (λ (v : List ℕ). Executes s c q v) (sym e) x
 
 -- the command, by what it asks of a store
-pub put_is : (c : Command) {p : Put} → p ≡ put_of c → p.is ≡ true → c ≡ putting p.index p.order p.word p.reserve
-put_is c e =
-    subst (λ (y : Put). y.is ≡ true → c ≡ putting y.index y.order y.word y.reserve) (sym e) (go c)
-  where
-    go : (c : Command) → let y = put_of c in y.is ≡ true → c ≡ putting y.index y.order y.word y.reserve
-    go (Store i k w) t = refl
-    go (Load i) t = absurd (clash t refl)
-    go (Erase i) t = absurd (clash t refl)
-    go (Mark i m) t = absurd (clash t refl)
-    go (Unmark i m) t = absurd (clash t refl)
-    go (Find a z f k) t = absurd (clash t refl)
-    go (Reserve i) t = refl
-
-pub put_bare : (c : Command) {p : Put} → p ≡ put_of c → p.reserve ≡ true → (p.order ≡ 0) × (p.word ≡ reserved_word)
-put_bare c e =
-    subst (λ (y : Put). y.reserve ≡ true → (y.order ≡ 0) × (y.word ≡ reserved_word)) (sym e) (go c)
-  where
-    go : (c : Command) → (put_of c).reserve ≡ true → ((put_of c).order ≡ 0) × ((put_of c).word ≡ reserved_word)
-    go (Store i k w) t = absurd (clash t refl)
-    go (Load i) t = absurd (clash t refl)
-    go (Erase i) t = absurd (clash t refl)
-    go (Mark i m) t = absurd (clash t refl)
-    go (Unmark i m) t = absurd (clash t refl)
-    go (Find a z f k) t = absurd (clash t refl)
-    go (Reserve i) t = (refl, refl)
+pub put_is : (c : Command) {p : Put} → Some p ≡ put_of c → c ≡ putting p.index p.order p.word p.reserve
+put_is (Store i k w) e = subst (λ (y : Put). Store i k w ≡ putting y.index y.order y.word y.reserve) (same_Some _ _ (sym e)) refl
+put_is (Load i) e = absurd (none-some _ (sym e))
+put_is (Erase i) e = absurd (none-some _ (sym e))
+put_is (Mark i m) e = absurd (none-some _ (sym e))
+put_is (Unmark i m) e = absurd (none-some _ (sym e))
+put_is (Find a z f k) e = absurd (none-some _ (sym e))
+put_is (Reserve i) e = subst (λ (y : Put). Reserve i ≡ putting y.index y.order y.word y.reserve) (same_Some _ _ (sym e)) refl

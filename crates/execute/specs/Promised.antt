@@ -1,34 +1,36 @@
 -- What the functions of this crate promise.
-use Rattle.std.specs.Prelude.{ℕ, ◌≡◌, Bool, true, false, List}
+use Rattle.std.specs.Prelude.{ℕ, ◌≡◌, Bool, true, false, List, Option, Some, None, Ok, Err}
 use Rattle.std.proofs.Math.Option.{some}
 use Rattle.model.specs.declared.Entry.{Entry}
 use Rattle.model.specs.Model.{reserved_word, matched_mark, covering, covered, remark}
 use Rattle.layout.specs.Places.{render}
 use Rattle.layout.specs.WellFormed.{WellFormed}
 use Rattle.lookup.specs.declared.Loaded.{Loaded}
-use Rattle.lookup.specs.declared.Loaded.TheVariants.{Absent, Present}
 use Rattle.batch.specs.declared.Command.{Command}
 use Rattle.batch.specs.declared.Command.TheVariants.{Store, Load, Erase, Mark, Unmark, Find, Reserve}
 use Rattle.batch.specs.declared.Reply.{Reply}
 use Rattle.batch.specs.Reply.{answered, answered_by, store_reply, reserve_reply}
 use Rattle.commands.specs.Replies.{covered_reply}
-use Rattle.store.specs.declared.Stored.{Stored}
-use Rattle.store.specs.declared.Stored.TheVariants.{Done, Short, Taken}
+use Rattle.store.specs.Stored.{Stored}
+use Rattle.store.specs.declared.Refused.TheVariants.{Short, Taken}
 pub use Rattle.execute.specs.declared.Put.{Put}
 use Rattle.execute.specs.Execute.{execute}
 use Rattle.answers.specs.Answers.{absent, too_few_nodes, is_covered}
 use Rattle.execute.specs.State.{State, next}
 
 -- the reply by what a load finds
+abbrev pub entry_reply : (t d : ℕ) → Option Entry → Reply
+entry_reply t d None = answered t absent 0 d
+entry_reply t d (Some e) = answered_by t e d
+
 abbrev pub loaded_reply : ℕ → Loaded → Reply
-loaded_reply t (Absent d) = answered t absent 0 d
-loaded_reply t (Present e d) = answered_by t e d
+loaded_reply t x = entry_reply t x.nodes x.entry
 
 -- the reply by what a reservation comes to
 abbrev pub reserved_reply : Stored → Reply
-reserved_reply (Done e) = answered_by reserve_reply e 0
-reserved_reply Short = answered reserve_reply too_few_nodes 0 0
-reserved_reply Taken = answered reserve_reply is_covered 0 0
+reserved_reply (Ok e) = answered_by reserve_reply e 0
+reserved_reply (Err Short) = answered reserve_reply too_few_nodes 0 0
+reserved_reply (Err Taken) = answered reserve_reply is_covered 0 0
 
 -- a store, or a reservation
 abbrev pub putting : (i k w : ℕ) → Bool → Command
@@ -36,17 +38,14 @@ putting i k w false = Store i k w
 putting i k w true = Reserve i
 
 -- what a command asks of a store
-abbrev pub no_put : Put
-no_put = record { is = false; index = 0; order = 0; word = 0; reserve = false }
-
-abbrev pub put_of : Command → Put
-put_of (Store i k w) = record { is = true; index = i; order = k; word = w; reserve = false }
-put_of (Load i) = no_put
-put_of (Erase i) = no_put
-put_of (Mark i m) = no_put
-put_of (Unmark i m) = no_put
-put_of (Find a z f k) = no_put
-put_of (Reserve i) = record { is = true; index = i; order = 0; word = reserved_word; reserve = true }
+abbrev pub put_of : Command → Option Put
+put_of (Store i k w) = Some (record { index = i; order = k; word = w; reserve = false })
+put_of (Load i) = None
+put_of (Erase i) = None
+put_of (Mark i m) = None
+put_of (Unmark i m) = None
+put_of (Find a z f k) = None
+put_of (Reserve i) = Some (record { index = i; order = 0; word = reserved_word; reserve = true })
 
 -- the command that sets a mark, or clears it
 abbrev pub remarking : (i m : ℕ) → Bool → Command
@@ -80,10 +79,10 @@ as_stored r =
 
 -- the last step of a store that came to x: mark 2 of the entry that it left over i is cleared, and the reply
 pub record Settles {ws : List ℕ} (s : WellFormed ws) (i : ℕ) (x : Stored) (r : Reply) (ws' : List ℕ) : Type 0 where
-  pub done : {e : Entry} → x ≡ Done e → covering s.list i ≡ some e →
+  pub done : {e : Entry} → x ≡ Ok e → covering s.list i ≡ some e →
       (r ≡ covered_reply store_reply (covered (covering (remark s.list i matched_mark false) i)))
       × (ws' ≡ render (remark s.list i matched_mark false) s.places s.n)
-  pub short : x ≡ Short → (r ≡ answered store_reply too_few_nodes 0 0) × (ws' ≡ ws)
+  pub short : x ≡ Err Short → (r ≡ answered store_reply too_few_nodes 0 0) × (ws' ≡ ws)
 
 -- the reply and the words after a command
 pub record Executes {ws : List ℕ} (s : WellFormed ws) (c : Command) (r : Reply) (ws' : List ℕ) : Type 0 where

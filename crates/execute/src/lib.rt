@@ -3,31 +3,27 @@
 // pool: the borrowed words, well-formed; map: the map of its free nodes; tag: the reply's.
 #![tactic(auto)]
 
-ghost use Rattle.std.specs.Prelude.{◌≡◌, true, false, List, ℕ};
+ghost use Rattle.std.specs.Prelude.{◌≡◌, true, false, List, ℕ, None};
 ghost use Rattle.std.proofs.Math.Option.{some};
-ghost use Rattle.batch.specs.Reply.{store_reply, load_reply, mark_reply, unmark_reply, find_reply};
-ghost use Rattle.blocks.specs.Choice.{pick};
+ghost use Rattle.batch.specs.Reply.{store_reply, load_reply, find_reply};
 ghost use Rattle.model.specs.Model.{reserved_word, matched_mark, covering, covered, remark};
 ghost use Rattle.layout.specs.Places.{render};
 ghost use Rattle.layout.specs.WellFormed.{WellFormed};
 ghost use Rattle.freenodes.specs.FreeNodes.{FreeMap};
 ghost use Rattle.execute.specs.Execute.{finding};
 ghost use Rattle.commands.specs.Replies.{covered_reply};
-ghost use Rattle.execute.specs.Promised.{loaded_reply, reserved_reply, as_stored, putting, put_of, no_put};
+ghost use Rattle.execute.specs.Promised.{loaded_reply, reserved_reply, putting, put_of};
 ghost use Rattle.execute.specs.Promised.{remarking, reply_to, Settles, Executes};
 
-use answers::{
-    ABSENT, BAD_ENTRY, BAD_MARK, BAD_ORDER, COVERED, ENDED, FIRST_ABOVE_LAST, NO_BUDGET,
-    NOT_ALIGNED, PAUSED, TOO_FEW_NODES,
-};
+use answers::Answer;
 use batch::{Command, Reply};
 use commands::{
-    ERASE_REPLY, FIND_REPLY, LOAD_REPLY, MARK_REPLY, RESERVE_REPLY, STORE_REPLY, UNMARK_REPLY,
-    answered, answered_by, covered_reply, is_aligned, is_enterable,
+    ERASE_REPLY, FIND_REPLY, LOAD_REPLY, RESERVE_REPLY, STORE_REPLY, answered, answered_by,
+    covered_reply, is_aligned, is_enterable, remarked_tag,
 };
 use lookup::{Loaded, Outcome};
 use model::Entry;
-use store::Stored;
+use store::Refused;
 
 // The highest order of an entry, the number of marks, and the filter that takes any entry.
 const MAX_ORDER: u64 = 63;
@@ -39,10 +35,9 @@ const ANY_MARK: u64 = 3;
 // The mark that no store hands on (R190).
 const MATCHED: u64 = 2;
 
-// What a command asks of a store, if it is one or a reservation.
+// What a store or a reservation asks.
 #[derive(Clone, Copy)]
 struct Put {
-    is: bool,
     index: u64,
     order: u64,
     word: u64,
@@ -52,9 +47,9 @@ struct Put {
 fn loaded_reply(x: Loaded) -> Reply
     ensures { result ≡ loaded_reply load_reply x }
 {
-    match x {
-        Loaded::Absent(d) => answered(LOAD_REPLY, ABSENT, 0, d),
-        Loaded::Present(e, d) => answered_by(LOAD_REPLY, e, d),
+    match x.entry {
+        None => answered(LOAD_REPLY, Answer::Absent, 0, x.nodes),
+        Some(e) => answered_by(LOAD_REPLY, e, x.nodes),
     }
 }
 
@@ -63,19 +58,19 @@ fn found_reply(x: Outcome) -> Reply
 {
     match x {
         Outcome::Found(e, n) => answered_by(FIND_REPLY, e, n),
-        Outcome::Ended(n) => answered(FIND_REPLY, ENDED, 0, n),
-        Outcome::Paused(p, n) => answered(FIND_REPLY, PAUSED, p, n),
+        Outcome::Ended(n) => answered(FIND_REPLY, Answer::Ended, 0, n),
+        Outcome::Paused(p, n) => answered(FIND_REPLY, Answer::Paused, p, n),
     }
 }
 
 // The reply to a reservation by what it came to.
-fn reserved_reply(x: Stored) -> Reply
+fn reserved_reply(x: Result<Entry, Refused>) -> Reply
     ensures { result ≡ reserved_reply x }
 {
     match x {
-        Stored::Done(e) => answered_by(RESERVE_REPLY, e, 0),
-        Stored::Short => answered(RESERVE_REPLY, TOO_FEW_NODES, 0, 0),
-        Stored::Taken => answered(RESERVE_REPLY, COVERED, 0, 0),
+        Ok(e) => answered_by(RESERVE_REPLY, e, 0),
+        Err(Refused::Short) => answered(RESERVE_REPLY, Answer::TooFewNodes, 0, 0),
+        Err(Refused::Taken) => answered(RESERVE_REPLY, Answer::Covered, 0, 0),
     }
 }
 
@@ -91,22 +86,15 @@ fn run_find(pool: &[u64], first: u64, last: u64, filter: u64, budget: u64) -> Re
     ensures { (s : WellFormed pool.now) → result ≡ reply_to s (Command.Find first last filter budget) }
 {
     if filter > ANY_MARK {
-        return answered(FIND_REPLY, BAD_MARK, 0, 0);
+        return answered(FIND_REPLY, Answer::BadMark, 0, 0);
     }
     if first > last {
-        return answered(FIND_REPLY, FIRST_ABOVE_LAST, 0, 0);
+        return answered(FIND_REPLY, Answer::FirstAboveLast, 0, 0);
     }
     if budget == 0 {
-        return answered(FIND_REPLY, NO_BUDGET, 0, 0);
+        return answered(FIND_REPLY, Answer::NoBudget, 0, 0);
     }
     found_reply(lookup::find::find(pool, first, last, filter, budget))
-}
-
-// The reply's tag of a mark, or of an unmark.
-fn remarked_tag(on: bool) -> u64
-    ensures { result ≡ pick on mark_reply unmark_reply }
-{
-    if on { MARK_REPLY } else { UNMARK_REPLY }
 }
 
 // A mark where the bit is on, an unmark where it is off.
@@ -117,7 +105,7 @@ fn run_remark(pool: &mut [u64], index: u64, mark: u64, on: bool) -> Reply
 {
     let tag = remarked_tag(on);
     if mark >= MARKS {
-        return answered(tag, BAD_MARK, 0, 0);
+        return answered(tag, Answer::BadMark, 0, 0);
     }
     let c = marks::set_mark(pool, index, mark, on);
     covered_reply(tag, c)
@@ -133,21 +121,6 @@ fn run_erase(pool: &mut [u64], map: &mut [u64], index: u64) -> Reply
     covered_reply(ERASE_REPLY, c)
 }
 
-// The reply to an unmark as the reply to a store that left the entry.
-fn as_stored(r: Reply) -> Reply
-    ensures { result ≡ as_stored r }
-{
-    Reply {
-        tag: STORE_REPLY,
-        answer: r.answer,
-        index: r.index,
-        order: r.order,
-        word: r.word,
-        marks: r.marks,
-        count: r.count,
-    }
-}
-
 // Clears mark 2 of the entry e that covers the index (R190); the reply of a store that left it. Where e does not have the
 // mark, this is one test.
 fn unmatch(pool: &mut [u64], index: u64, e: Entry) -> Reply
@@ -159,25 +132,27 @@ fn unmatch(pool: &mut [u64], index: u64, e: Entry) -> Reply
 {
     if (e.marks >> MATCHED) % 2 == 1 {
         let r = run_remark(pool, index, MATCHED, false);
-        return as_stored(r);
+        return Reply {
+            tag: STORE_REPLY,
+            ..r
+        };
     }
     answered_by(STORE_REPLY, e, 0)
 }
 
-// The reply to a store by what it came to; only a reservation comes to the last.
-fn stored_reply(pool: &mut [u64], index: u64, x: Stored) -> Reply
+// The reply to a store by what it came to; only a reservation is refused for what covers its index.
+fn stored_reply(pool: &mut [u64], index: u64, x: Result<Entry, Refused>) -> Reply
     requires { WellFormed pool.old }
     ensures { (s : WellFormed pool.old) → Settles s index x result pool.new }
 {
     match x {
-        Stored::Done(e) => unmatch(pool, index, e),
-        Stored::Short => answered(STORE_REPLY, TOO_FEW_NODES, 0, 0),
-        Stored::Taken => answered(STORE_REPLY, TOO_FEW_NODES, 0, 0),
+        Ok(e) => unmatch(pool, index, e),
+        Err(_) => answered(STORE_REPLY, Answer::TooFewNodes, 0, 0),
     }
 }
 
 // The reply to a store, or to a reservation, by what it came to.
-fn put_reply(pool: &mut [u64], index: u64, x: Stored, reserve: bool) -> Reply
+fn put_reply(pool: &mut [u64], index: u64, x: Result<Entry, Refused>, reserve: bool) -> Reply
     requires { reserve ≡ false → WellFormed pool.old }
     ensures value { reserve ≡ true → (result ≡ reserved_reply x) × (pool.new ≡ pool.old) }
     ensures settles { reserve ≡ false → (s : WellFormed pool.old) → Settles s index x result pool.new }
@@ -206,84 +181,50 @@ fn run_store(
     ensures free_map_2 { FreeMap pool.new map.new }
 {
     if order > MAX_ORDER {
-        return answered(STORE_REPLY, BAD_ORDER, 0, 0);
+        return answered(STORE_REPLY, Answer::BadOrder, 0, 0);
     }
     let aligned = is_aligned(index, order);
     let enterable = is_enterable(word, reserve);
     if !aligned {
-        return answered(STORE_REPLY, NOT_ALIGNED, 0, 0);
+        return answered(STORE_REPLY, Answer::NotAligned, 0, 0);
     }
     if !enterable {
-        return answered(STORE_REPLY, BAD_ENTRY, 0, 0);
+        return answered(STORE_REPLY, Answer::BadEntry, 0, 0);
     }
     let outcome = store::store(pool, map, index, order, word);
     put_reply(pool, index, outcome, reserve)
 }
 
-// No store and no reservation.
-fn no_put() -> Put
-    ensures { result ≡ no_put }
-{
-    Put {
-        is: false,
-        index: 0,
-        order: 0,
-        word: 0,
-        reserve: false,
-    }
-}
-
-// What a command asks of a store.
-fn as_put(c: Command) -> Put
+// What a command asks of a store, if it is one or a reservation.
+fn as_put(c: Command) -> Option<Put>
     ensures { result ≡ put_of c }
 {
     match c {
-        Command::Store { index, order, word } => Put {
-            is: true,
-            index: index,
-            order: order,
-            word: word,
+        Command::Store { index, order, word } => Some(Put {
+            index,
+            order,
+            word,
             reserve: false,
-        },
-        Command::Load { index: _ } => no_put(),
-        Command::Erase { index: _ } => no_put(),
-        Command::Mark { index: _, mark: _ } => no_put(),
-        Command::Unmark { index: _, mark: _ } => no_put(),
-        Command::Find {
-            first: _,
-            last: _,
-            filter: _,
-            budget: _,
-        } => no_put(),
-        Command::Reserve { index } => Put {
-            is: true,
-            index: index,
+        }),
+        Command::Reserve { index } => Some(Put {
+            index,
             order: 0,
             word: model::RESERVED,
             reserve: true,
-        },
+        }),
+        _ => None,
     }
-}
-
-// For the commands that run_other is not called with.
-fn nothing() -> Reply {
-    answered(STORE_REPLY, BAD_ORDER, 0, 0)
 }
 
 // Any command but a store and a reservation.
 fn run_other(pool: &mut [u64], map: &mut [u64], c: Command) -> Reply
     requires well_formed { WellFormed pool.old }
     requires free_map { FreeMap pool.old map.old }
-    requires c_value { (put_of c).is ≡ false }
+    requires c_value { put_of c ≡ None }
     ensures executes { (s : WellFormed pool.old) → Executes s c result pool.new }
     ensures free_map_2 { FreeMap pool.new map.new }
 {
     match c {
-        Command::Store {
-            index: _,
-            order: _,
-            word: _,
-        } => nothing(),
         Command::Load { index } => run_load(pool, index),
         Command::Erase { index } => run_erase(pool, map, index),
         Command::Mark { index, mark } => run_remark(pool, index, mark, true),
@@ -294,7 +235,7 @@ fn run_other(pool: &mut [u64], map: &mut [u64], c: Command) -> Reply
             filter,
             budget,
         } => run_find(pool, first, last, filter, budget),
-        Command::Reserve { index: _ } => nothing(),
+        Command::Store { .. } | Command::Reserve { .. } => unreachable!(),
     }
 }
 
@@ -305,9 +246,8 @@ pub fn execute(pool: &mut [u64], map: &mut [u64], c: Command) -> Reply
     ensures executes { (s : WellFormed pool.old) → Executes s c result pool.new }
     ensures free_map_2 { FreeMap pool.new map.new }
 {
-    let p = as_put(c);
-    if p.is {
-        return run_store(pool, map, p.index, p.order, p.word, p.reserve);
+    match as_put(c) {
+        Some(p) => run_store(pool, map, p.index, p.order, p.word, p.reserve),
+        None => run_other(pool, map, c),
     }
-    run_other(pool, map, c)
 }

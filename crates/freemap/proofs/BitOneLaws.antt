@@ -1,12 +1,15 @@
 -- One bit of a word set by adding its power, or cleared by taking it away.
 use Prim.Native.Nat.{ℕ, zero, suc, ◌+◌, ◌-◌, ◌*◌, ◌/◌, ◌%◌, ◌^◌, ◌≤◌, ◌<◌}
 use mathlib.Core.Path.{◌≡◌, sym, ap, ◌∙◌, subst}
-use native.Mathlib.Nat.{add-div_right, add-mul-div_left, le-div_iff_mul-le, div-lt_iff_lt-mul, zero-div, div-one, pow-suc}
+use mathlib.Core.Bool.{Bool, true, false, not}
+use native.Mathlib.Nat.{add-div_right, add-mul-div_left, le-div_iff_mul-le, zero-div, div-one, pow-suc}
 use native.Mathlib.Omega.{arith}
-use lib.Dec.{ltb}
-use lib.Pow.{pow_pos, pow-add, shr-shr, shr_lt}
-use borrow.Author.Tests.{ltb-true, ltb-false}
-use Rattle.blocks.specs.Blocks.{bit}
+use lib.Dec.{eqb, ltb}
+use lib.Pow.{pow_pos, pow-add, shr-shr}
+use borrow.Author.Tests.{eqb-true, eqb-false, ltb-true, ltb-false}
+use Rattle.blocks.specs.Blocks.{bit, set_bit}
+use Rattle.freemap.specs.FreeMap.{one_if}
+use Rattle.blocks.specs.Choice.{pick}
 use Rattle.blocks.proofs.BoolLaws.{by_t}
 
 -- a word that is 0 has no bit
@@ -47,10 +50,10 @@ set_below w i d =
     omega arith
 
 -- a bit that is clear is set by adding its power
-pub set_on : (w j : ℕ) → bit j w ≡ 0 → bit j (w + 2 ^ j) ≡ 1
+set_on : (w j : ℕ) → bit j w ≡ 0 → bit j (w + 2 ^ j) ≡ 1
 set_on w j h = omega (arith, up_here w j)
 
-pub set_rest : (w j i : ℕ) → bit j w ≡ 0 → (i ≡ j → ⊥) → bit i (w + 2 ^ j) ≡ bit i w
+set_rest : (w j i : ℕ) → bit j w ≡ 0 → (i ≡ j → ⊥) → bit i (w + 2 ^ j) ≡ bit i w
 set_rest w j i h ne =
     by_t (ltb i j)
     (λ t. let l : i < j = ltb-true _ _ t in
@@ -60,26 +63,52 @@ set_rest w j i h ne =
     let e : j + (1 + (i - j - 1)) ≡ i = omega arith in
     ap (λ (x : ℕ). x % 2) (subst (λ (x : ℕ). (w + 2 ^ j) / 2 ^ x ≡ w / 2 ^ x) e (set_above w j (i - j - 1) h)))
 
-pub set_fits : (w j : ℕ) → w < 2 ^ 64 → j < 64 → bit j w ≡ 0 → w + 2 ^ j < 2 ^ 64
-set_fits w j hw hj h =
-    let e : 1 + (63 - j) + j ≡ 64 = omega arith in
-    let two : 2 ^ (1 + (63 - j)) ≡ 2 * 2 ^ (63 - j) = pow-add 2 1 (63 - j) in
-    let x : w / 2 ^ j < 2 ^ (1 + (63 - j)) = shr_lt (1 + (63 - j)) j (subst (λ (n : ℕ). w < 2 ^ n) (sym e) hw) in
-    let y : (w + 2 ^ j) / 2 ^ j < 2 ^ (1 + (63 - j)) = omega (arith, up_here w j) in
-    subst (λ (n : ℕ). w + 2 ^ j < n) (sym (pow-add 2 (1 + (63 - j)) j) ∙ ap (λ (n : ℕ). 2 ^ n) e)
-    ((div-lt_iff_lt-mul (pow_pos j)).0 y)
-
 -- a bit that is set is cleared by taking its power away
-pub clear_le : (w j : ℕ) → bit j w ≡ 1 → 2 ^ j ≤ w
+clear_le : (w j : ℕ) → bit j w ≡ 1 → 2 ^ j ≤ w
 clear_le w j h = let one : 1 ≤ w / 2 ^ j = omega arith in omega (arith, (le-div_iff_mul-le {x = 1} (pow_pos j)).0 one)
 
 module _ (w j : ℕ) (h : bit j w ≡ 1) where
   back : w - 2 ^ j + 2 ^ j ≡ w
   back = omega (arith, clear_le w j h)
 
-  pub clear_off : bit j (w - 2 ^ j) ≡ 0
+  clear_off : bit j (w - 2 ^ j) ≡ 0
   clear_off = let e : w / 2 ^ j ≡ (w - 2 ^ j) / 2 ^ j + 1 = ap (λ (x : ℕ). x / 2 ^ j) (sym back) ∙ up_here
       (w - 2 ^ j) j in omega arith
 
-  pub clear_rest : (i : ℕ) → (i ≡ j → ⊥) → bit i (w - 2 ^ j) ≡ bit i w
+  clear_rest : (i : ℕ) → (i ≡ j → ⊥) → bit i (w - 2 ^ j) ≡ bit i w
   clear_rest i ne = sym (set_rest (w - 2 ^ j) j i clear_off ne) ∙ ap (bit i) back
+
+-- a bit set or cleared, whatever it was, and the other bits
+module _ (w j : ℕ) where
+  value : (b : Bool) (x y : ℕ) → bit j w ≡ x → y ≡ w - x * 2 ^ j + pick b (2 ^ j) 0 → set_bit j b w ≡ y
+  value b x y h e = ap (λ (n : ℕ). w - n * 2 ^ j + pick b (2 ^ j) 0) h ∙ sym e
+
+  kept : (b : Bool) → bit j w ≡ one_if b → set_bit j b w ≡ w
+  kept true h = value true 1 w h (omega (arith, clear_le w j h))
+  kept false h = value false 0 w h (omega arith)
+
+  changed : (b : Bool) → bit j w ≡ one_if (not b) → set_bit j b w ≡ pick b (w + 2 ^ j) (w - 2 ^ j)
+  changed true h = value true 0 (w + 2 ^ j) h (omega arith)
+  changed false h = value false 1 (w - 2 ^ j) h (omega arith)
+
+  was : (b : Bool) → (bit j w ≡ one_if b → ⊥) → bit j w ≡ one_if (not b)
+  was true ne = omega arith
+  was false ne = omega arith
+
+  pub bit_put : (b : Bool) → bit j (set_bit j b w) ≡ one_if b
+  bit_put b = by_t (eqb (bit j w) (one_if b))
+      (λ t. let h = eqb-true (bit j w) (one_if b) t in ap (bit j) (kept b h) ∙ h)
+      (λ t. let h = was b (eqb-false (bit j w) (one_if b) t) in ap (bit j) (changed b h) ∙ here b h)
+    where
+      here : (b : Bool) → bit j w ≡ one_if (not b) → bit j (pick b (w + 2 ^ j) (w - 2 ^ j)) ≡ one_if b
+      here true h = set_on w j h
+      here false h = clear_off w j h
+
+  pub bit_rest : (b : Bool) (i : ℕ) → (i ≡ j → ⊥) → bit i (set_bit j b w) ≡ bit i w
+  bit_rest b i ne = by_t (eqb (bit j w) (one_if b))
+      (λ t. ap (bit i) (kept b (eqb-true (bit j w) (one_if b) t)))
+      (λ t. let h = was b (eqb-false (bit j w) (one_if b) t) in ap (bit i) (changed b h) ∙ there b h)
+    where
+      there : (b : Bool) → bit j w ≡ one_if (not b) → bit i (pick b (w + 2 ^ j) (w - 2 ^ j)) ≡ bit i w
+      there true h = set_rest w j i h ne
+      there false h = clear_rest w j h i ne

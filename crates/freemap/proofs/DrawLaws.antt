@@ -33,12 +33,12 @@ module _ (f : ℕ → Bool) where
       omega (arith, count_suc f m, few_before k m (λ x l. g x (omega arith))))
 
 -- ONE NUMBER DRAWN: the lowest in the map
-module _ (f : ℕ → Bool) (k : ℕ) (nums ms : List ℕ) (D : Drawn f k nums ms) (r : ℕ) (low : Lowest ms r) (lt : r < map_nodes) where
+module _ (f : ℕ → Bool) (k : ℕ) (nums ms : List ℕ) (D : Drawn f k nums ms) (r : ℕ) (low : Lowest ms r) where
   below : (x : ℕ) → x < r → left_of f k x ≡ false
   below x h = not_in_map D.left x (omega arith) (low.first x h)
 
   here : left_of f k r ≡ true
-  here = in_map D.left r lt (low.on lt)
+  here = in_map D.left r low.most low.on
 
   free : f r ≡ true
   free = both_l (f r) (leb k (tally f r)) here

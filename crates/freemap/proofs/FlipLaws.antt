@@ -1,18 +1,18 @@
 -- One bit of the map changes.
-use Prim.Native.Nat.{ℕ, ◌+◌, ◌-◌, ◌*◌, ◌/◌, ◌%◌, ◌^◌, ◌<◌}
+use Prim.Native.Nat.{ℕ, ◌+◌, ◌*◌, ◌/◌, ◌%◌, ◌<◌}
 use mathlib.Core.Path.{◌≡◌, refl, sym, ap, ◌∙◌}
-use mathlib.Core.Bool.{Bool, true, false}
+use mathlib.Core.Bool.{Bool}
 use mathlib.Core.List.{List}
 use native.Mathlib.Omega.{arith}
 use lib.Dec.{eqb}
 use lib.ListN.{length, get_or, set, length-set}
 use lib.Seq.{get_or-set_same, get_or-set_other}
 use borrow.Author.Tests.{eqb-true, eqb-false}
-use Rattle.blocks.specs.Blocks.{bit}
+use Rattle.blocks.specs.Blocks.{bit, set_bit}
 use Rattle.blocks.proofs.BoolLaws.{by_t}
 use Rattle.words.specs.Bits.{word_bits}
 use Rattle.freemap.specs.FreeMap.{map_nodes, map_top, map_bit, one_if, one_over, Flips, Topped}
-use Rattle.freemap.proofs.BitOneLaws.{set_on, set_rest, clear_off, clear_rest}
+use Rattle.freemap.proofs.BitOneLaws.{bit_put, bit_rest}
 
 module _ (ms : List ℕ) (x : ℕ) (lt : x < word_bits * length ms) where
   inside : x / word_bits < length ms
@@ -32,13 +32,9 @@ module _ (ms : List ℕ) (x : ℕ) (lt : x < word_bits * length ms) where
     words = λ j ne. get_or-set_other ms (x / word_bits) j v 0 ne;
   }
 
-  pub set_flips : map_bit ms x ≡ 0 → Flips ms (set ms (x / word_bits) (get_or ms (x / word_bits) 0 + 2 ^ (x % word_bits))) x true
-  set_flips z = flips (get_or ms (x / word_bits) 0 + 2 ^ (x % word_bits)) true (set_on (get_or ms (x / word_bits) 0) (x % word_bits) z)
-      (λ i ne. set_rest (get_or ms (x / word_bits) 0) (x % word_bits) i z ne)
-
-  pub clear_flips : map_bit ms x ≡ 1 → Flips ms (set ms (x / word_bits) (get_or ms (x / word_bits) 0 - 2 ^ (x % word_bits))) x false
-  clear_flips z = flips (get_or ms (x / word_bits) 0 - 2 ^ (x % word_bits)) false (clear_off (get_or ms (x / word_bits) 0) (x % word_bits) z)
-      (clear_rest (get_or ms (x / word_bits) 0) (x % word_bits) z)
+  pub set_flips : (b : Bool) → Flips ms (set ms (x / word_bits) (set_bit (x % word_bits) b (get_or ms (x / word_bits) 0))) x b
+  set_flips b = flips _ b (bit_put (get_or ms (x / word_bits) 0) (x % word_bits) b)
+      (bit_rest (get_or ms (x / word_bits) 0) (x % word_bits) b)
 
 -- the second level's bit of word k
 module _ {ms : List ℕ} (k : ℕ) (lt : k < map_top) where

@@ -12,7 +12,7 @@ use Rattle.blocks.specs.Blocks.{bit, NextBit}
 use Rattle.blocks.proofs.BoolLaws.{by_t}
 use Rattle.words.specs.Bits.{word_bits}
 use Rattle.freemap.specs.FreeMap.{map_nodes, map_top, map_count, map_words, map_bit, one_if, one_over, put}
-use Rattle.freemap.specs.FreeMap.{BlankMap, MapOf, Lowest, Flips, Topped}
+use Rattle.freemap.specs.FreeMap.{BlankMap, MapOf, Full, Lowest, Flips, Topped}
 use Rattle.freemap.proofs.BitOneLaws.{bit_zero, bits_zero}
 use Rattle.freemap.proofs.CountLaws.{count_none, count_same, count_put, count_le}
 
@@ -51,15 +51,9 @@ module _ {f : ℕ → Bool} {ms : List ℕ} (M : MapOf f ms) where
   pub not_in_map : (m : ℕ) → m < map_nodes → map_bit ms m ≡ 0 → f m ≡ false
   not_in_map m lt e = bit_denies (f m) (sym (M.bits m lt) ∙ e)
 
-  -- where the count is not 0, there is a lowest node
-  pub some_lowest : (r : ℕ) → Lowest ms r → 1 ≤ get_or ms map_count 0 → r < map_nodes
-  some_lowest r o c =
-      by_t (ltb r map_nodes) (ltb-true _ _)
-      (λ t. absurd (omega (
-        arith,
-        M.count_is,
-        count_none f map_nodes (λ x l. not_in_map x l (o.first x (omega (arith, ltb-false r map_nodes t)))),
-      )))
+  -- where the count is not 0, a node is in the map
+  pub not_full : Full ms → get_or ms map_count 0 ≡ 0
+  not_full o = M.count_is ∙ count_none f map_nodes (λ x l. not_in_map x l (o x l))
 
   -- THE LOWEST NODE, by the second level
   level : (q : ℕ) → q < map_top → bit (q % word_bits) (get_or ms (map_top + q / word_bits) 0) ≡ one_over (get_or ms q 0)
@@ -106,7 +100,7 @@ module _ {f : ℕ → Bool} {ms : List ℕ} (M : MapOf f ms) where
       let er : (word_bits * (word_bits * j + t) + r) % word_bits ≡ r = omega arith in
       record {
         most = omega arith;
-        on = λ _. rw (dr, er) (nr.on small);
+        on = rw (dr, er) (nr.on small);
         first = λ x h. by_t (ltb x (word_bits * (word_bits * j))) (λ y. before x (ltb-true _ _ y))
             (λ y. let g : word_bits * (word_bits * j) ≤ x = ltb-false _ _ y in
             by_t (ltb (x / word_bits) (word_bits * j + t))
@@ -114,14 +108,6 @@ module _ {f : ℕ → Bool} {ms : List ℕ} (M : MapOf f ms) where
             (λ z. let same : x / word_bits ≡ word_bits * j + t = omega (arith, ltb-false (x / word_bits) (word_bits * j + t) z) in
             ap (λ (q : ℕ). bit (x % word_bits) (get_or ms q 0)) same ∙ nr.first (x % word_bits) (omega arith) (omega arith)));
       }
-
-  pub lowest_none : (j : ℕ) → map_count ≤ map_top + j → ((x : ℕ) → x < word_bits * (word_bits * j) → map_bit ms x ≡ 0) →
-      Lowest ms map_nodes
-  lowest_none j le z = record {
-    most = omega arith;
-    on = λ l. absurd (omega arith);
-    first = λ x h. z x (omega arith);
-  }
 
   -- ONE NODE CHANGES: its bit, the second level's bit of its word, and the count
   module _ (m : ℕ) (lt : m < map_nodes) (b : Bool) {ms₁ ms₂ : List ℕ} (flip : Flips ms ms₁ m b)

@@ -56,10 +56,14 @@ pub record Sound (ms : List ℕ) : Type 0 where
 abbrev pub put : (ℕ → Bool) → ℕ → Bool → ℕ → Bool
 put f m b x = pick (eqb x m) b (f x)
 
--- r is the lowest node in the map, or map_nodes if there is none
+-- no node is in the map
+abbrev pub Full : List ℕ → Type 0
+Full ms = (x : ℕ) → x < map_nodes → map_bit ms x ≡ 0
+
+-- r is the lowest node in the map
 pub record Lowest (ms : List ℕ) (r : ℕ) : Type 0 where
-  pub most : r ≤ map_nodes
-  pub on : r < map_nodes → map_bit ms r ≡ 1
+  pub most : r < map_nodes
+  pub on : map_bit ms r ≡ 1
   pub first : (x : ℕ) → x < r → map_bit ms x ≡ 0
 
 -- bit x became b, and nothing else changed

@@ -3,13 +3,13 @@
 // map: its words, as specs/FreeMap has them; m: the number of a node; x: a bit of the map; k: one of its words.
 #![tactic(auto)]
 
-ghost use Rattle.std.specs.Prelude.{ℕ, ◌+◌, ◌*◌, ◌/◌, ◌≤◌, ◌<◌, ◌≡◌, Bool, true, false, not, eqb, get_or, length};
+ghost use Rattle.std.specs.Prelude.{ℕ, ◌+◌, ◌*◌, ◌/◌, ◌≤◌, ◌<◌, ◌≡◌, Bool, true, false, not, eqb, get_or, length, MatchOption};
 ghost use Rattle.blocks.specs.Choice.{either};
 ghost use Rattle.words.specs.Bits.{word_bits};
 ghost use Rattle.freemap.specs.FreeMap.{map_nodes, map_top, map_count, map_words, map_bit, one_over, put};
-ghost use Rattle.freemap.specs.FreeMap.{MapOf, Sound, Lowest, Flips, Topped, Draws};
+ghost use Rattle.freemap.specs.FreeMap.{MapOf, Sound, Full, Lowest, Flips, Topped, Draws};
 
-use words::{WORD_BITS, next_bit, pow2};
+use words::{WORD_BITS, next_bit, with_bit};
 
 // The map's measures, as specs/FreeMap has them.
 pub const MAP_NODES: u64 = 4 * WORD_BITS * WORD_BITS;
@@ -20,24 +20,13 @@ const MAP_COUNT: usize = 260;
 
 pub const MAP_WORDS: usize = 261;
 
-// Bit x, which is clear, is set.
-pub fn set_bit(map: &mut [u64], x: u64)
-    requires { (x < word_bits * length map.old) × (x < 2 * map_nodes) × (map_bit map.old x ≡ 0) }
-    ensures { Flips map.old map.new x true }
+// Bit x is set, or cleared.
+pub fn set_bit(map: &mut [u64], x: u64, on: bool)
+    requires { (x < word_bits * length map.old) × (x < 2 * map_nodes) }
+    ensures { Flips map.old map.new x on }
 {
-    let k = x / WORD_BITS;
-    let w = map[k as usize];
-    map[k as usize] = w + pow2(x % WORD_BITS);
-}
-
-// Bit x, which is set, is cleared.
-fn clear_bit(map: &mut [u64], x: u64)
-    requires { (x < word_bits * length map.old) × (x < 2 * map_nodes) × (map_bit map.old x ≡ 1) }
-    ensures { Flips map.old map.new x false }
-{
-    let k = x / WORD_BITS;
-    let w = map[k as usize];
-    map[k as usize] = w - pow2(x % WORD_BITS);
+    let k = (x / WORD_BITS) as usize;
+    map[k] = with_bit(map[k], x % WORD_BITS, on);
 }
 
 // Word k was w and is not 0 now: the second level says so.
@@ -47,7 +36,7 @@ fn raise_word(map: &mut [u64], k: u64, w: u64)
     ensures { Topped map.old map.new k }
 {
     if w == 0 {
-        set_bit(map, MAP_NODES + k);
+        set_bit(map, MAP_NODES + k, true);
     }
 }
 
@@ -58,7 +47,7 @@ fn lower_word(map: &mut [u64], k: u64)
     ensures { Topped map.old map.new k }
 {
     if map[k as usize] == 0 {
-        clear_bit(map, MAP_NODES + k);
+        set_bit(map, MAP_NODES + k, false);
     }
 }
 
@@ -70,21 +59,19 @@ pub fn free_count(map: &[u64]) -> u64
     map[MAP_COUNT]
 }
 
-// The lowest free node; MAP_NODES if there is none.
-pub fn lowest_free(map: &[u64]) -> u64
+// The lowest free node, if there is one.
+pub fn lowest_free(map: &[u64]) -> Option<u64>
     requires { Sound map.now }
-    ensures { Lowest map.now result }
+    ensures { MatchOption result (Full map.now) (Lowest map.now) }
 {
-    let mut j = 0;
-    while j < MAP_TOP / WORD_BITS {
+    for j in 0..MAP_TOP / WORD_BITS {
         let t = next_bit(map[(MAP_TOP + j) as usize], 0);
         if t < WORD_BITS {
             let k = WORD_BITS * j + t;
-            return WORD_BITS * k + next_bit(map[k as usize], 0);
+            return Some(WORD_BITS * k + next_bit(map[k as usize], 0));
         }
-        j = j + 1;
     }
-    MAP_NODES
+    None
 }
 
 // Node m, which is in the map, leaves it.
@@ -93,9 +80,9 @@ pub fn take(map: &mut [u64], m: u64)
     requires m_lt_map_nodes { (m < map_nodes) × (map_bit map.old m ≡ 1) }
     ensures { (f : ℕ → Bool) → MapOf f map.old → MapOf (put f m false) map.new }
 {
-    clear_bit(map, m);
+    set_bit(map, m, false);
     lower_word(map, m / WORD_BITS);
-    map[MAP_COUNT] = map[MAP_COUNT] - 1;
+    map[MAP_COUNT] -= 1;
 }
 
 // Node m is in the map from here on.
@@ -109,9 +96,9 @@ pub fn give(map: &mut [u64], m: u64)
     if (w >> (m % WORD_BITS)) % 2 == 1 {
         return;
     }
-    set_bit(map, m);
+    set_bit(map, m, true);
     raise_word(map, k, w);
-    map[MAP_COUNT] = map[MAP_COUNT] + 1;
+    map[MAP_COUNT] += 1;
 }
 
 // Node m, whose first word is w, is in the map from here on if it is in use now.
@@ -147,12 +134,10 @@ pub fn draw(map: &mut [u64], nums: &mut [u64], need: u64) -> bool
     if free_count(map) < need {
         return false;
     }
-    let mut cnt = 0;
-    while cnt < need {
-        let m = lowest_free(map);
+    for i in 0..need as usize {
+        let m = lowest_free(map).unwrap();
         take(map, m);
-        nums[cnt as usize] = m;
-        cnt = cnt + 1;
+        nums[i] = m;
     }
     true
 }

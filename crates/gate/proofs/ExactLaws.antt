@@ -1,5 +1,7 @@
 -- A gate never fails a share that is exactly at its limit or beyond, as a fraction: rounding the quotient once crosses no float. Assumes
 -- nothing.
+use Rattle.std.specs.Prelude.{Result, Ok, Err}
+use Rattle.answers.specs.declared.Answer.{Answer}
 use Prim.Native.Nat.{ℕ, zero, suc, ◌+◌, ◌-◌, ◌*◌, ◌%◌, ◌^◌, ◌≤◌, ◌<◌}
 use mathlib.Core.Path.{◌≡◌, refl, sym, subst}
 use mathlib.Core.Bool.{Bool, true, false, ◌&&◌}
@@ -136,7 +138,7 @@ module _ (p t : ℕ) (ht : Small t) (h : p ≤ t) (t+ : 0 < t) where
   within b n (number zero e) f g = none_at (fin false 0 e) n (no_part e (0 * up e * t) (rw (zero-mul, zero-mul)) g)
   within b n (number (suc m) e) f g = most_at m e f g
 
-  pub at_least_exact : (a : Float) → T (fits binary64 a) → bad_limit a ≡ false → AtLeast a p t → judge (MatchedAtLeast a) p t ≡ Pass
+  pub at_least_exact : (a : Float) → T (fits binary64 a) → bad_limit a ≡ false → AtLeast a p t → judge (MatchedAtLeast a) p t ≡ Ok Pass
   at_least_exact a f n g = pass_if (MatchedAtLeast a) p t (record {
     limits = n;
     some = λ z. omega arith;
@@ -144,7 +146,7 @@ module _ (p t : ℕ) (ht : Small t) (h : p ≤ t) (t+ : 0 < t) where
     meets = reaches a (good a n) f g;
   })
 
-  pub at_most_exact : (b : Float) → T (fits binary64 b) → bad_limit b ≡ false → AtMost b p t → judge (UnreadAtMost b) p t ≡ Pass
+  pub at_most_exact : (b : Float) → T (fits binary64 b) → bad_limit b ≡ false → AtMost b p t → judge (UnreadAtMost b) p t ≡ Ok Pass
   at_most_exact b f n g = pass_if (UnreadAtMost b) p t (record {
     limits = n;
     some = λ z. omega arith;
@@ -153,6 +155,6 @@ module _ (p t : ℕ) (ht : Small t) (h : p ≤ t) (t+ : 0 < t) where
   })
 
   pub between_exact : (a b : Float) → T (fits binary64 a) → T (fits binary64 b) → bad_limit a ≡ false → bad_limit b ≡ false →
-      AtLeast a p t → AtMost b p t → judge (MatchedBetween a b) p t ≡ Pass
+      AtLeast a p t → AtMost b p t → judge (MatchedBetween a b) p t ≡ Ok Pass
   between_exact a b fa fb na nb ga gb =
       halves_between a b p t ht (at_least_exact a fa na ga) (at_most_exact b fb nb gb)

@@ -1,4 +1,6 @@
 -- What a gate's answer means, in the request's words. Assumes nothing.
+use Rattle.std.specs.Prelude.{Result, Ok, Err}
+use Rattle.answers.specs.declared.Answer.{Answer}
 use Prim.Native.Nat.{ℕ, ◌*◌, ◌≤◌, ◌<◌}
 use mathlib.Core.Path.{◌≡◌, refl, sym, ap, subst}
 use mathlib.Core.Logic.{◌≢◌}
@@ -41,24 +43,24 @@ use Rattle.gate.proofs.LimitLaws.{good, nan_bad, number, limit_up, limit_down, l
 
 module _ (g : Gate) (p t : ℕ) where
   -- R272 before all, whatever the counts are
-  pub bad_first : bad_limits g ≡ true → judge g p t ≡ BadGate
+  pub bad_first : bad_limits g ≡ true → judge g p t ≡ Err BadGate
   unfolding judge
   bad_first b = rw b
 
   -- R273 before R274, whatever the part is
-  pub nothing_second : bad_limits g ≡ false → t ≡ 0 → judge g p t ≡ NoTotal
+  pub nothing_second : bad_limits g ≡ false → t ≡ 0 → judge g p t ≡ Err NoTotal
   unfolding judge
   nothing_second b z = rw (b, z)
 
-  pub above_third : bad_limits g ≡ false → t ≢ 0 → t < p → judge g p t ≡ PartAboveTotal
+  pub above_third : bad_limits g ≡ false → t ≢ 0 → t < p → judge g p t ≡ Err PartAboveTotal
   unfolding judge
   above_third b z l = rw (b, ne_eqb t 0 z, lt-ltb t p l)
 
-  pub pass_if : Passes g p t → judge g p t ≡ Pass
+  pub pass_if : Passes g p t → judge g p t ≡ Ok Pass
   unfolding judge
   pass_if r = rw (r.limits, ne_eqb t 0 r.some, le-ltb t p r.part, r.meets)
 
-  pub else_fail : bad_limits g ≡ false → t ≢ 0 → p ≤ t → holds g (share p t) ≡ false → judge g p t ≡ Fail
+  pub else_fail : bad_limits g ≡ false → t ≢ 0 → p ≤ t → holds g (share p t) ≡ false → judge g p t ≡ Ok Fail
   unfolding judge
   else_fail b z l m = rw (b, ne_eqb t 0 z, le-ltb t p l, m)
 
@@ -76,7 +78,7 @@ module _ (g : Gate) (p t : ℕ) where
       subst (Judged g p t) (sym (pass_if r)) (is_pass r))
       (λ m. subst (Judged g p t) (sym (else_fail b some part m)) (is_fail b some part m)))))
 
-row_passes : (g : Gate) (p t : ℕ) (v : Verdict) → Judged g p t v → (reported v).number ≡ 1 → Passes g p t
+row_passes : (g : Gate) (p t : ℕ) (v : Result Verdict Answer) → Judged g p t v → (reported v).number ≡ 1 → Passes g p t
 row_passes g p t v (is_bad b) e = absurd (omega arith)
 row_passes g p t v (is_nothing b z) e = absurd (omega arith)
 row_passes g p t v (is_above b z l) e = absurd (omega arith)
@@ -87,11 +89,11 @@ row_passes g p t v (is_pass r) e = r
 pub one_only : (g : Gate) (p t : ℕ) → (reported (judge g p t)).number ≡ 1 → Passes g p t
 one_only g p t e = row_passes g p t (judge g p t) (judged g p t) e
 
-pub pass_only : (g : Gate) (p t : ℕ) → judge g p t ≡ Pass → Passes g p t
-pass_only g p t e = one_only g p t (ap (λ (v : Verdict). (reported v).number) e)
+pub pass_only : (g : Gate) (p t : ℕ) → judge g p t ≡ Ok Pass → Passes g p t
+pass_only g p t e = one_only g p t (ap (λ (v : Result Verdict Answer). (reported v).number) e)
 
 -- a total of 0 never passes
-pub nothing_never_passes : (g : Gate) (p : ℕ) → judge g p 0 ≡ Pass → ⊥
+pub nothing_never_passes : (g : Gate) (p : ℕ) → judge g p 0 ≡ Ok Pass → ⊥
 nothing_never_passes g p e = (pass_only g p 0 e).some refl
 
 -- ---- as the call has it, by kind
@@ -108,7 +110,7 @@ by_kind_3 a b p t = refl
 pub other_kind : (k : ℕ) (a b : Float) (p t : ℕ) → k ≢ 1 → k ≢ 2 → k ≢ 3 → gate_result k a b p t ≡ result_of bad_gate 0
 other_kind k a b p t h₁ h₂ h₃ = rw (ne_eqb k 1 h₁, ne_eqb k 2 h₂, ne_eqb k 3 h₃)
 
-nothing_row : (g : Gate) (p : ℕ) (v : Verdict) → Judged g p 0 v → (reported v).number ≡ 0
+nothing_row : (g : Gate) (p : ℕ) (v : Result Verdict Answer) → Judged g p 0 v → (reported v).number ≡ 0
 nothing_row g p v (is_bad b) = refl
 nothing_row g p v (is_nothing b z) = refl
 nothing_row g p v (is_above b z l) = refl
@@ -127,23 +129,23 @@ call_on_nothing k a b p =
 
 -- ---- a limit that is NaN is answer 18, whatever the counts are
 
-pub nan_least : (p t : ℕ) → judge (MatchedAtLeast nan) p t ≡ BadGate
+pub nan_least : (p t : ℕ) → judge (MatchedAtLeast nan) p t ≡ Err BadGate
 nan_least p t = bad_first (MatchedAtLeast nan) p t nan_bad
 
-pub nan_most : (p t : ℕ) → judge (UnreadAtMost nan) p t ≡ BadGate
+pub nan_most : (p t : ℕ) → judge (UnreadAtMost nan) p t ≡ Err BadGate
 nan_most p t = bad_first (UnreadAtMost nan) p t nan_bad
 
-pub nan_low : (b : Float) (p t : ℕ) → judge (MatchedBetween nan b) p t ≡ BadGate
+pub nan_low : (b : Float) (p t : ℕ) → judge (MatchedBetween nan b) p t ≡ Err BadGate
 nan_low b p t = bad_first (MatchedBetween nan b) p t (rw nan_bad)
 
-pub nan_high : (a : Float) (p t : ℕ) → judge (MatchedBetween a nan) p t ≡ BadGate
+pub nan_high : (a : Float) (p t : ℕ) → judge (MatchedBetween a nan) p t ≡ Err BadGate
 nan_high a p t = bad_first (MatchedBetween a nan) p t (rw nan_bad (by_t (bad_limit a) (λ e. rw e) (λ e. rw e)))
 
 -- ---- more and fewer
 
 -- more matched passes where less did
-pub more_passes : (a : Float) (p q t : ℕ) → Small t → p ≤ q → q ≤ t → judge (MatchedAtLeast a) p t ≡ Pass →
-    judge (MatchedAtLeast a) q t ≡ Pass
+pub more_passes : (a : Float) (p q t : ℕ) → Small t → p ≤ q → q ≤ t → judge (MatchedAtLeast a) p t ≡ Ok Pass →
+    judge (MatchedAtLeast a) q t ≡ Ok Pass
 more_passes a p q t ht h g e =
     let r = pass_only (MatchedAtLeast a) p t e in
     let t+ : 0 < t = omega (arith, r.some) in
@@ -157,8 +159,8 @@ more_passes a p q t ht h g e =
     })
 
 -- fewer unread passes where more did
-pub fewer_passes : (b : Float) (p q t : ℕ) → Small t → q ≤ p → judge (UnreadAtMost b) p t ≡ Pass →
-    judge (UnreadAtMost b) q t ≡ Pass
+pub fewer_passes : (b : Float) (p q t : ℕ) → Small t → q ≤ p → judge (UnreadAtMost b) p t ≡ Ok Pass →
+    judge (UnreadAtMost b) q t ≡ Ok Pass
 fewer_passes b p q t ht h e =
     let r = pass_only (UnreadAtMost b) p t e in
     let t+ : 0 < t = omega (arith, r.some) in
@@ -175,7 +177,7 @@ fewer_passes b p q t ht h e =
 -- ---- all and nothing
 
 -- all matched passes every limit that is not refused, and none unread too
-pub all_passes : (a : Float) (t : ℕ) → Small t → 0 < t → bad_limit a ≡ false → judge (MatchedAtLeast a) t t ≡ Pass
+pub all_passes : (a : Float) (t : ℕ) → Small t → 0 < t → bad_limit a ≡ false → judge (MatchedAtLeast a) t t ≡ Ok Pass
 all_passes a t ht t+ b = pass_if (MatchedAtLeast a) t t (record {
   limits = b;
   some = λ z. omega arith;
@@ -183,7 +185,7 @@ all_passes a t ht t+ b = pass_if (MatchedAtLeast a) t t (record {
   meets = rw (share_all t ht t+) (limit_high a b);
 })
 
-pub none_passes : (b : Float) (t : ℕ) → Small t → 0 < t → bad_limit b ≡ false → judge (UnreadAtMost b) 0 t ≡ Pass
+pub none_passes : (b : Float) (t : ℕ) → Small t → 0 < t → bad_limit b ≡ false → judge (UnreadAtMost b) 0 t ≡ Ok Pass
 none_passes b t ht t+ h = pass_if (UnreadAtMost b) 0 t (record {
   limits = h;
   some = λ z. omega arith;
@@ -200,7 +202,7 @@ unfolding le round
 below_one = refl
 
 -- a limit of 1.0 passes only if all is matched, and then it does, up to totals of 2^32 - 1
-pub one_is_all : (p t : ℕ) → Small t → judge (MatchedAtLeast one_f) p t ≡ Pass → p ≡ t
+pub one_is_all : (p t : ℕ) → Small t → judge (MatchedAtLeast one_f) p t ≡ Ok Pass → p ≡ t
 one_is_all p t ht e =
     let r = pass_only (MatchedAtLeast one_f) p t e in
     let t+ : 0 < t = omega (arith, r.some) in
@@ -220,7 +222,7 @@ good_one : bad_limit one_f ≡ false
 unfolding lt is_nan
 good_one = refl
 
-pub all_is_one : (t : ℕ) → Small t → 0 < t → judge (MatchedAtLeast one_f) t t ≡ Pass
+pub all_is_one : (t : ℕ) → Small t → 0 < t → judge (MatchedAtLeast one_f) t t ≡ Ok Pass
 all_is_one t ht t+ = all_passes one_f t ht t+ good_one
 
 -- the smallest share above none: 1 / (2^32 - 1) is above 0.0
@@ -229,7 +231,7 @@ unfolding le round
 above_nought = refl
 
 -- a limit of 0.0 for unread passes only if none is unread, and then it does
-pub nought_is_none : (p t : ℕ) → Small t → judge (UnreadAtMost nought_f) p t ≡ Pass → p ≡ 0
+pub nought_is_none : (p t : ℕ) → Small t → judge (UnreadAtMost nought_f) p t ≡ Ok Pass → p ≡ 0
 nought_is_none p t ht e =
     let r = pass_only (UnreadAtMost nought_f) p t e in
     let t+ : 0 < t = omega (arith, r.some) in
@@ -248,13 +250,13 @@ good_nought : bad_limit nought_f ≡ false
 unfolding lt is_nan
 good_nought = refl
 
-pub none_is_nought : (t : ℕ) → Small t → 0 < t → judge (UnreadAtMost nought_f) 0 t ≡ Pass
+pub none_is_nought : (t : ℕ) → Small t → 0 < t → judge (UnreadAtMost nought_f) 0 t ≡ Ok Pass
 none_is_nought t ht t+ = none_passes nought_f t ht t+ good_nought
 
 -- ---- between goes with its two halves
 
 -- where it passes, both do
-pub between_least : (a b : Float) (p t : ℕ) → judge (MatchedBetween a b) p t ≡ Pass → judge (MatchedAtLeast a) p t ≡ Pass
+pub between_least : (a b : Float) (p t : ℕ) → judge (MatchedBetween a b) p t ≡ Ok Pass → judge (MatchedAtLeast a) p t ≡ Ok Pass
 between_least a b p t e =
     let r = pass_only (MatchedBetween a b) p t e in
     pass_if (MatchedAtLeast a) p t (record {
@@ -268,7 +270,7 @@ between_least a b p t e =
     no_first false y h = refl
     no_first true y h = absurd (clash refl h)
 
-pub between_most : (a b : Float) (p t : ℕ) → judge (MatchedBetween a b) p t ≡ Pass → judge (UnreadAtMost b) p t ≡ Pass
+pub between_most : (a b : Float) (p t : ℕ) → judge (MatchedBetween a b) p t ≡ Ok Pass → judge (UnreadAtMost b) p t ≡ Ok Pass
 between_most a b p t e =
     let r = pass_only (MatchedBetween a b) p t e in
     pass_if (UnreadAtMost b) p t (record {
@@ -284,8 +286,8 @@ between_most a b p t e =
     no_second true y z h = absurd (clash refl h)
 
 -- and where both do, it does: then a is not above b
-pub halves_between : (a b : Float) (p t : ℕ) → Small t → judge (MatchedAtLeast a) p t ≡ Pass → judge (UnreadAtMost b) p t ≡ Pass →
-    judge (MatchedBetween a b) p t ≡ Pass
+pub halves_between : (a b : Float) (p t : ℕ) → Small t → judge (MatchedAtLeast a) p t ≡ Ok Pass → judge (UnreadAtMost b) p t ≡ Ok Pass →
+    judge (MatchedBetween a b) p t ≡ Ok Pass
 halves_between a b p t ht e d =
     let l = pass_only (MatchedAtLeast a) p t e in
     let m = pass_only (UnreadAtMost b) p t d in

@@ -4,9 +4,10 @@
 #![tactic(auto)]
 
 ghost use Rattle.std.specs.Prelude.{◌≡◌};
-ghost use Rattle.gate.specs.Gate.{share, bad_limit, bad_limits, holds, judge, reported, gate_result};
+ghost use Rattle.answers.specs.Answers.{report_of};
+ghost use Rattle.gate.specs.Gate.{share, bad_limit, bad_limits, holds, judge, gate_of, gate_result};
 
-use answers::{BAD_GATE, DONE, NO_TOTAL, PART_ABOVE_TOTAL, Result};
+use answers::{Answer, Refusal};
 
 // Each kind has its own limits, and no other is looked at.
 #[derive(Clone, Copy)]
@@ -16,14 +17,11 @@ pub enum Gate {
     MatchedBetween(f64, f64),
 }
 
-// A fail is first: it is what memory of zeros reads as.
-#[derive(Clone, Copy)]
+// A fail is first: it is what memory of zeros reads as, and its number is 0.
+#[derive(Clone, Copy, PartialEq, Eq)]
 pub enum Verdict {
     Fail,
     Pass,
-    BadGate,
-    NoTotal,
-    PartAboveTotal,
 }
 
 // One division, rounded once.
@@ -79,64 +77,42 @@ fn holds(g: Gate, x: f64) -> bool
     }
 }
 
-/// What a gate says of a part and a total.
-pub fn judge(g: Gate, part: u32, total: u32) -> Verdict
+/// What a gate says of a part and a total, where it can say anything.
+pub fn judge(g: Gate, part: u32, total: u32) -> Result<Verdict, Answer>
     ensures { result ≡ judge g part total }
 {
     if bad_limits(g) {
-        return Verdict::BadGate;
+        return Err(Answer::BadGate);
     }
     if total == 0 {
-        return Verdict::NoTotal;
+        return Err(Answer::NoTotal);
     }
     if total < part {
-        return Verdict::PartAboveTotal;
+        return Err(Answer::PartAboveTotal);
     }
     if holds(g, share(part, total)) {
-        return Verdict::Pass;
+        return Ok(Verdict::Pass);
     }
-    Verdict::Fail
+    Ok(Verdict::Fail)
 }
 
-fn reported(v: Verdict) -> Result
-    ensures { result ≡ reported v }
+// A gate by its kind: 1 at least a is matched, 2 at most b is unread, 3 from a to b is matched; of any other kind there is none.
+fn gate_of(kind: u64, a: f64, b: f64) -> Option<Gate>
+    ensures { result ≡ gate_of kind a b }
 {
-    match v {
-        Verdict::Fail => Result {
-            answer: DONE,
-            number: 0,
-        },
-        Verdict::Pass => Result {
-            answer: DONE,
-            number: 1,
-        },
-        Verdict::BadGate => Result {
-            answer: BAD_GATE,
-            number: 0,
-        },
-        Verdict::NoTotal => Result {
-            answer: NO_TOTAL,
-            number: 0,
-        },
-        Verdict::PartAboveTotal => Result {
-            answer: PART_ABOVE_TOTAL,
-            number: 0,
-        },
+    match kind {
+        1 => Some(Gate::MatchedAtLeast(a)),
+        2 => Some(Gate::UnreadAtMost(b)),
+        3 => Some(Gate::MatchedBetween(a, b)),
+        _ => None,
     }
 }
 
-/// A gate by its kind: 1 at least a is matched, 2 at most b is unread, 3 from a to b is matched.
-pub fn by_kind(kind: u64, a: f64, b: f64, part: u32, total: u32) -> Result
-    ensures { result ≡ gate_result kind a b part total }
+/// What the gate of a kind says, as a number: 1 pass, 0 fail.
+pub fn by_kind(kind: u64, a: f64, b: f64, part: u32, total: u32) -> Result<u64, Refusal>
+    ensures { report_of result ≡ gate_result kind a b part total }
 {
-    if kind == 1 {
-        return reported(judge(Gate::MatchedAtLeast(a), part, total));
-    }
-    if kind == 2 {
-        return reported(judge(Gate::UnreadAtMost(b), part, total));
-    }
-    if kind == 3 {
-        return reported(judge(Gate::MatchedBetween(a, b), part, total));
-    }
-    reported(Verdict::BadGate)
+    let gate = gate_of(kind, a, b).ok_or(Answer::BadGate)?;
+    let verdict = judge(gate, part, total)?;
+    Ok(verdict as u64)
 }

@@ -8,7 +8,7 @@ ghost use Rattle.std.specs.Prelude.{◌≡◌, ◌+◌, ◌*◌, ◌%◌, ◌<�
 ghost use Rattle.blocks.specs.Blocks.{block, bit, NextBit};
 ghost use Rattle.tree.specs.Tree.{slots, tier_order, top_tier};
 ghost use Rattle.tree.specs.Slots.{sibling_word, node_word};
-ghost use Rattle.layout.specs.Words.{node_words, shift_place, owner_place, filled_place, mark_place, slot_place, last_place};
+ghost use Rattle.layout.specs.Words.{node_words, place, shift_place, owner_place, filled_place, mark_place, slot_place, last_place};
 ghost use Rattle.layout.specs.Words.{shift_word, owner_word};
 ghost use Rattle.layout.specs.Pool.{slot_of, child_of, sibling_bit, pool_of, Free};
 ghost use Rattle.layout.specs.Reading.{Decides, is_node, Internal, Blank, Vacant, Plain, NextFilled};
@@ -80,18 +80,26 @@ pub fn block_of(tier: u64, i: u64) -> u64
 // THE WORDS OF A NODE. That their fields are these is known here alone; `now pool.entry` is `ws` in what follows,
 // and what is read is `(pool_of ws).shift n` and so on.
 
+// Where field f of node n stands.
+fn place(n: u64, f: u64) -> u64
+    requires { place n f < 2 ^ 64 }
+    ensures { result ≡ place n f }
+{
+    ANCHOR_WORDS + NODE_WORDS * n + f
+}
+
 pub fn shift_of(pool: &[u64], n: u64) -> u64
     requires { shift_place n < length pool.now }
     ensures { result ≡ get_or pool.now (shift_place n) 0 }
 {
-    pool[(ANCHOR_WORDS + NODE_WORDS * n + SHIFT_FIELD) as usize]
+    pool[place(n, SHIFT_FIELD) as usize]
 }
 
 pub fn owner_of(pool: &[u64], n: u64) -> u64
     requires { owner_place n < length pool.now }
     ensures { result ≡ get_or pool.now (owner_place n) 0 }
 {
-    pool[(ANCHOR_WORDS + NODE_WORDS * n + OWNER_FIELD) as usize]
+    pool[place(n, OWNER_FIELD) as usize]
 }
 
 // How many slots of node n are not 0.
@@ -99,7 +107,7 @@ pub fn filled_of(pool: &[u64], n: u64) -> u64
     requires { filled_place n < length pool.now }
     ensures { result ≡ get_or pool.now (filled_place n) 0 }
 {
-    pool[(ANCHOR_WORDS + NODE_WORDS * n + FILLED_FIELD) as usize]
+    pool[place(n, FILLED_FIELD) as usize]
 }
 
 // The word of mark m of node n.
@@ -107,7 +115,7 @@ pub fn mark_word(pool: &[u64], n: u64, m: u64) -> u64
     requires { mark_place n m < length pool.now }
     ensures { result ≡ get_or pool.now (mark_place n m) 0 }
 {
-    pool[(ANCHOR_WORDS + NODE_WORDS * n + (MARK_FIELD + m)) as usize]
+    pool[place(n, MARK_FIELD + m) as usize]
 }
 
 // Mark m of slot o of node n.
@@ -123,42 +131,42 @@ pub fn slot_word(pool: &[u64], n: u64, o: u64) -> u64
     requires { slot_place n o < length pool.now }
     ensures { result ≡ get_or pool.now (slot_place n o) 0 }
 {
-    pool[(ANCHOR_WORDS + NODE_WORDS * n + (SLOT_FIELD + o)) as usize]
+    pool[place(n, SLOT_FIELD + o) as usize]
 }
 
 pub fn put_shift(pool: &mut [u64], n: u64, x: u64)
     requires { shift_place n < length pool.old }
     ensures { pool.new ≡ set pool.old (shift_place n) x }
 {
-    pool[(ANCHOR_WORDS + NODE_WORDS * n + SHIFT_FIELD) as usize] = x;
+    pool[place(n, SHIFT_FIELD) as usize] = x;
 }
 
 pub fn put_owner(pool: &mut [u64], n: u64, x: u64)
     requires { owner_place n < length pool.old }
     ensures { pool.new ≡ set pool.old (owner_place n) x }
 {
-    pool[(ANCHOR_WORDS + NODE_WORDS * n + OWNER_FIELD) as usize] = x;
+    pool[place(n, OWNER_FIELD) as usize] = x;
 }
 
 pub fn put_filled(pool: &mut [u64], n: u64, x: u64)
     requires { filled_place n < length pool.old }
     ensures { pool.new ≡ set pool.old (filled_place n) x }
 {
-    pool[(ANCHOR_WORDS + NODE_WORDS * n + FILLED_FIELD) as usize] = x;
+    pool[place(n, FILLED_FIELD) as usize] = x;
 }
 
 pub fn put_mark_word(pool: &mut [u64], n: u64, m: u64, x: u64)
     requires { mark_place n m < length pool.old }
     ensures { pool.new ≡ set pool.old (mark_place n m) x }
 {
-    pool[(ANCHOR_WORDS + NODE_WORDS * n + (MARK_FIELD + m)) as usize] = x;
+    pool[place(n, MARK_FIELD + m) as usize] = x;
 }
 
 pub fn put_slot(pool: &mut [u64], n: u64, o: u64, x: u64)
     requires { slot_place n o < length pool.old }
     ensures { pool.new ≡ set pool.old (slot_place n o) x }
 {
-    pool[(ANCHOR_WORDS + NODE_WORDS * n + (SLOT_FIELD + o)) as usize] = x;
+    pool[place(n, SLOT_FIELD + o) as usize] = x;
 }
 
 // x in the slots of node n from o on, c in all.
@@ -166,7 +174,7 @@ pub fn fill_slots(pool: &mut [u64], n: u64, o: u64, x: u64, c: u64)
     requires { slot_place n o + c ≤ length pool.old }
     ensures { pool.new ≡ filled pool.old (slot_place n o) x c }
 {
-    fill(pool, ANCHOR_WORDS + NODE_WORDS * n + (SLOT_FIELD + o), x, c);
+    fill(pool, place(n, SLOT_FIELD + o), x, c);
 }
 
 // All words of node n become 0: it is free (R30).
@@ -174,7 +182,7 @@ pub fn clear_node(pool: &mut [u64], n: u64)
     requires { last_place n < length pool.old }
     ensures { pool.new ≡ cleared pool.old n }
 {
-    fill(pool, ANCHOR_WORDS + NODE_WORDS * n, 0, NODE_WORDS);
+    fill(pool, place(n, 0), 0, NODE_WORDS);
 }
 
 // WHAT WORDS SAY
@@ -234,27 +242,17 @@ pub fn read_slot(w: u64) -> Slot
 pub fn is_node(w: u64) -> bool
     ensures { result ≡ is_node w }
 {
-    let s = read_slot(w);
-    match s {
-        Slot::Empty => false,
-        Slot::Reserved => false,
-        Slot::Held => false,
-        Slot::Sibling(_) => false,
-        Slot::Child(_) => true,
-    }
+    matches!(read_slot(w), Slot::Child(_))
 }
 
-// The number of the node that the word of a slot leads to; 0 if it leads to none.
+// The number of the node that the word of a slot leads to; 0 if it leads to none, as `child_of` has it: whoever asks knows
+// by `is_node` or a count whether it does.
 pub fn node_number(w: u64) -> u64
     ensures { result ≡ child_of (slot_of w) }
 {
-    let s = read_slot(w);
-    match s {
-        Slot::Empty => 0,
-        Slot::Reserved => 0,
-        Slot::Held => 0,
-        Slot::Sibling(_) => 0,
+    match read_slot(w) {
         Slot::Child(n) => n,
+        _ => 0,
     }
 }
 
@@ -275,7 +273,8 @@ pub fn internal_bit(w: u64) -> u64
     (w >> 1) & !w
 }
 
-// The least slot from o on whose bit is set in a mark word, or any word with a bit for each slot; 64 if there is none.
+// The least slot from o on whose bit is set in a mark word, or any word with a bit for each slot; 64 if there is none,
+// as `next_bit` has it.
 pub fn next_marked(w: u64, o: u64) -> u64
     requires { o < slots }
     ensures { NextBit slots w o result }
@@ -285,20 +284,18 @@ pub fn next_marked(w: u64, o: u64) -> u64
 
 // THE SLOTS OF A NODE
 
-// The least slot of node n from o on, below end, that is not empty; end if there is none.
+// The least slot of node n from o on, below end, that is not empty; end if there is none: a walk goes on from there either way.
 pub fn next_filled(pool: &[u64], n: u64, o: u64, end: u64) -> u64
     requires n_in_bounds { last_place n < length pool.now }
     requires o_le_end { (o ≤ end) × (end ≤ slots) }
     ensures { NextFilled pool.now n o end result }
 {
-    let mut j = o;
-    while j < end {
+    for j in o..end {
         if slot_word(pool, n, j) != 0 {
             return j;
         }
-        j = j + 1;
     }
-    j
+    end
 }
 
 // Whether the slots of node n from o on, below end, are empty; it stops at the first that is not.
@@ -319,10 +316,8 @@ fn blank(pool: &[u64], n: u64, from: u64, end: u64) -> bool
     ensures { Decides result (Blank pool.now n from end) }
 {
     let mut any: u64 = 0;
-    let mut f = from;
-    while f < end {
-        any = any | pool[(ANCHOR_WORDS + NODE_WORDS * n + f) as usize];
-        f = f + 1;
+    for f in from..end {
+        any |= pool[place(n, f) as usize];
     }
     any == 0
 }
@@ -351,10 +346,8 @@ pub fn plain_slots(pool: &[u64], n: u64, from: u64, end: u64) -> bool
     ensures { Decides result (Plain pool.now n from end) }
 {
     let mut inner: u64 = 0;
-    let mut o = from;
-    while o < end {
-        inner = inner | internal_bit(slot_word(pool, n, o));
-        o = o + 1;
+    for o in from..end {
+        inner |= internal_bit(slot_word(pool, n, o));
     }
     inner % 2 == 0
 }

@@ -1,4 +1,5 @@
 -- Laws of entries written one after the other.
+use Rattle.std.specs.Prelude.{Ok, Err}
 use Prim.Native.Nat.{ℕ, suc, ◌+◌, ◌*◌, ◌/◌, ◌≤◌, ◌<◌}
 use mathlib.Core.Path.{◌≡◌, refl, sym, ap, ◌∙◌}
 use mathlib.Core.Bool.{true, false}
@@ -11,7 +12,7 @@ use Rattle.model.specs.declared.Entry.{Entry}
 use Rattle.model.specs.Model.{meets, shown}
 use Rattle.words.specs.Bytes.{write_from, overwrite, bytes_then}
 use Rattle.words.proofs.WriteLaws.{written, overwrite_append, overwrite_all}
-use Rattle.listing.specs.Listing.{Short, Done, listed_tag, listed_length, entry_bytes, encode_entry, listed, listing, fits, outcome, filled_with}
+use Rattle.listing.specs.Listing.{listed_tag, listed_length, entry_bytes, encode_entry, listed, listing, fits, outcome, filled_with}
 use Rattle.listing.specs.Visits.{put_at, emit, Emits}
 
 -- the six numbers of an entry, one after the other
@@ -110,23 +111,23 @@ emit_all room bs k (e ∷ es) h =
 
 -- what the two visits leave
 pub listed_short : {es : List Entry} {bs bs' : List ℕ} {k : ℕ} → Emits 0 es bs 0 bs' k → length bs' / entry_bytes < k →
-    (Short k ≡ outcome es bs) × (bs' ≡ filled_with es bs)
+    (Err (record { entries = k }) ≡ outcome es bs) × (bs' ≡ filled_with es bs)
 listed_short {es} {bs} {bs'} {k} e h =
     let q : k ≡ length es = omega (arith, e.count_is) in
     let w : bs' ≡ bs = e.bytes_are ∙ emit_zero bs 0 es in
     let g : length bs' ≡ length bs = ap length w in
     let n : fits es bs ≡ false = lt-leb (entry_bytes * length es) (length bs) (omega arith) in
-    (rw n (ap Short q), rw n w)
+    (rw n (ap (λ (m : ℕ). Err (record { entries = m })) q), rw n w)
 
 pub listed_done : {es : List Entry} {bs bs₁ bs₂ : List ℕ} {k r : ℕ} → Emits 0 es bs 0 bs₁ k →
-    k ≤ length bs₁ / entry_bytes → Emits k es bs₁ 0 bs₂ r → (Done k ≡ outcome es bs) × (bs₂ ≡ filled_with es bs)
+    k ≤ length bs₁ / entry_bytes → Emits k es bs₁ 0 bs₂ r → (Ok k ≡ outcome es bs) × (bs₂ ≡ filled_with es bs)
 listed_done {es} {bs} {bs₁} {bs₂} {k} a h b =
     let q : k ≡ length es = omega (arith, a.count_is) in
     let w : bs₁ ≡ bs = a.bytes_are ∙ emit_zero bs 0 es in
     let g : length bs₁ ≡ length bs = ap length w in
     let f : entry_bytes * length es ≤ length bs = omega arith in
     let n : fits es bs ≡ true = le-leb (entry_bytes * length es) (length bs) f in (
-      rw n (ap Done q),
+      rw n (ap Ok q),
       rw n
           (b.bytes_are
           ∙ ap (λ (x : List ℕ). emit k x 0 es) w

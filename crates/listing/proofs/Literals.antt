@@ -4,7 +4,8 @@ use mathlib.Core.Path.{◌≡◌, refl}
 use mathlib.Core.List.{[], ◌∷◌}
 use lib.ListN.{replicate}
 use Rattle.model.specs.declared.Entry.{Entry}
-use Rattle.listing.specs.Listing.{Short, Done, listing, outcome}
+use Rattle.std.specs.Prelude.{Ok, Err}
+use Rattle.listing.specs.Listing.{listing, outcome}
 
 -- an entry, every byte of its fields its own, and a reservation
 pub listing_in_bytes :
@@ -27,5 +28,5 @@ listing_in_bytes = refl
 
 -- two of them take 42 bytes, and 41 are too few
 pub room_in_bytes : (e f : Entry) →
-    (outcome (e ∷ f ∷ []) (replicate 41 0) ≡ Short 2) × (outcome (e ∷ f ∷ []) (replicate 42 0) ≡ Done 2)
+    (outcome (e ∷ f ∷ []) (replicate 41 0) ≡ Err (record { entries = 2 })) × (outcome (e ∷ f ∷ []) (replicate 42 0) ≡ Ok 2)
 room_in_bytes e f = (refl, refl)

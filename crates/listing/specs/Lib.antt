@@ -1,3 +1,4 @@
 pub mod Listing
 pub mod Visits
 pub mod Claims
+pub mod Refusing

@@ -1,12 +1,11 @@
 -- The listing (P1: the list of evidence): the entries between two indices, as bytes (R143 to R146).
-use Rattle.std.specs.Prelude.{ℕ, ◌*◌, Bool, List, [], ◌∷◌, ◌++◌, leb, length, drop}
+use Rattle.std.specs.Prelude.{ℕ, ◌*◌, Bool, Result, Ok, Err, List, [], ◌∷◌, ◌++◌, leb, length, drop}
 use Rattle.blocks.specs.Choice.{pick}
 use Rattle.blocks.specs.Lists.{keep}
 use Rattle.model.specs.declared.Entry.{Entry}
 use Rattle.model.specs.Model.{shown, meets}
 use Rattle.words.specs.Bytes.{bytes_then}
-pub use Rattle.listing.specs.declared.Listed.{Listed}
-pub use Rattle.listing.specs.declared.Listed.TheVariants.{Short, Done}
+pub use Rattle.listing.specs.declared.Short.{Short}
 
 -- R143: those whose run meets first .. last, in the order of the list
 abbrev pub listed : List Entry → (first last : ℕ) → List Entry
@@ -41,8 +40,8 @@ abbrev pub fits : List Entry → List ℕ → Bool
 fits es bs = leb (entry_bytes * length es) (length bs)
 
 -- what it comes to, with the number of entries
-abbrev pub outcome : List Entry → List ℕ → Listed
-outcome es bs = pick (fits es bs) (Done (length es)) (Short (length es))
+abbrev pub outcome : List Entry → List ℕ → Result ℕ Short
+outcome es bs = pick (fits es bs) (Ok (length es)) (Err (record { entries = length es }))
 
 -- the buffer afterwards: the bytes past the list stay (R146)
 abbrev pub filled_with : List Entry → List ℕ → List ℕ

@@ -12,8 +12,10 @@ ghost use Rattle.tree.specs.Tree.{slots, tier_order, top_tier};
 ghost use Rattle.layout.specs.WellFormed.{WellFormed, num};
 ghost use Rattle.words.specs.Bytes.{overwrite};
 ghost use Rattle.listing.specs.Listing.{entry_bytes, encode_entry, listed, outcome, filled_with};
+ghost use Rattle.listing.specs.Refusing.{refusal_of};
 ghost use Rattle.listing.specs.Visits.{between, Emits, Ready};
 
+use answers::{Answer, Refusal};
 use layout::{SLOT_BITS, SLOTS, block_of};
 use lookup::{Entered, Sight, enter, entry_at, look};
 use model::{Entry, shown_word};
@@ -33,11 +35,22 @@ pub struct Wanted {
     pub room: u64,
 }
 
-// What a listing comes to, with the number of its entries: they do not fit, and nothing was written; all are written.
-#[derive(Clone, Copy)]
-pub enum Listed {
-    Short(u64),
-    Done(u64),
+// Why a listing is refused: so many entries do not fit, and nothing was written.
+#[derive(Clone, Copy, PartialEq, Eq)]
+pub struct Short {
+    pub entries: u64,
+}
+
+// A call refuses it as a reply space too small, with the number of entries.
+impl From<Short> for Refusal {
+    ghost from_gives = { λ short r. r ≡ refusal_of short };
+
+    fn from(short: Short) -> Refusal {
+        Refusal {
+            answer: Answer::ReplySpace,
+            number: short.entries,
+        }
+    }
 }
 
 // The bytes of an entry, from a place on.
@@ -63,12 +76,10 @@ fn offer(buffer: &mut [u8], range: Wanted, k: u64, e: Entry) -> u64
     ensures { Emits range.room (listed (e ∷ []) range.first range.last) buffer.old k
         buffer.new result }
 {
-    let base = e.base;
-    let order = e.order;
-    if range.last < base {
+    if range.last < e.base {
         return k;
     }
-    if base + (pow2(order) - 1) < range.first {
+    if e.base + (pow2(e.order) - 1) < range.first {
         return k;
     }
     if range.room <= k {
@@ -124,15 +135,13 @@ fn visit_node(pool: &[u64], n: u64, v: u64, b: u64, range: Wanted, buffer: &mut 
         range.last) buffer.old k buffer.new result }
 {
     let z = block_of(v, range.last);
-    let mut o = 0;
     let mut at = k;
-    while o < SLOTS {
+    for o in 0..SLOTS {
         let c = SLOTS * b + o;
         if z < c {
             return at;
         }
         at = visit_slot(pool, n, v, c, range, buffer, at);
-        o = o + 1;
     }
     at
 }
@@ -152,8 +161,8 @@ fn visit_head(pool: &[u64], range: Wanted, buffer: &mut [u8]) -> u64
     }
 }
 
-// The entries between two indices, if all of them fit (R145): counted first, then written.
-pub fn list(pool: &[u64], first: u64, last: u64, buffer: &mut [u8]) -> Listed
+// The entries between two indices, if all of them fit (R145): counted first, then written; how many they are.
+pub fn list(pool: &[u64], first: u64, last: u64, buffer: &mut [u8]) -> Result<u64, Short>
     requires { WellFormed pool.now }
     ensures value { (s : WellFormed pool.now) →
         result ≡ outcome (listed s.list first last) buffer.old }
@@ -161,20 +170,15 @@ pub fn list(pool: &[u64], first: u64, last: u64, buffer: &mut [u8]) -> Listed
         buffer.new ≡ filled_with (listed s.list first last) buffer.old }
 {
     let count = Wanted {
-        first: first,
-        last: last,
+        first,
+        last,
         room: 0,
     };
     let k = visit_head(pool, count, buffer);
     let bytes = buffer.len() as u64;
     if bytes / ENTRY_BYTES < k {
-        return Listed::Short(k);
+        return Err(Short { entries: k });
     }
-    let write = Wanted {
-        first: first,
-        last: last,
-        room: k,
-    };
-    visit_head(pool, write, buffer);
-    Listed::Done(k)
+    visit_head(pool, Wanted { room: k, ..count }, buffer);
+    Ok(k)
 }

@@ -23,13 +23,6 @@ use words::pow2;
 // The filter that takes any entry.
 const ANY_MARK: u64 = 3;
 
-// The way down stops, or goes on into a node.
-#[derive(Clone, Copy)]
-pub enum Down {
-    Here,
-    Into(u64),
-}
-
 // Where the way down stopped: a node, and the tier of its slots.
 #[derive(Clone, Copy)]
 pub struct Stop {
@@ -38,6 +31,7 @@ pub struct Stop {
 }
 
 // Slots of a node that find passes at once: the slot after them, and the steps that they count; 0 steps: none are.
+// An Option of it is slower: 3 in 100 more instructions of a find, counted with callgrind.
 #[derive(Clone, Copy)]
 pub struct Passed {
     pub to: u64,
@@ -46,8 +40,8 @@ pub struct Passed {
 
 // THE WAY DOWN, AS THE FILTER LEADS
 
-// Whether the way down to p goes on through its slot in node n: it leads to a node and has the filter's mark.
-fn below(pool: &[u64], n: u64, v: u64, p: u64, filter: u64) -> Down
+// The node that the way down to p goes on into through its slot in node n: the slot leads there and has the filter's mark.
+fn below(pool: &[u64], n: u64, v: u64, p: u64, filter: u64) -> Option<u64>
     requires well_formed { WellFormed pool.now }
     requires v_lt_top_tier { v < top_tier }
     requires filter_le_any_mark { filter ≤ any_mark }
@@ -59,15 +53,14 @@ fn below(pool: &[u64], n: u64, v: u64, p: u64, filter: u64) -> Down
     match k {
         Sight::Below(m) => {
             if filter == ANY_MARK {
-                return Down::Into(m);
+                return Some(m);
             }
             if mark_bit(pool, n, filter, block_of(v, p) % SLOTS) == 1 {
-                return Down::Into(m);
+                return Some(m);
             }
-            Down::Here
+            None
         }
-        Sight::Gap => Down::Here,
-        Sight::Shows(_) => Down::Here,
+        Sight::Gap | Sight::Shows(_) => None,
     }
 }
 
@@ -83,18 +76,11 @@ fn descend(pool: &[u64], first: u64, top: u64, p: u64, filter: u64) -> Stop
 {
     let mut n = first;
     let mut v = top;
-    loop {
-        let d = below(pool, n, v, p, filter);
-        match d {
-            Down::Here => {
-                return Stop { node: n, tier: v };
-            }
-            Down::Into(m) => {
-                n = m;
-                v = v - 1;
-            }
-        }
+    while let Some(m) = below(pool, n, v, p, filter) {
+        n = m;
+        v -= 1;
     }
+    Stop { node: n, tier: v }
 }
 
 // ONE STEP
@@ -114,14 +100,7 @@ fn takes(filter: u64, e: Entry) -> bool
     requires { filter ≤ any_mark }
     ensures { result ≡ matches filter e }
 {
-    if is_reserved(e) {
-        return false;
-    }
-    if filter == ANY_MARK {
-        return true;
-    }
-    let m = e.marks;
-    (m >> filter) % 2 == 1
+    !is_reserved(e) && (filter == ANY_MARK || (e.marks >> filter) % 2 == 1)
 }
 
 // The step that comes to the entry e.
@@ -134,9 +113,7 @@ fn consider(e: Entry, last: u64, filter: u64) -> Turn
     if takes(filter, e) {
         return Turn::Hit(e);
     }
-    let k = e.order;
-    let b = e.base;
-    onward(b + (pow2(k) - 1), last)
+    onward(e.base + (pow2(e.order) - 1), last)
 }
 
 // The position after the slot of tier v that p lies in.
@@ -159,8 +136,7 @@ fn finish(pool: &[u64], n: u64, v: u64, p: u64, last: u64, filter: u64) -> Turn
 {
     let k = look(pool, n, v, p);
     match k {
-        Sight::Gap => pass(v, p, last),
-        Sight::Below(_) => pass(v, p, last),
+        Sight::Gap | Sight::Below(_) => pass(v, p, last),
         Sight::Shows(c) => consider(entry_at(pool, n, v, c), last, filter),
     }
 }
@@ -173,11 +149,9 @@ fn siblings_each(pool: &[u64], n: u64, o: u64, to: u64) -> u64
     requires o_le_to { (o ≤ to) × (to ≤ slots) }
     ensures { result ≡ sibling_count (λ j. get_or pool.now (slot_place n j) 0) o (to - o) }
 {
-    let mut j = o;
     let mut k = 0;
-    while j < to {
-        k = k + sibling_bit(slot_word(pool, n, j));
-        j = j + 1;
+    for j in o..to {
+        k += sibling_bit(slot_word(pool, n, j));
     }
     k
 }
@@ -219,7 +193,7 @@ fn over_unmarked(pool: &[u64], n: u64, o: u64, m: u64) -> Passed
     }
     let k = siblings(pool, n, o, to);
     Passed {
-        to: to,
+        to,
         steps: to - o - k,
     }
 }
@@ -235,10 +209,7 @@ fn leap(pool: &[u64], n: u64, o: u64, filter: u64) -> Passed
 {
     if filter == ANY_MARK {
         let to = next_filled(pool, n, o, SLOTS);
-        return Passed {
-            to: to,
-            steps: to - o,
-        };
+        return Passed { to, steps: to - o };
     }
     over_unmarked(pool, n, o, filter)
 }
@@ -315,21 +286,14 @@ fn walk_under(
         m = s.node;
         u = s.tier;
         let t = stride(pool, m, u, q, last, filter, k, budget);
-        match t {
-            Outcome::Found(e, j) => {
-                return Outcome::Found(e, j);
-            }
-            Outcome::Ended(j) => {
-                return Outcome::Ended(j);
-            }
-            Outcome::Paused(z, j) => {
-                if block_of(u, z) / SLOTS != block_of(u, q) / SLOTS {
-                    return Outcome::Paused(z, j);
-                }
-                q = z;
-                k = j;
-            }
+        let Outcome::Paused(z, j) = t else {
+            return t;
+        };
+        if block_of(u, z) / SLOTS != block_of(u, q) / SLOTS {
+            return t;
         }
+        q = z;
+        k = j;
     }
     Outcome::Paused(q, k)
 }
@@ -359,18 +323,11 @@ pub fn find(pool: &[u64], first: u64, last: u64, filter: u64, budget: u64) -> Ou
     let mut n = 0;
     while n < budget {
         let t = walk(pool, p, last, filter, n, budget);
-        match t {
-            Outcome::Found(e, m) => {
-                return Outcome::Found(e, m);
-            }
-            Outcome::Ended(m) => {
-                return Outcome::Ended(m);
-            }
-            Outcome::Paused(q, m) => {
-                p = q;
-                n = m;
-            }
-        }
+        let Outcome::Paused(q, m) = t else {
+            return t;
+        };
+        p = q;
+        n = m;
     }
     Outcome::Paused(p, n)
 }

@@ -1,18 +1,16 @@
 -- One bit of a word set or cleared, and the words whose bits are the marks.
-use Prim.Native.Nat.{ℕ, suc, ◌+◌, ◌*◌, ◌-◌, ◌/◌, ◌^◌, ◌≤◌, ◌<◌}
-use mathlib.Core.Path.{◌≡◌, refl, sym, ap, ◌∙◌}
+use Prim.Native.Nat.{ℕ, ◌+◌, ◌*◌, ◌-◌, ◌/◌, ◌^◌, ◌≤◌, ◌<◌}
+use mathlib.Core.Path.{◌≡◌, refl, sym, ◌∙◌}
 use mathlib.Core.Bool.{Bool, true, false}
 use native.Mathlib.Omega.{arith}
-use native.Mathlib.Nat.{div-eq_of_lt, mul_assoc, pow-succ'}
+use native.Mathlib.Nat.{div-eq_of_lt}
 use lib.Dec.{ltb, eqb}
 use borrow.Author.Tests.{eqb-true, eqb-false, ltb-true, ltb-false, eq-eqb, ne_eqb}
 use Rattle.blocks.specs.Choice.{pick}
-use Rattle.blocks.specs.Blocks.{block, bit, bits_to, set_bit}
+use Rattle.blocks.specs.Blocks.{bit, bits_to, set_bit}
 use Rattle.blocks.proofs.BoolLaws.{by_t}
-use Rattle.blocks.proofs.BlockLaws.{pow_pos, block_block, block_hi}
+use Rattle.blocks.proofs.BlockLaws.{pow_pos}
 use Rattle.blocks.proofs.BitLaws.{bits_read, bits_change}
-use Rattle.tree.specs.Tree.{slots}
-use Rattle.lookup.proofs.StandLaws.{end_fits}
 
 pub bit_kept : (j w : ℕ) (b : Bool) → set_bit j b w ≡ w → bit j w ≡ pick b 1 0
 bit_kept j w true h = by_t (eqb (bit j w) 1) (λ t. eqb-true _ _ t)
@@ -23,22 +21,6 @@ bit_kept j w false h = by_t (eqb (bit j w) 0) (λ t. eqb-true _ _ t)
     let h' : w - 1 * 2 ^ j + 0 ≡ w = rw z at h in let le : 2 ^ j ≤ w =
     (by_t (ltb w (2 ^ j)) (λ t. let z : w / 2 ^ j ≡ 0 = div-eq_of_lt (ltb-true _ _ t) in absurd (omega arith))
     (λ t. ltb-false _ _ t)) in absurd (omega (arith, pow_pos j)))
-
-pub bit_le : (j w : ℕ) → bit j w ≡ 1 → 2 ^ j ≤ w
-bit_le j w h = by_t (ltb w (2 ^ j)) (λ t. let z : w / 2 ^ j ≡ 0 = div-eq_of_lt (ltb-true _ _ t) in
-    absurd (omega arith)) (λ t. ltb-false _ _ t)
-
-pub bit_fits : (j w : ℕ) → j < slots → w < 2 ^ 64 → (bit j w ≡ 1 → ⊥) → w + 2 ^ j < 2 ^ 64
-bit_fits j w h lt ne =
-    let d : ℕ = w / 2 ^ j in
-    let s : suc j - j ≡ 1 = omega arith in
-    let D : block (suc j) w ≡ w / 2 ^ j / 2 = block_block {j = j} {k = suc j} w (omega arith) ∙ ap
-    (λ (x : ℕ). w / 2 ^ j / 2 ^ x) s in
-    let e : block (suc j) w * 2 ^ suc j + 2 ^ suc j ≤ 2 ^ 64 = end_fits (suc j) w (omega arith) lt in
-    let p : 2 ^ suc j ≡ 2 * 2 ^ j = pow-succ' 2 j in
-    let x : block (suc j) w * 2 ^ suc j ≡ w / 2 ^ j * 2 ^ j = ap (λ (y : ℕ). block (suc j) w * y) p ∙
-    (sym (mul_assoc (block (suc j) w) 2 (2 ^ j)) ∙ ap (λ (y : ℕ). y * 2 ^ j) (omega arith)) in
-    omega (arith, block_hi j w)
 
 pub set_at : (j w : ℕ) (t b : Bool) → bit j w ≡ pick t 1 0 → set_bit j b w ≡ w - pick t (2 ^ j) 0 + pick b (2 ^ j) 0
 set_at j w true b h = rw h (omega arith)

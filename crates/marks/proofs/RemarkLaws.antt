@@ -34,7 +34,7 @@ use Rattle.model.specs.Model.{
   covered,
   mark_count,
 }
-use Rattle.model.specs.declared.Covered.TheVariants.{Nothing, By}
+use Rattle.std.specs.Prelude.{None, Some}
 use Rattle.tree.specs.Tree.{height, tier_order, new_nodes}
 use Rattle.tree.proofs.RelabelLaws.{map_o, covering_map, has_map, new_nodes_map, new_nodes_then}
 use Rattle.tree.specs.Slots.{Numbering}
@@ -203,13 +203,13 @@ places_then_remark old l os i m b = places_alike old l (remark l i m b) os (new_
 
 -- THE ANSWER
 module _ (l : List Entry) (i m : ℕ) (b : Bool) where
-  pub answer_none : Valid l → present (covering l i) ≡ none → Nothing ≡ covered (present (covering (remark l i m b) i))
+  pub answer_none : Valid l → present (covering l i) ≡ none → None ≡ covered (present (covering (remark l i m b) i))
   answer_none v q = sym (ap (λ (k : List Entry). covered (present (covering k i))) (remark_absent l i m b v q) ∙
       ap covered q)
 
   pub answer_some : {e r : Entry} → covering l i ≡ some e → reserved e ≡ false →
-      (covers i e ≡ true → r ≡ with_mark i m b e) → By r ≡ covered (present (covering (remark l i m b) i))
+      (covers i e ≡ true → r ≡ with_mark i m b e) → Some r ≡ covered (present (covering (remark l i m b) i))
   answer_some {e} q n f =
-      ap By (f (first_yes (covers i) (each l (λ x m. m)) q).0) ∙ sym
+      ap Some (f (first_yes (covers i) (each l (λ x m. m)) q).0) ∙ sym
       (ap (λ (o : Option Entry). covered (present o))
       (covering_map (with_mark i m b) (λ x. refl) (λ x. refl) i l ∙ ap (map_o (with_mark i m b)) q) ∙ (rw n refl))

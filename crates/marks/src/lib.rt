@@ -16,32 +16,14 @@ ghost use Rattle.marks.specs.Climb.{StandsAt};
 
 use layout::{MARKS_WORD, SLOTS, mark_word, owner_of, put_mark_word};
 use lookup::{Located, Spot, locate};
-use model::{Covered, Entry, is_reserved};
-use words::pow2;
+use model::{Entry, is_reserved};
+use words::with_bit;
 
 // Whether any slot of a node has the mark, by its mark word.
 fn nonzero(w: u64) -> bool
     ensures { result ≡ not (eqb w 0) }
 {
     w != 0
-}
-
-// w with bit j set or cleared.
-pub fn with_bit(w: u64, j: u64, on: bool) -> u64
-    requires { j < slots }
-    ensures { result ≡ set_bit j on w }
-{
-    let was = (w >> j) % 2;
-    if on {
-        if was == 1 {
-            return w;
-        }
-        return w + pow2(j);
-    }
-    if was == 0 {
-        return w;
-    }
-    w - pow2(j)
 }
 
 // Mark m of the anchor, set or cleared.
@@ -82,7 +64,7 @@ pub fn climb(pool: &mut [u64], i: u64, at: Spot, m: u64, on: bool)
         }
         n = (p - 1) / SLOTS;
         o = (p - 1) % SLOTS;
-        v = v + 1;
+        v += 1;
     }
     mark_anchor(pool, m, b);
 }
@@ -93,21 +75,14 @@ fn remarked(e: Entry, m: u64, on: bool) -> Entry
     requires e_value { reserved e ≡ false }
     ensures { (i : ℕ) → covers i e ≡ true → result ≡ with_mark i m on e }
 {
-    let b = e.base;
-    let k = e.order;
-    let w = e.word;
-    let x = e.marks;
-    let y = with_bit(x, m, on);
     Entry {
-        base: b,
-        order: k,
-        word: w,
-        marks: y,
+        marks: with_bit(e.marks, m, on),
+        ..e
     }
 }
 
 // Sets or clears mark m of the entry that covers i; the entry as it then stands. A reservation has no marks, and stays.
-pub fn set_mark(pool: &mut [u64], i: u64, m: u64, on: bool) -> Covered
+pub fn set_mark(pool: &mut [u64], i: u64, m: u64, on: bool) -> Option<Entry>
     requires well_formed { WellFormed pool.old }
     requires m_lt_mark_count { m < mark_count }
     ensures value { (s : WellFormed pool.old) → result ≡ covered (present (covering (remark s.list i m on) i)) }
@@ -116,21 +91,20 @@ pub fn set_mark(pool: &mut [u64], i: u64, m: u64, on: bool) -> Covered
 {
     let k = locate(pool, i);
     match k {
-        Located::Apart => Covered::Nothing,
-        Located::Vacant(_, _, _) => Covered::Nothing,
+        Located::Apart | Located::Vacant(_, _, _) => None,
         Located::AtHead(e) => {
             if is_reserved(e) {
-                return Covered::Nothing;
+                return None;
             }
             mark_anchor(pool, m, on);
-            Covered::By(remarked(e, m, on))
+            Some(remarked(e, m, on))
         }
         Located::InNode(x, at, _) => {
             if is_reserved(x) {
-                return Covered::Nothing;
+                return None;
             }
             climb(pool, i, at, m, on);
-            Covered::By(remarked(x, m, on))
+            Some(remarked(x, m, on))
         }
     }
 }

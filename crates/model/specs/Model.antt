@@ -6,12 +6,11 @@
 -- the rest    erase, remark
 use Rattle.std.specs.Prelude.{ℕ, ◌+◌, ◌*◌, ◌%◌, ◌^◌, ◌≤◌, ◌<◌, ◌≡◌, Bool, false, not, List, [], ◌∷◌, map, leb, ltb, eqb, T}
 use Rattle.std.proofs.Math.Option.{Option, none, some}
+use Rattle.std.specs.Prelude as rust
 use Rattle.blocks.specs.Choice.{pick, both, either}
 use Rattle.blocks.specs.Lists.{any, keep, without, first}
 use Rattle.blocks.specs.Blocks.{block, bit, set_bit}
 pub use Rattle.model.specs.declared.Entry.{Entry}
-pub use Rattle.model.specs.declared.Covered.{Covered}
-pub use Rattle.model.specs.declared.Covered.TheVariants.{Nothing, By}
 
 -- AN ENTRY
 -- R6: odd, or a multiple of 4 and not 0
@@ -92,9 +91,10 @@ abbrev pub present : Option Entry → Option Entry
 present none = none
 present (some e) = pick (reserved e) none (some e)
 
-abbrev pub covered : Option Entry → Covered
-covered none = Nothing
-covered (some e) = By e
+-- as a command hands it back: Rust's Option
+abbrev pub covered : Option Entry → rust.Option Entry
+covered none = rust.None
+covered (some e) = rust.Some e
 
 -- the entry starts in block c of order j
 abbrev pub starts : ℕ → ℕ → Entry → Bool

@@ -18,13 +18,6 @@ pub struct Entry {
     pub marks: u64,
 }
 
-// What covers an index, as the changing commands hand it back.
-#[derive(Clone, Copy)]
-pub enum Covered {
-    Nothing,
-    By(Entry),
-}
-
 // Whether it is a reservation (R200).
 pub fn is_reserved(e: Entry) -> bool
     ensures { result ≡ reserved e }

@@ -12,6 +12,7 @@ use lib.ListN.{length, get_or, set, length-set}
 use lib.Seq.{get_or-set_same, get_or-set_other}
 use lib.Bits.{bit_and, bit_or, or_lt, or_zero_l, and_zero_l, and_zero_r, and_self, and_le_l, and_shr}
 use borrow.Author.Tests.{eqb-true, eqb-false, eq-eqb, ne_eqb, ltb-true, ltb-false, lt-ltb, le-ltb}
+use Rattle.std.specs.Int.{from_bool}
 use Rattle.blocks.specs.Choice.{pick}
 use Rattle.blocks.specs.Blocks.{bit}
 use Rattle.blocks.proofs.BoolLaws.{by_t}
@@ -21,12 +22,16 @@ use Rattle.model.specs.Model.{reserved_word}
 use Rattle.tree.specs.Tree.{slots}
 use Rattle.layout.specs.Pool.{Pool}
 use Rattle.layout.specs.Reading.{Internal}
-use Rattle.passes.specs.Bytes.{short_of, Shorts, byte_by, not_leaf, not_upper, Weighs, Framed, Bytes, BytesFrom}
-use Rattle.passes.specs.Bytes.{unfit_of, Chained, ChainedTo, HeldTo, NoneLead}
+use Rattle.passes.specs.Bytes.{short_of, Shorts, byte_by, not_leaf, not_upper, large_at, Weighs, Framed, Bytes, BytesFrom}
+use Rattle.passes.specs.Bytes.{unfit_of, Chained, ChainedTo, HeldTo}
 use Rattle.steps.specs.Steps.{filled_to}
 use Rattle.decode.proofs.ChainLaws.{bit_lt}
 
 -- BITS
+pub byte_pick : (b : Bool) → from_bool b ≡ pick b 1 0
+byte_pick true = refl
+byte_pick false = refl
+
 pub pick_le : (b : Bool) (r : ℕ) → r ≡ pick b 1 0 → r ≤ 1
 pick_le true r e = omega arith
 pick_le false r e = omega arith
@@ -172,12 +177,15 @@ short_byte t = short_as (byte_by t) (λ w h.
     let m : (8192 + w % 4) % 4 ≡ w % 4 = omega arith in
     rw (m, le-ltb (8192 + w % 4) 256 (omega arith), le-ltb w 256 (omega arith), ne_eqb (8192 + w % 4) 0 (omega arith), ne_eqb w 0 (omega arith)))
 
-pub short_not_leaf : (w : ℕ) → not_leaf (short_of w) ≡ not_leaf w
+short_not_leaf : (w : ℕ) → not_leaf (short_of w) ≡ not_leaf w
 short_not_leaf = short_as not_leaf (λ w h.
     rw (ne_eqb (8192 + w % 4) reserved_word (omega arith), ne_eqb w reserved_word (omega arith)))
 
-pub short_not_upper : (w : ℕ) → not_upper (short_of w) ≡ not_upper w
+short_not_upper : (w : ℕ) → not_upper (short_of w) ≡ not_upper w
 short_not_upper = short_as not_upper (λ w h. le-ltb (8192 + w % 4) 4096 (omega arith) ∙ sym (le-ltb w 4096 (omega arith)))
+
+pub short_large_at : (t w : ℕ) → large_at t (short_of w) ≡ large_at t w
+short_large_at t w = by_t (eqb t 4) (λ e. rw e (short_not_leaf w)) (λ e. rw e (short_not_upper w))
 
 weighs_word : (large : ℕ → Bool) (w y r : ℕ) → large y ≡ large w → y ≡ short_of w → Weighs large y r → Weighs large w r
 weighs_word large w y r same e g = record {
@@ -337,16 +345,6 @@ chained_on bs bad f j h o z i l =
 pub chained_all : (bs : List ℕ) (bad j : ℕ) → (bad ≡ 0 → ChainedTo bs j) → slots ≤ j → bad ≡ 0 → ChainedTo bs slots
 chained_all bs bad j h l z i lt = h z i (omega arith)
 
-pub none_lead_on : (bs : List ℕ) (any f j : ℕ) → (any ≡ 0 → NoneLead bs j) → f ≡ pick (eqb (get_or bs (j + 1) 0) 5) 1 0 →
-    bit_or any f ≡ 0 → NoneLead bs (j + 1)
-none_lead_on bs any f j h e z i l q =
-    let p = or_none any f z in
-    by_t (eqb i j)
-    (λ t. let k : i ≡ j = eqb-true i j t in
-    let x : get_or bs (j + 1) 0 ≡ 5 = subst (λ (y : ℕ). get_or bs (y + 1) 0 ≡ 5) k q in
-    let y : f ≡ 1 = e ∙ ap (λ (b : Bool). pick b 1 0) (eq-eqb (get_or bs (j + 1) 0) 5 x) in omega (arith, p.1))
-    (λ t. let k : i ≢ j = eqb-false i j t in h p.0 i (omega arith) q)
-
 -- bit k of f is set if the slot of that number, of the t last ones, has no entry and leads to no node
 pub record Off (bs : List ℕ) (t f : ℕ) : Type 0 where
   pub most : t ≤ slots
@@ -359,7 +357,7 @@ off_start bs = record { most = omega arith; fits = omega arith; bits = λ k h. a
 pub off_small : (bs : List ℕ) (t f : ℕ) → Off bs t f → t < slots → f < 2 ^ 63
 off_small bs t f o l = let s : 2 ^ t ≤ 2 ^ 63 = pow_mono {i = t} {j = 63} (omega arith) in omega (arith, o.fits)
 
-pub off_next : (bs : List ℕ) (t f b : ℕ) → Off bs t f → t < slots → b ≡ pick (not (eqb (get_or bs (64 - t) 0 % 4) 1)) 1 0 →
+off_next : (bs : List ℕ) (t f b : ℕ) → Off bs t f → t < slots → b ≡ pick (not (eqb (get_or bs (64 - t) 0 % 4) 1)) 1 0 →
     Off bs (t + 1) (2 * f + b)
 off_next bs t f b o l e = record {
   most = omega arith;
@@ -380,6 +378,15 @@ off_next bs t f b o l e = record {
         let z : (2 * f + b) / 2 ≡ f = omega arith in
         let d : 65 - (t + 1) + suc k ≡ 65 - t + k = omega arith in
         bit_suc k (2 * f + b) ∙ ap (bit k) z ∙ o.bits k (omega arith) (subst (λ (x : ℕ). get_or bs x 0 % 4 ≢ 1) d ne)
+
+-- one slot further down
+pub off_down : (bs : List ℕ) (j f b : ℕ) → Off bs (64 - j) f → 0 < j → j ≤ slots → b ≡ from_bool (not (eqb (get_or bs (j - 1 + 1) 0 % 4) 1)) →
+    Off bs (64 - (j - 1)) (2 * f + b)
+off_down bs j f b o p l e =
+    let d : j - 1 + 1 ≡ 64 - (64 - j) = omega arith in
+    let x : 64 - j + 1 ≡ 64 - (j - 1) = omega arith in
+    subst (λ (t : ℕ). Off bs t (2 * f + b)) x (off_next bs (64 - j) f b o (omega arith)
+    (e ∙ byte_pick _ ∙ ap (λ (i : ℕ). pick (not (eqb (get_or bs i 0 % 4) 1)) 1 0) d))
 
 pub off_all : (bs : List ℕ) (m t f : ℕ) → Off bs t f → slots ≤ t → bit_and f m ≡ 0 → HeldTo bs m slots
 off_all bs m t f o l z i lt ne =

@@ -173,7 +173,7 @@ module _ (P : Pool) (n v m : ℕ) (bs : List ℕ) (g : Seen P n v m bs) (ch : Ch
       subst (λ (x : ℕ). Gone P n v x) d (gone_on P n v o (j - o) p.gone
       (step_run P n v o p.held lt (j - o) m r (fits_held P n v o (j - o) lt k g.high f) am p.gone.past
       (λ i x y. low_clear i (omega arith) (sibling_not_held i o (p.all i x (omega arith)))
-      (let z : P.slot n i ≡ 4 * o + 2 = p.all i x (omega arith) in omega arith))) (λ z. omega (arith, z)))
+      (let z : P.slot n i ≡ 4 * o + 2 = p.all i x (omega arith) in omega arith))))
     where
       sibling_not_held : (i o : ℕ) → P.slot n i ≡ sibling_word o → slot_at P n i ≢ Held
       sibling_not_held i o e q = (word_of_lem (P.slot n i) Held q).1 (let z : P.slot n i % 4 ≡ 2 = omega arith in z)
@@ -206,7 +206,7 @@ module _ (P : Pool) (n v m : ℕ) (bs : List ℕ) (g : Seen P n v m bs) (ch : Ch
   one_more : (j : ℕ) (κ : Slot) → j < slots → slot_at P n j ≡ κ → slot_at P n j ≢ Held → Gone P n v j →
       Stepped P n v j 1 → (P.slot n j % 4 ≡ 2 → 256 ≤ P.slot n j) → At (j + 1)
   one_more j κ lt e ne gone s r = inl (record {
-    gone = gone_on P n v j 1 gone s (λ z. omega (arith, z));
+    gone = gone_on P n v j 1 gone s;
     free = λ i q. let k : i ≡ j = omega arith in subst (λ (x : ℕ). slot_at P n x ≢ Held) (sym k) ne;
     none = λ i q. let k : i ≡ j = omega arith in
         subst (λ (x : ℕ). P.slot n x % 4 ≡ 2 → 256 ≤ P.slot n x) (sym k) r;

@@ -39,6 +39,10 @@ not_leaf w = not (eqb w reserved_word)
 abbrev pub not_upper : ℕ → Bool
 not_upper w = ltb w 4096
 
+-- by the byte of an internal word that is no sibling's
+abbrev pub large_at : ℕ → ℕ → Bool
+large_at t = pick (eqb t 4) not_leaf not_upper
+
 -- r is 1 for a filled slot with the word w and 0 for an empty one; more than slots for an internal word that is too large
 pub record Weighs (large : ℕ → Bool) (w r : ℕ) : Type 0 where
   pub few : r ≤ slots + 1
@@ -79,6 +83,12 @@ ChainedTo bs j = (i : ℕ) → i < j → Chained (get_or bs i 0) (get_or bs (i +
 -- each slot before slot j that has a mark in m has an entry or leads to a node
 abbrev pub HeldTo : List ℕ → (m j : ℕ) → Type 0
 HeldTo bs m j = (i : ℕ) → i < j → get_or bs (i + 1) 0 % 4 ≢ 1 → bit i m ≡ 0
+
+-- bs has the bytes of all slots of node n; k of these are filled, no internal word is too large, and no slot is at fault
+pub record Good (byte : ℕ → ℕ) (large : ℕ → Bool) (P : Pool) (n : ℕ) (bs : List ℕ) (k : ℕ) : Type 0 where
+  pub few : k ≤ slots
+  pub bytes : Bytes byte large P n slots bs k
+  pub chained : ChainedTo bs slots
 
 -- no slot before slot j leads to a node
 abbrev pub NoneLead : List ℕ → ℕ → Type 0

@@ -4,14 +4,21 @@ use mathlib.Core.Path.{◌≡◌, refl, sym, ap, subst, ◌∙◌}
 use mathlib.Core.Bool.{Bool, true, false}
 use mathlib.Core.List.{List}
 use mathlib.Core.Option.{Option, none, some}
+use mathlib.Core.Logic.{◌⊎◌, inl, inr}
 use native.Mathlib.Omega.{arith}
 use lib.ListN.{length, get_or}
 use borrow.Author.Tests.{ne_eqb, lt-ltb, le-ltb}
 use Rattle.blocks.specs.Choice.{pick}
-use Rattle.answers.specs.declared.Result.{Result}
+use Rattle.answers.specs.declared.Report.{Report}
 use Rattle.answers.specs.Answers.{result_of, done, reply_space, bad_mark, absent}
 use Rattle.model.specs.declared.Entry.{Entry}
 use Rattle.model.specs.Model.{reserved, covering, present, remark, mark_count}
+use Rattle.tree.specs.Slots.{Numbering}
+use Rattle.lookup.specs.declared.Located.{Located}
+use Rattle.lookup.specs.declared.Located.TheVariants.{Apart, Vacant, AtHead, InNode}
+use Rattle.lookup.specs.declared.Spot.{Spot}
+use Rattle.lookup.specs.Views.{Locates}
+use Rattle.lookup.proofs.HeadLaws.{at_apart, at_vacant, at_head, at_spot}
 use Rattle.layout.specs.Words.{pool_words, max_nodes}
 use Rattle.layout.specs.Places.{Places, render}
 use Rattle.layout.specs.WellFormed.{WellFormed}
@@ -27,18 +34,29 @@ use Rattle.script_table.specs.Table.{laid, Tables}
 use Rattle.script_table.proofs.LaidLaws.{laid_all}
 use Rattle.preparing.specs.Prepare.{Yield, refused, yielding, preparing}
 
+-- WHERE AN INDEX STANDS, in the two ways of which the code makes one
+module _ {l : List Entry} {ν : Numbering} {i : ℕ} {k : Located} (w : Locates l ν i k) where
+  pub uncovered : (k ≡ Apart) ⊎ ((n : ℕ) × (v : ℕ) × (d : ℕ) × (k ≡ Vacant n v d)) → covering l i ≡ none
+  uncovered (inl e) = (at_apart w e).0
+  uncovered (inr (n, v, d, e)) = (at_vacant n v d w e).1
+
+  pub covered : ((x : Entry) × (k ≡ AtHead x)) ⊎ ((x : Entry) × (p : Spot) × (d : ℕ) × (k ≡ InNode x p d)) →
+      (x : Entry) × (covering l i ≡ some x)
+  covered (inl (x, e)) = (x, (at_head x w e).1)
+  covered (inr (x, p, d, e)) = (x, (at_spot x p d w e).0)
+
 -- AS THE CODE SAYS IT
-pub record Gives (r : Result) (out : List ℕ) (y : Yield) : Type 0 where
+pub record Gives (r : Report) (out : List ℕ) (y : Yield) : Type 0 where
   pub result_is : r ≡ y.result
   pub slice_is : out ≡ y.slice
 
-pub gives_same : {r : Result} {out : List ℕ} {y z : Yield} → z ≡ y → Gives r out y → Gives r out z
+pub gives_same : {r : Report} {out : List ℕ} {y z : Yield} → z ≡ y → Gives r out y → Gives r out z
 gives_same e g = record {
   result_is = g.result_is ∙ sym (ap (λ (x : Yield). x.result) e);
   slice_is = g.slice_is ∙ sym (ap (λ (x : Yield). x.slice) e);
 }
 
-pub gives_refused : {r : Result} {out : List ℕ} {y : Yield} (a : ℕ) → r ≡ result_of a 0 → y ≡ refused a out → Gives r out y
+pub gives_refused : {r : Report} {out : List ℕ} {y : Yield} (a : ℕ) → r ≡ result_of a 0 → y ≡ refused a out → Gives r out y
 gives_refused a e f = gives_same f (record { result_is = e; slice_is = refl })
 
 -- A SCRIPT IN A SLICE

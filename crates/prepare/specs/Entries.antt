@@ -1,5 +1,5 @@
 -- An entry that is there, in a node or as head, becomes another of the same range.
-use Rattle.std.specs.Prelude.{ℕ, ◌<◌, ◌≡◌, List, Bool, true, false, get_or}
+use Rattle.std.specs.Prelude.{ℕ, ◌<◌, ◌≡◌, List, get_or, Option as Maybe, None, Some}
 use Rattle.std.proofs.Math.Option.{Option, none}
 use Rattle.blocks.specs.Lists.{In}
 use Rattle.model.specs.declared.Entry.{Entry}
@@ -7,6 +7,7 @@ use Rattle.model.specs.Model.{Valid}
 use Rattle.tree.specs.Tree.{has, height}
 use Rattle.layout.specs.Places.{new_places, render}
 use Rattle.layout.specs.WellFormed.{WellFormed}
+pub use Rattle.prepare.specs.declared.Content.{Content}
 use Rattle.script_rows.specs.Becomes.{Becomes, word_in, marks_in}
 use Rattle.script_table.specs.Table.{row_count, Tables}
 use Rattle.script_wide.specs.Wide.{Wide}
@@ -56,14 +57,15 @@ pub record Alone (ws rs ns : List ℕ) (w m : ℕ) : Type 0 where
   pub spare_is : get_or rs 3 0 ≡ 0
   pub no_node : (r : ℕ) → r < row_count → get_or ns r 0 ≡ get_or ws 0 0
 
--- THE WORDS AFTER: another entry stands in the place of an entry that is there; or nothing, where it is erased
-pub data After {ws : List ℕ} (s : WellFormed ws) (i k w m : ℕ) : Bool → List ℕ → Type 0 where
-  edited : (o : Option Entry) (l' : List Entry) → Stays s i k w m o l' → After s i k w m false (render l' s.places s.n)
+-- THE WORDS AFTER: another entry, of a content x, stands in the place of an entry that is there; or nothing, where it is erased
+pub data After {ws : List ℕ} (s : WellFormed ws) (i k : ℕ) : Maybe Content → List ℕ → Type 0 where
+  edited : (x : Content) (o : Option Entry) (l' : List Entry) → Stays s i k x.word x.marks o l' →
+      After s i k (Some x) (render l' s.places s.n)
   erased : (l' : List Entry) → Becomes i k none s.list l' → Valid l' →
-      After s i k w m true (render l' (new_places s.list l' s.places) s.n)
+      After s i k None (render l' (new_places s.list l' s.places) s.n)
 
 -- there are such words
-pub record AfterThere (ws : List ℕ) (i k w m : ℕ) (b : Bool) : Type 0 where
+pub record AfterThere (ws : List ℕ) (i k : ℕ) (a : Maybe Content) : Type 0 where
   pub formed : WellFormed ws
   pub words : List ℕ
-  pub after : After formed i k w m b words
+  pub after : After formed i k a words

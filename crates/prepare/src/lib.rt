@@ -1,18 +1,18 @@
 // Preparing a changing command: the script of the words that it would change. Nothing is written in the pool.
 //
-// pool: the borrowed words; rows, nums: the rows of the touched nodes and their numbers (crates script_rows, script_table); out: the
+// pool: the borrowed words; table: the rows of the touched nodes and their numbers (crates script_rows, script_table); out: the
 // borrowed words for the script; top: the tier of the head.
 #![tactic(auto)]
 
 ghost use Rattle.std.specs.Prelude.{ℕ, ◌+◌, ◌≤◌, ◌<◌, ◌≡◌, List, length, get_or, set, true, false};
 ghost use Rattle.std.proofs.Math.Option.{Option, none, some};
-ghost use Rattle.answers.specs.Answers.{result_of};
+ghost use Rattle.answers.specs.Answers.{report_of};
 ghost use Rattle.blocks.specs.Blocks.{set_bit};
 ghost use Rattle.blocks.specs.Lists.{any};
 ghost use Rattle.model.specs.Model.{Valid, max_order, mark_count, matched_mark, aligned, storable, covering, over, marks_of};
 ghost use Rattle.model.specs.ByBlock.{inside, store_new};
 ghost use Rattle.tree.specs.Tree.{height, top_tier, slots};
-ghost use Rattle.layout.specs.Words.{pool_words, last_place, mark_place};
+ghost use Rattle.layout.specs.Words.{last_place, mark_place};
 ghost use Rattle.layout.specs.Places.{new_places, render};
 ghost use Rattle.layout.specs.WellFormed.{WellFormed};
 ghost use Rattle.freenodes.specs.FreeNodes.{FreeMap};
@@ -22,7 +22,7 @@ ghost use Rattle.execute.specs.Promised.{remarking, putting};
 ghost use Rattle.execute.specs.Part.{changing};
 ghost use Rattle.script.specs.Script.{script};
 ghost use Rattle.script_rows.specs.Becomes.{Becomes};
-ghost use Rattle.script_table.specs.Table.{row_count, Tables};
+ghost use Rattle.script_table.specs.Table.{Tables};
 ghost use Rattle.script_wide.specs.Wide.{Wide};
 ghost use Rattle.script_new.specs.New.{NewPlanned};
 ghost use Rattle.preparing.specs.Prepare;
@@ -30,53 +30,45 @@ ghost use Rattle.preparing.specs.Prepare.{yielding, preparing};
 ghost use Rattle.prepare.specs.Entries.{EntryThere, Stays, Edited, Tabled, Widely, Alone, After, AfterThere};
 ghost use Rattle.prepare.specs.Put.{Puttable, PathPlanned, AnyBit, RunMarks};
 
-use answers::{
-    ABSENT, BAD_ENTRY, BAD_MARK, BAD_ORDER, COVERED, DONE, NOT_ALIGNED, REPLY_SPACE, Result,
-    TOO_FEW_NODES,
-};
+use answers::{Answer, Refusal};
 use batch::Command;
 use commands::{is_aligned, is_storable};
 use freemap::MAP_WORDS;
 use layout::{COUNT_WORD, HEAD_WORD, MARKS_WORD, SLOT_BITS, SPARE_WORD, mark_word, next_marked};
 use lookup::{Located, locate};
-use marks::with_bit;
 use model::{Entry, RESERVED, is_reserved};
 use plan::{Heads, Target, height_of, plan, starts_at_0, top_of};
 use script_erase::{bare_rows, erase_rows};
 use script_new::new_rows;
-use script_rows::Range;
+use script_rows::{Range, TIERS};
 use script_same::same_rows;
-use script_table::{ROWS, table_length, table_write};
+use script_table::{ROWS, Table, table_length, table_write};
 use script_wide::{mark_going, wide_length, wide_write};
-use words::{fill, one_if};
+use words::{fill, with_bit};
 use write::{offset_of, width_of};
 
 // THE SCRIPT OF A TABLE, if there is room for it.
-fn yield_table(pool: &[u64], rows: &[u64], nums: &[u64], out: &mut [u64]) -> Result
+fn yield_table(pool: &[u64], table: &Table, out: &mut [u64]) -> Result<u64, Refusal>
     requires well_formed { WellFormed pool.now }
-    requires row_count_in_bounds { (pool_words row_count ≤ length rows.now) × (row_count ≤ length nums.now) }
-    requires tabled { Tabled pool.now rows.now nums.now }
+    requires tabled { Tabled pool.now table.now.rows table.now.nums }
     ensures fact { ((s : WellFormed pool.now) (ws' : List ℕ) →
-        Tables pool.now rows.now nums.now ws' s.n →
-        result ≡ (yielding (script pool.now ws') out.old).result) }
+        Tables pool.now table.now.rows table.now.nums ws' s.n →
+        report_of result ≡ (yielding (script pool.now ws') out.old).result) }
     ensures fact_2 { ((s : WellFormed pool.now) (ws' : List ℕ) →
-        Tables pool.now rows.now nums.now ws' s.n →
+        Tables pool.now table.now.rows table.now.nums ws' s.n →
         out.new ≡ (yielding (script pool.now ws') out.old).slice) }
 {
     let n = pool[COUNT_WORD];
-    let number = table_length(pool, rows, nums, n);
+    let number = table_length(pool, table, n);
     let room = out.len() as u64;
     if room < number {
-        return Result {
-            answer: REPLY_SPACE,
+        return Err(Refusal {
+            answer: Answer::ReplySpace,
             number,
-        };
+        });
     }
-    table_write(pool, rows, nums, n, out);
-    Result {
-        answer: DONE,
-        number,
-    }
+    table_write(pool, table, n, out);
+    Ok(number)
 }
 
 // A TABLE THAT MAY FREE NODES: those inside a range.
@@ -84,197 +76,196 @@ fn yield_table(pool: &[u64], rows: &[u64], nums: &[u64], out: &mut [u64]) -> Res
 // The script, if there is room for it.
 fn yield_freeing(
     pool: &[u64],
-    rows: &[u64],
-    nums: &[u64],
+    table: &Table,
     base: u64,
     order: u64,
     out: &mut [u64],
-) -> Result
+) -> Result<u64, Refusal>
     requires well_formed { WellFormed pool.now }
-    requires row_count_in_bounds { (pool_words row_count ≤ length rows.now) × (row_count ≤ length nums.now) × (order ≤ max_order) }
-    requires widely { Widely pool.now rows.now nums.now base order }
+    requires order_le_max_order { order ≤ max_order }
+    requires widely { Widely pool.now table.now.rows table.now.nums base order }
     ensures fact { ((s : WellFormed pool.now) (ws' : List ℕ) →
-        Wide s rows.now nums.now ws' base order →
-        result ≡ (yielding (script pool.now ws') out.old).result) }
+        Wide s table.now.rows table.now.nums ws' base order →
+        report_of result ≡ (yielding (script pool.now ws') out.old).result) }
     ensures fact_2 { ((s : WellFormed pool.now) (ws' : List ℕ) →
-        Wide s rows.now nums.now ws' base order →
+        Wide s table.now.rows table.now.nums ws' base order →
         out.new ≡ (yielding (script pool.now ws') out.old).slice) }
 {
     let n = pool[COUNT_WORD];
     let mut map = [0u64; MAP_WORDS];
     mark_going(pool, n, base, order, &mut map);
-    let number = wide_length(pool, rows, nums, &map, n);
+    let number = wide_length(pool, table, &map, n);
     let most = out.len() as u64;
     if most < number {
-        return Result {
-            answer: REPLY_SPACE,
+        return Err(Refusal {
+            answer: Answer::ReplySpace,
             number,
-        };
+        });
     }
-    wide_write(pool, rows, nums, &map, n, out);
-    Result {
-        answer: DONE,
-        number,
-    }
+    wide_write(pool, table, &map, n, out);
+    Ok(number)
 }
 
 // A range within one slot of a lowest node holds no node: the nodes are not gone through.
 pub fn yield_wide(
     pool: &[u64],
-    rows: &[u64],
-    nums: &[u64],
+    table: &Table,
     base: u64,
     order: u64,
     out: &mut [u64],
-) -> Result
+) -> Result<u64, Refusal>
     requires well_formed { WellFormed pool.now }
-    requires row_count_in_bounds { (pool_words row_count ≤ length rows.now) × (row_count ≤ length nums.now) × (order ≤ max_order) }
-    requires widely { Widely pool.now rows.now nums.now base order }
+    requires order_le_max_order { order ≤ max_order }
+    requires widely { Widely pool.now table.now.rows table.now.nums base order }
     ensures fact { ((s : WellFormed pool.now) (ws' : List ℕ) →
-        Wide s rows.now nums.now ws' base order →
-        result ≡ (yielding (script pool.now ws') out.old).result) }
+        Wide s table.now.rows table.now.nums ws' base order →
+        report_of result ≡ (yielding (script pool.now ws') out.old).result) }
     ensures fact_2 { ((s : WellFormed pool.now) (ws' : List ℕ) →
-        Wide s rows.now nums.now ws' base order →
+        Wide s table.now.rows table.now.nums ws' base order →
         out.new ≡ (yielding (script pool.now ws') out.old).slice) }
 {
     if order < SLOT_BITS {
-        return yield_table(pool, rows, nums, out);
+        return yield_table(pool, table, out);
     }
-    yield_freeing(pool, rows, nums, base, order, out)
+    yield_freeing(pool, table, base, order, out)
 }
 
 // AN ENTRY THAT IS THERE
 
 // It is the head: the anchor alone.
-fn head_rows(pool: &[u64], rows: &mut [u64], nums: &mut [u64], at: Range)
+fn head_rows(pool: &[u64], table: &mut Table, at: Range)
     requires well_formed { WellFormed pool.now }
-    requires row_count_in_bounds { (pool_words row_count ≤ length rows.old) × (row_count ≤ length nums.old) }
-    ensures { Alone pool.now rows.new nums.new at.word at.marks }
+    ensures { Alone pool.now table.new.rows table.new.nums at.word at.marks }
 {
     let n = pool[COUNT_WORD];
-    rows[COUNT_WORD] = n;
-    rows[HEAD_WORD] = at.word;
-    rows[MARKS_WORD] = at.marks;
-    rows[SPARE_WORD] = 0;
-    fill(nums, 0, n, ROWS);
+    table.rows[COUNT_WORD] = n;
+    table.rows[HEAD_WORD] = at.word;
+    table.rows[MARKS_WORD] = at.marks;
+    table.rows[SPARE_WORD] = 0;
+    fill(&mut table.nums, 0, n, ROWS);
 }
 
 // The rows of the nodes over it, or the anchor alone. path: words for the numbers of these nodes.
-fn entry_rows(
-    pool: &[u64],
-    rows: &mut [u64],
-    nums: &mut [u64],
-    path: &mut [u64],
-    at: Range,
-    top: u64,
-)
+fn entry_rows(pool: &[u64], table: &mut Table, path: &mut [u64; TIERS], at: Range, top: u64)
     requires well_formed { WellFormed pool.now }
-    requires row_count_in_bounds { (pool_words row_count ≤ length rows.old) × (row_count ≤ length nums.old) × (top_tier < length path.old) }
     requires entry_there { (s : WellFormed pool.now) → EntryThere s at.base at.order top }
     ensures { ((s : WellFormed pool.now) (o : Option Entry) (l' : List Entry) →
         Stays s at.base at.order at.word at.marks o l' →
-        Tables pool.now rows.new nums.new (render l' s.places s.n) s.n) }
+        Tables pool.now table.new.rows table.new.nums (render l' s.places s.n) s.n) }
 {
     if top == 0 {
-        head_rows(pool, rows, nums, at);
+        head_rows(pool, table, at);
         return;
     }
-    same_rows(pool, rows, nums, path, at, top);
+    same_rows(pool, table, path, at, top);
 }
 
 // The rows after the entry of that order at base has left.
 fn erased_rows(
     pool: &[u64],
-    rows: &mut [u64],
-    nums: &mut [u64],
-    path: &mut [u64],
+    table: &mut Table,
+    path: &mut [u64; TIERS],
     base: u64,
     order: u64,
     top: u64,
 )
     requires well_formed { WellFormed pool.now }
-    requires row_count_in_bounds { (pool_words row_count ≤ length rows.old) × (row_count ≤ length nums.old) × (top_tier < length path.old) }
     requires entry_there { (s : WellFormed pool.now) → EntryThere s base order top }
     ensures { ((s : WellFormed pool.now) (l' : List Entry) → Becomes base order none s.list l' → Valid l' →
-        Tables pool.now rows.new nums.new
+        Tables pool.now table.new.rows table.new.nums
         (render l' (new_places s.list l' s.places) s.n) s.n) }
 {
     if top == 0 {
-        bare_rows(pool, rows, nums);
+        bare_rows(pool, table);
         return;
     }
-    erase_rows(pool, rows, nums, path, base, order, top);
+    erase_rows(pool, table, path, base, order, top);
 }
 
-// The rows after it becomes another entry, or is erased.
+// What an entry has beside its range.
+#[derive(Clone, Copy)]
+pub struct Content {
+    pub word: u64,
+    pub marks: u64,
+}
+
+// The rows after the entry of that order at base becomes another one, of that content, or is erased.
 fn after_rows(
     pool: &[u64],
-    rows: &mut [u64],
-    nums: &mut [u64],
-    path: &mut [u64],
-    at: Range,
+    table: &mut Table,
+    path: &mut [u64; TIERS],
+    base: u64,
+    order: u64,
     top: u64,
-    erase: bool,
+    after: Option<Content>,
 )
     requires well_formed { WellFormed pool.now }
-    requires row_count_in_bounds { (pool_words row_count ≤ length rows.old) × (row_count ≤ length nums.old) × (top_tier < length path.old) }
-    requires entry_there { (s : WellFormed pool.now) → EntryThere s at.base at.order top }
-    ensures { ((s : WellFormed pool.now) (ws' : List ℕ) →
-        After s at.base at.order at.word at.marks erase ws' →
-        Tables pool.now rows.new nums.new ws' s.n) }
+    requires entry_there { (s : WellFormed pool.now) → EntryThere s base order top }
+    ensures { ((s : WellFormed pool.now) (ws' : List ℕ) → After s base order after ws' →
+        Tables pool.now table.new.rows table.new.nums ws' s.n) }
 {
-    if erase {
-        erased_rows(pool, rows, nums, path, at.base, at.order, top);
-        return;
+    match after {
+        None => erased_rows(pool, table, path, base, order, top),
+        Some(Content { word, marks }) => {
+            let at = Range {
+                base,
+                order,
+                word,
+                marks,
+            };
+            entry_rows(pool, table, path, at, top)
+        }
     }
-    entry_rows(pool, rows, nums, path, at, top);
 }
 
 // The script of that. All that starts from an entry goes by here, and the tier of the head is read here: with a tier known to be 0
 // the rows would be inlined in the callers, and be on the stack twice.
-fn entry_script(pool: &[u64], at: Range, erase: bool, out: &mut [u64]) -> Result
+fn entry_script(
+    pool: &[u64],
+    base: u64,
+    order: u64,
+    after: Option<Content>,
+    out: &mut [u64],
+) -> Result<u64, Refusal>
     requires well_formed { WellFormed pool.now }
-    requires entry_there { (s : WellFormed pool.now) → EntryThere s at.base at.order (height s.list) }
-    requires after_there { AfterThere pool.now at.base at.order at.word at.marks erase }
+    requires entry_there { (s : WellFormed pool.now) → EntryThere s base order (height s.list) }
+    requires after_there { AfterThere pool.now base order after }
     ensures fact { ((s : WellFormed pool.now) (ws' : List ℕ) →
-        After s at.base at.order at.word at.marks erase ws' →
-        result ≡ (yielding (script pool.now ws') out.old).result) }
+        After s base order after ws' →
+        report_of result ≡ (yielding (script pool.now ws') out.old).result) }
     ensures fact_2 { ((s : WellFormed pool.now) (ws' : List ℕ) →
-        After s at.base at.order at.word at.marks erase ws' →
+        After s base order after ws' →
         out.new ≡ (yielding (script pool.now ws') out.old).slice) }
 {
     let top = height_of(pool);
-    let mut rows = [0u64; 1684];
-    let mut nums = [0u64; 24];
-    let mut path = [0u64; 12];
-    after_rows(pool, &mut rows, &mut nums, &mut path, at, top, erase);
-    yield_table(pool, &rows, &nums, out)
+    let mut table = Table::new();
+    let mut path = [0u64; TIERS];
+    after_rows(pool, &mut table, &mut path, base, order, top, after);
+    yield_table(pool, &table, out)
 }
 
 // The script of another entry in its place.
-fn edit_entry(pool: &[u64], at: Range, top: u64, out: &mut [u64]) -> Result
+fn edit_entry(pool: &[u64], at: Range, top: u64, out: &mut [u64]) -> Result<u64, Refusal>
     requires well_formed { WellFormed pool.now }
     requires entry_there { (s : WellFormed pool.now) → EntryThere s at.base at.order top }
     requires edited { Edited pool.now at.base at.order at.word at.marks }
     ensures fact { ((s : WellFormed pool.now) (o : Option Entry) (l' : List Entry) →
         Stays s at.base at.order at.word at.marks o l' →
-        result ≡ (yielding (script pool.now (render l' s.places s.n)) out.old).result) }
+        report_of result ≡ (yielding (script pool.now (render l' s.places s.n)) out.old).result) }
     ensures fact_2 { ((s : WellFormed pool.now) (o : Option Entry) (l' : List Entry) →
         Stays s at.base at.order at.word at.marks o l' →
         out.new ≡ (yielding (script pool.now (render l' s.places s.n)) out.old).slice) }
 {
-    entry_script(pool, at, false, out)
+    let after = Content {
+        word: at.word,
+        marks: at.marks,
+    };
+    entry_script(pool, at.base, at.order, Some(after), out)
 }
 
 // MARK AND UNMARK
 
 const MARKS: u64 = 3;
-
-fn refusal(answer: u64) -> Result
-    ensures { result ≡ result_of answer 0 }
-{
-    Result { answer, number: 0 }
-}
 
 // Mark m of the entry e, which covers i, set or cleared; a reservation has none.
 fn remark_entry(
@@ -285,17 +276,17 @@ fn remark_entry(
     m: u64,
     on: bool,
     out: &mut [u64],
-) -> Result
+) -> Result<u64, Refusal>
     requires well_formed { WellFormed pool.now }
     requires m_lt_mark_count { m < mark_count }
     requires i_value { (s : WellFormed pool.now) → (covering s.list i ≡ some e) × (height s.list ≡ top) }
     ensures fact { ((s : WellFormed pool.now) →
-        result ≡ (preparing s out.old (remarking i m on)).result) }
+        report_of result ≡ (preparing s out.old (remarking i m on)).result) }
     ensures fact_2 { ((s : WellFormed pool.now) →
         out.new ≡ (preparing s out.old (remarking i m on)).slice) }
 {
     if is_reserved(e) {
-        return refusal(ABSENT);
+        return Err(Refusal::from(Answer::Absent));
     }
     let marks = with_bit(e.marks, m, on);
     let at = Range {
@@ -308,20 +299,25 @@ fn remark_entry(
 }
 
 // Mark m of the entry that covers i set or cleared.
-pub fn prepare_remark(pool: &[u64], i: u64, m: u64, on: bool, out: &mut [u64]) -> Result
+pub fn prepare_remark(
+    pool: &[u64],
+    i: u64,
+    m: u64,
+    on: bool,
+    out: &mut [u64],
+) -> Result<u64, Refusal>
     requires { WellFormed pool.now }
     ensures fact { ((s : WellFormed pool.now) →
-        result ≡ (preparing s out.old (remarking i m on)).result) }
+        report_of result ≡ (preparing s out.old (remarking i m on)).result) }
     ensures fact_2 { ((s : WellFormed pool.now) →
         out.new ≡ (preparing s out.old (remarking i m on)).slice) }
 {
     if m >= MARKS {
-        return refusal(BAD_MARK);
+        return Err(Refusal::from(Answer::BadMark));
     }
     let k = locate(pool, i);
     match k {
-        Located::Apart => refusal(ABSENT),
-        Located::Vacant(_, _, _) => refusal(ABSENT),
+        Located::Apart | Located::Vacant(..) => Err(Refusal::from(Answer::Absent)),
         Located::AtHead(e) => remark_entry(pool, e, 0, i, m, on, out),
         Located::InNode(e, at, _) => remark_entry(pool, e, at.top, i, m, on, out),
     }
@@ -340,12 +336,12 @@ pub fn over_entry(
     k: u64,
     w: u64,
     out: &mut [u64],
-) -> Result
+) -> Result<u64, Refusal>
     requires well_formed { WellFormed pool.now }
     requires k_le_order { (k ≤ e.order) × (k ≤ max_order) × (aligned k i ≡ true) × (storable w ≡ true) }
     requires i_value { (s : WellFormed pool.now) → (covering s.list i ≡ some e) × (height s.list ≡ top) }
     ensures fact { ((s : WellFormed pool.now) →
-        result ≡ (preparing s out.old (Command.Store i k w)).result) }
+        report_of result ≡ (preparing s out.old (Command.Store i k w)).result) }
     ensures fact_2 { ((s : WellFormed pool.now) →
         out.new ≡ (preparing s out.old (Command.Store i k w)).slice) }
 {
@@ -369,7 +365,7 @@ fn run_mark(pool: &[u64], n: u64, m: u64, o: u64, c: u64) -> u64
     ensures r_bound { result ≤ 1 }
 {
     let w = mark_word(pool, n, m);
-    one_if(next_marked(w, o) < o + c)
+    u64::from(next_marked(w, o) < o + c)
 }
 
 // Marks 0 and 1 of the slots that the target takes in node n.
@@ -384,10 +380,10 @@ fn run_marks(pool: &[u64], n: u64, target: Target) -> u64
 }
 
 // Marks 0 and 1 of what the target replaces: in its node, or the whole old tree, or nothing.
-fn kept_marks(pool: &[u64], path: &[u64], target: Target, heads: Heads) -> u64
+fn kept_marks(pool: &[u64], path: &[u64; TIERS], target: Target, heads: Heads) -> u64
     requires well_formed { WellFormed pool.now }
     requires storable { Storable target }
-    requires marks_value { (heads.marks ≡ get_or pool.now 2 0) × (top_tier < length path.now) }
+    requires marks_value { heads.marks ≡ get_or pool.now 2 0 }
     requires path_planned { (s : WellFormed pool.now) → PathPlanned s target heads path.now }
     ensures { ((s : WellFormed pool.now) →
         result ≡ set_bit matched_mark false (marks_of (inside s.list target.index target.order))) }
@@ -424,43 +420,42 @@ fn heads_of(pool: &[u64], target: Target) -> Heads
 }
 
 // The entry is the head: its word alone changes.
-fn head_script(pool: &[u64], word: u64, out: &mut [u64]) -> Result
+fn head_script(pool: &[u64], word: u64, out: &mut [u64]) -> Result<u64, Refusal>
     requires { WellFormed pool.now }
     ensures fact { ((s : WellFormed pool.now) →
-        result ≡ (yielding (script pool.now (set pool.now 1 word)) out.old).result) }
+        report_of result ≡ (yielding (script pool.now (set pool.now 1 word)) out.old).result) }
     ensures fact_2 { ((s : WellFormed pool.now) →
         out.new ≡ (yielding (script pool.now (set pool.now 1 word)) out.old).slice) }
 {
     let marks = pool[MARKS_WORD];
-    let mut rows = [0u64; 1684];
-    let mut nums = [0u64; 24];
+    let mut table = Table::new();
     let at = Range {
         base: 0,
         order: 0,
         word,
         marks,
     };
-    head_rows(pool, &mut rows, &mut nums, at);
-    yield_table(pool, &rows, &nums, out)
+    head_rows(pool, &mut table, at);
+    yield_table(pool, &table, out)
 }
 
-// The entry goes into nodes, whose numbers are planned.
+// The entry goes into nodes, whose numbers are planned. reserve: which command the clauses speak of; the code does not look at it. (As a
+// `ghost` value it would take the clauses' names from the proofs.)
 fn new_script(
     pool: &[u64],
-    path: &[u64],
-    chain: &[u64],
+    path: &[u64; TIERS],
+    chain: &[u64; TIERS],
     target: Target,
     heads: Heads,
     reserve: bool,
     out: &mut [u64],
-) -> Result
+) -> Result<u64, Refusal>
     requires well_formed { WellFormed pool.now }
-    requires top_tier_in_bounds { (top_tier < length path.now) × (top_tier < length chain.now) }
     requires word_value { (heads.word ≡ get_or pool.now 1 0) × (heads.marks ≡ get_or pool.now 2 0) }
     requires storable { Storable target × Puttable target.order target.word reserve }
     requires new_planned { (s : WellFormed pool.now) → NewPlanned s target heads path.now chain.now }
     ensures fact { ((s : WellFormed pool.now) →
-        result ≡ (preparing s out.old (putting target.index target.order target.word reserve)).result) }
+        report_of result ≡ (preparing s out.old (putting target.index target.order target.word reserve)).result) }
     ensures fact_2 { ((s : WellFormed pool.now) →
         out.new ≡ (preparing s out.old (putting target.index target.order target.word reserve)).slice) }
 {
@@ -471,10 +466,9 @@ fn new_script(
         word: target.word,
         marks,
     };
-    let mut rows = [0u64; 1684];
-    let mut nums = [0u64; 24];
-    new_rows(pool, &mut rows, &mut nums, path, chain, at, heads);
-    yield_wide(pool, &rows, &nums, at.base, at.order, out)
+    let mut table = Table::new();
+    new_rows(pool, &mut table, path, chain, at, heads);
+    yield_wide(pool, &table, at.base, at.order, out)
 }
 
 // A target that no entry of its order or more covers.
@@ -484,13 +478,13 @@ fn prepare_new(
     target: Target,
     reserve: bool,
     out: &mut [u64],
-) -> Result
+) -> Result<u64, Refusal>
     requires well_formed { WellFormed pool.now }
     requires free_map { FreeMap pool.now map.old }
     requires storable { Storable target × Puttable target.order target.word reserve }
     requires list_value { (s : WellFormed pool.now) → any (over target.index target.order) s.list ≡ false }
     ensures fact { ((s : WellFormed pool.now) →
-        result ≡ (preparing s out.old (putting target.index target.order target.word reserve)).result) }
+        report_of result ≡ (preparing s out.old (putting target.index target.order target.word reserve)).result) }
     ensures fact_2 { ((s : WellFormed pool.now) →
         out.new ≡ (preparing s out.old (putting target.index target.order target.word reserve)).slice) }
 {
@@ -498,11 +492,11 @@ fn prepare_new(
     if heads.new == 0 {
         return head_script(pool, target.word, out);
     }
-    let mut path = [0u64; 12];
-    let mut chain = [0u64; 12];
+    let mut path = [0u64; TIERS];
+    let mut chain = [0u64; TIERS];
     let enough = plan(pool, map, &mut path, &mut chain, target, heads);
     if !enough {
-        return refusal(TOO_FEW_NODES);
+        return Err(Refusal::from(Answer::TooFewNodes));
     }
     new_script(pool, &path, &chain, target, heads, reserve, out)
 }
@@ -519,14 +513,14 @@ fn store_over(
     top: u64,
     target: Target,
     out: &mut [u64],
-) -> Result
+) -> Result<u64, Refusal>
     requires well_formed { WellFormed pool.now }
     requires free_map { FreeMap pool.now map.old }
     requires storable { Storable target × Puttable target.order target.word false }
     requires index_value { (s : WellFormed pool.now) →
         (covering s.list target.index ≡ some e) × (height s.list ≡ top) }
     ensures fact { ((s : WellFormed pool.now) →
-        result ≡ (preparing s out.old (Command.Store target.index target.order target.word)).result) }
+        report_of result ≡ (preparing s out.old (Command.Store target.index target.order target.word)).result) }
     ensures fact_2 { ((s : WellFormed pool.now) →
         out.new ≡ (preparing s out.old (Command.Store target.index target.order target.word)).slice) }
 {
@@ -537,19 +531,23 @@ fn store_over(
 }
 
 // A store whose order, index and word are taken.
-fn store_taken(pool: &[u64], map: &mut [u64], target: Target, out: &mut [u64]) -> Result
+fn store_taken(
+    pool: &[u64],
+    map: &mut [u64],
+    target: Target,
+    out: &mut [u64],
+) -> Result<u64, Refusal>
     requires well_formed { WellFormed pool.now }
     requires free_map { FreeMap pool.now map.old }
     requires storable { Storable target × Puttable target.order target.word false }
     ensures fact { ((s : WellFormed pool.now) →
-        result ≡ (preparing s out.old (Command.Store target.index target.order target.word)).result) }
+        report_of result ≡ (preparing s out.old (Command.Store target.index target.order target.word)).result) }
     ensures fact_2 { ((s : WellFormed pool.now) →
         out.new ≡ (preparing s out.old (Command.Store target.index target.order target.word)).slice) }
 {
     let k = locate(pool, target.index);
     match k {
-        Located::Apart => prepare_new(pool, map, target, false, out),
-        Located::Vacant(_, _, _) => prepare_new(pool, map, target, false, out),
+        Located::Apart | Located::Vacant(..) => prepare_new(pool, map, target, false, out),
         Located::AtHead(e) => store_over(pool, map, e, 0, target, out),
         Located::InNode(e, at, _) => store_over(pool, map, e, at.top, target, out),
     }
@@ -563,22 +561,22 @@ pub fn prepare_store(
     k: u64,
     w: u64,
     out: &mut [u64],
-) -> Result
+) -> Result<u64, Refusal>
     requires well_formed { WellFormed pool.now }
     requires free_map { FreeMap pool.now map.old }
     ensures fact { ((s : WellFormed pool.now) →
-        result ≡ (preparing s out.old (Command.Store i k w)).result) }
+        report_of result ≡ (preparing s out.old (Command.Store i k w)).result) }
     ensures fact_2 { ((s : WellFormed pool.now) →
         out.new ≡ (preparing s out.old (Command.Store i k w)).slice) }
 {
     if k > MAX_ORDER {
-        return refusal(BAD_ORDER);
+        return Err(Refusal::from(Answer::BadOrder));
     }
     if !is_aligned(i, k) {
-        return refusal(NOT_ALIGNED);
+        return Err(Refusal::from(Answer::NotAligned));
     }
     if !is_storable(w) {
-        return refusal(BAD_ENTRY);
+        return Err(Refusal::from(Answer::BadEntry));
     }
     let target = Target {
         index: i,
@@ -589,12 +587,12 @@ pub fn prepare_store(
 }
 
 // A reservation of the index i, which nothing covers.
-fn reserve_free(pool: &[u64], map: &mut [u64], i: u64, out: &mut [u64]) -> Result
+fn reserve_free(pool: &[u64], map: &mut [u64], i: u64, out: &mut [u64]) -> Result<u64, Refusal>
     requires well_formed { WellFormed pool.now }
     requires free_map { FreeMap pool.now map.old }
     requires i_value { (s : WellFormed pool.now) → covering s.list i ≡ none }
     ensures fact { ((s : WellFormed pool.now) →
-        result ≡ (preparing s out.old (Command.Reserve i)).result) }
+        report_of result ≡ (preparing s out.old (Command.Reserve i)).result) }
     ensures fact_2 { ((s : WellFormed pool.now) →
         out.new ≡ (preparing s out.old (Command.Reserve i)).slice) }
 {
@@ -607,55 +605,51 @@ fn reserve_free(pool: &[u64], map: &mut [u64], i: u64, out: &mut [u64]) -> Resul
 }
 
 // A reservation of the index i.
-pub fn prepare_reserve(pool: &[u64], map: &mut [u64], i: u64, out: &mut [u64]) -> Result
+pub fn prepare_reserve(
+    pool: &[u64],
+    map: &mut [u64],
+    i: u64,
+    out: &mut [u64],
+) -> Result<u64, Refusal>
     requires well_formed { WellFormed pool.now }
     requires free_map { FreeMap pool.now map.old }
     ensures fact { ((s : WellFormed pool.now) →
-        result ≡ (preparing s out.old (Command.Reserve i)).result) }
+        report_of result ≡ (preparing s out.old (Command.Reserve i)).result) }
     ensures fact_2 { ((s : WellFormed pool.now) →
         out.new ≡ (preparing s out.old (Command.Reserve i)).slice) }
 {
     let k = locate(pool, i);
     match k {
-        Located::Apart => reserve_free(pool, map, i, out),
-        Located::Vacant(_, _, _) => reserve_free(pool, map, i, out),
-        Located::AtHead(_) => refusal(COVERED),
-        Located::InNode(_, _, _) => refusal(COVERED),
+        Located::Apart | Located::Vacant(..) => reserve_free(pool, map, i, out),
+        Located::AtHead(_) | Located::InNode(..) => Err(Refusal::from(Answer::Covered)),
     }
 }
 
 // AN ERASE
 
 // The entry e, which covers i.
-fn erase_entry(pool: &[u64], e: Entry, top: u64, i: u64, out: &mut [u64]) -> Result
+fn erase_entry(pool: &[u64], e: Entry, top: u64, i: u64, out: &mut [u64]) -> Result<u64, Refusal>
     requires well_formed { WellFormed pool.now }
     requires i_value { (s : WellFormed pool.now) → (covering s.list i ≡ some e) × (height s.list ≡ top) }
     ensures fact { ((s : WellFormed pool.now) →
-        result ≡ (preparing s out.old (Command.Erase i)).result) }
+        report_of result ≡ (preparing s out.old (Command.Erase i)).result) }
     ensures fact_2 { ((s : WellFormed pool.now) →
         out.new ≡ (preparing s out.old (Command.Erase i)).slice) }
 {
-    let at = Range {
-        base: e.base,
-        order: e.order,
-        word: 0,
-        marks: 0,
-    };
-    entry_script(pool, at, true, out)
+    entry_script(pool, e.base, e.order, None, out)
 }
 
 // The entry that covers i.
-pub fn prepare_erase(pool: &[u64], i: u64, out: &mut [u64]) -> Result
+pub fn prepare_erase(pool: &[u64], i: u64, out: &mut [u64]) -> Result<u64, Refusal>
     requires { WellFormed pool.now }
     ensures fact { ((s : WellFormed pool.now) →
-        result ≡ (preparing s out.old (Command.Erase i)).result) }
+        report_of result ≡ (preparing s out.old (Command.Erase i)).result) }
     ensures fact_2 { ((s : WellFormed pool.now) →
         out.new ≡ (preparing s out.old (Command.Erase i)).slice) }
 {
     let k = locate(pool, i);
     match k {
-        Located::Apart => refusal(ABSENT),
-        Located::Vacant(_, _, _) => refusal(ABSENT),
+        Located::Apart | Located::Vacant(..) => Err(Refusal::from(Answer::Absent)),
         Located::AtHead(e) => erase_entry(pool, e, 0, i, out),
         Located::InNode(e, at, _) => erase_entry(pool, e, at.top, i, out),
     }
@@ -663,32 +657,27 @@ pub fn prepare_erase(pool: &[u64], i: u64, out: &mut [u64]) -> Result
 
 // ANY CHANGING COMMAND
 
-// For the commands that change nothing, which prepare_command is not called with.
-fn nothing() -> Result {
-    refusal(ABSENT)
-}
-
-pub fn prepare_command(pool: &[u64], map: &mut [u64], c: Command, out: &mut [u64]) -> Result
+pub fn prepare_command(
+    pool: &[u64],
+    map: &mut [u64],
+    c: Command,
+    out: &mut [u64],
+) -> Result<u64, Refusal>
     requires well_formed { WellFormed pool.now }
     requires free_map { FreeMap pool.now map.old }
     requires c_value { changing c ≡ true }
-    ensures fact { ((s : WellFormed pool.now) → result ≡ (preparing s out.old c).result) }
+    ensures fact { ((s : WellFormed pool.now) → report_of result ≡ (preparing s out.old c).result) }
     ensures fact_2 { ((s : WellFormed pool.now) → out.new ≡ (preparing s out.old c).slice) }
 {
     match c {
         Command::Store { index, order, word } => {
             prepare_store(pool, map, index, order, word, out)
         }
-        Command::Load { index: _ } => nothing(),
         Command::Erase { index } => prepare_erase(pool, index, out),
         Command::Mark { index, mark } => prepare_remark(pool, index, mark, true, out),
         Command::Unmark { index, mark } => prepare_remark(pool, index, mark, false, out),
-        Command::Find {
-            first: _,
-            last: _,
-            filter: _,
-            budget: _,
-        } => nothing(),
         Command::Reserve { index } => prepare_reserve(pool, map, index, out),
+        // These change nothing: prepare_command is not called with them.
+        Command::Load { .. } | Command::Find { .. } => Err(Refusal::from(Answer::Absent)),
     }
 }

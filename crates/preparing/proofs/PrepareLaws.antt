@@ -8,7 +8,7 @@ use lib.Dec.{ltb, eqb}
 use lib.ListN.{length}
 use borrow.Author.Tests.{eq-eqb, ne_eqb, eqb-true, eqb-false, lt-ltb, le-ltb, ltb-true, ltb-false}
 use Rattle.blocks.proofs.BoolLaws.{by_t}
-use Rattle.answers.specs.declared.Result.{Result}
+use Rattle.answers.specs.declared.Report.{Report}
 use Rattle.answers.specs.Answers.{result_of, done, bad_batch}
 use Rattle.layout.specs.Decide.{node_count}
 use Rattle.layout.specs.WellFormed.{WellFormed}
@@ -78,7 +78,7 @@ module _ (ws bs out : List ℕ) where
       (result_of bad_batch 0 ≡ (prepare ws bs out).result) × (out ≡ (prepare ws bs out).slice)
   told_none h q = told (prepare_checked h q)
 
-  pub told_command : check_answer ws ≡ done → {c : Command} → the_one bs ≡ some c → {r : Result} {ss : List ℕ} →
+  pub told_command : check_answer ws ≡ done → {c : Command} → the_one bs ≡ some c → {r : Report} {ss : List ℕ} →
       ((s : WellFormed ws) → r ≡ (preparing s out c).result) → ((s : WellFormed ws) → ss ≡ (preparing s out c).slice) →
       (r ≡ (prepare ws bs out).result) × (ss ≡ (prepare ws bs out).slice)
   unfolding preparing

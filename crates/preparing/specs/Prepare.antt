@@ -2,7 +2,7 @@
 use Rattle.std.specs.Prelude.{ℕ, List, ◌++◌, ltb, eqb, length, drop}
 use Rattle.std.proofs.Math.Option.{Option, none, some}
 use Rattle.blocks.specs.Choice.{pick, both}
-use Rattle.answers.specs.declared.Result.{Result}
+use Rattle.answers.specs.declared.Report.{Report}
 use Rattle.answers.specs.Answers.{result_of, done, bad_batch, reply_space}
 use Rattle.layout.specs.Places.{render}
 use Rattle.layout.specs.WellFormed.{WellFormed}
@@ -20,7 +20,7 @@ use Rattle.script.specs.Script.{script}
 
 -- what preparing leaves: its answer with the number, and the slice
 pub record Yield : Type 0 where
-  pub result : Result
+  pub result : Report
   pub slice : List ℕ
 
 -- R333: a refusal leaves the slice, and its number is 0

@@ -2,12 +2,13 @@
 use mathlib.Core.Path.{◌≡◌, refl, sym, ap, ap₂, subst, ◌∙◌}
 use mathlib.Core.Logic.{inl, inr}
 use mathlib.Core.Bool.{Bool, true, false}
-use mathlib.Core.List.{List, []}
+use mathlib.Core.List.{List, [], ◌∷◌}
 use Prim.Native.Nat.{ℕ, ◌<◌}
 use native.Mathlib.Omega.{arith}
 use lib.Dec.{eqb}
 use lib.ListN.{length, get_or}
 use lib.Seq.{ext_get_or}
+use lib.Pointwise.{pointwise}
 use borrow.Author.Tests.{eqb-true, eqb-false, eq-eqb}
 use Rattle.blocks.specs.Choice.{pick}
 use Rattle.blocks.specs.Lists.{equal}
@@ -35,8 +36,12 @@ module _ (old new : List ℕ) where
     pub not_equal : equal old new ≡ false → compare old new ≡ Different
     not_equal g = none_empty ∙ ap (λ (q : Bool). pick q Matched Different) g
 
-    pub lengths_differ : (length old ≡ length new → ⊥) → compare old new ≡ Different
-    lengths_differ d = not_equal (is_false (λ t. d (ap length (is_equal old new t))))
+-- what `==` of two slices tests
+pub pointwise_equal : (xs ys : List ℕ) → pointwise eqb xs ys ≡ equal xs ys
+pointwise_equal [] [] = refl
+pointwise_equal [] (y ∷ ys) = refl
+pointwise_equal (x ∷ xs) [] = refl
+pointwise_equal (x ∷ xs) (y ∷ ys) = by_t (eqb x y) (λ t. rw t (pointwise_equal xs ys)) (λ t. rw t refl)
 
 -- ---- the answers are three
 

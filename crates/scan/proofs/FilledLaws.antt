@@ -7,6 +7,7 @@ use lib.Pow.{pow_mono}
 use lib.Dec.{eqb, ltb}
 use lib.Bits.{bit_and}
 use borrow.Author.Tests.{eqb-true, eq-eqb, ltb-true, ltb-false}
+use Rattle.std.specs.Int.{from_bool}
 use Rattle.blocks.specs.Choice.{pick}
 use Rattle.blocks.specs.Blocks.{bit, NextBit}
 use Rattle.blocks.proofs.BoolLaws.{by_t, decide_eqb}
@@ -15,6 +16,7 @@ use Rattle.layout.specs.Pool.{Pool, slot_at}
 use Rattle.layout.specs.Reading.{Decides}
 use Rattle.scan.specs.Passes.{fill_bit, FilledFrom, Filled, NoLoose}
 use Rattle.decode.proofs.CoverLaws.{bit_suc}
+use Rattle.passes.proofs.ByteLaws.{byte_pick}
 use Rattle.steps.proofs.WordLaws.{join_low, join_high, among_clear, clear_among}
 use Rattle.layout.specs.declared.Slot.{Slot}
 use Rattle.layout.specs.declared.Slot.TheVariants.{Empty}
@@ -47,7 +49,7 @@ module _ (P : Pool) (n a : ℕ) where
       let s : 2 ^ suc t ≤ 2 ^ 16 = pow_mono {i = suc t} {j = 16} (omega arith) in
       let e : 2 ^ suc t ≡ 2 ^ t * 2 = pow-suc 2 t in omega (arith, o.fits)
 
-  pub told_next : (t h b : ℕ) → Told t h → t < 16 → b ≡ pick (eqb (P.slot n (a + (15 - t))) 0) 1 0 →
+  told_next : (t h b : ℕ) → Told t h → t < 16 → b ≡ pick (eqb (P.slot n (a + (15 - t))) 0) 1 0 →
       Told (t + 1) (2 * h - b)
   told_next t h b o l e =
       let s : b + fill_bit P n (a + (15 - t)) ≡ 1 = ap (λ (x : ℕ). x + fill_bit P n (a + (15 - t))) e ∙ other (P.slot n (a + (15 - t))) in
@@ -68,6 +70,14 @@ module _ (P : Pool) (n a : ℕ) where
           let z : (2 * h - b - 1) / 2 ≡ h - 1 = omega (arith, o.some) in
           bit_suc k (2 * h - b - 1) ∙ ap (bit k) z ∙ o.bits k (omega arith)
           ∙ ap (fill_bit P n) (let z : a + (16 - t + k) ≡ a + (16 - (t + 1) + suc k) = omega arith in z)
+
+  -- one slot further down
+  pub told_down : (j h b : ℕ) → Told (16 - j) h → 0 < j → j ≤ 16 → b ≡ from_bool (eqb (P.slot n (a + (j - 1))) 0) → Told (16 - (j - 1)) (2 * h - b)
+  told_down j h b o p l e =
+      let d : j - 1 ≡ 15 - (16 - j) = omega arith in
+      let x : 16 - j + 1 ≡ 16 - (j - 1) = omega arith in
+      subst (λ (t : ℕ). Told t (2 * h - b)) x (told_next (16 - j) h b o (omega arith)
+      (e ∙ byte_pick _ ∙ ap (λ (i : ℕ). pick (eqb (P.slot n (a + i)) 0) 1 0) d))
 
   pub told_all : (t h : ℕ) → Told t h → 16 ≤ t → FilledFrom P n a (h - 1)
   told_all t h o l =

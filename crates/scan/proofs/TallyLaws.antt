@@ -8,7 +8,7 @@ use native.Mathlib.Omega.{arith}
 use native.Mathlib.Nat.{mod-eq_of_lt}
 use lib.Dec.{eqb, ltb}
 use lib.ListN.{get_or}
-use lib.Bits.{bit_and, bit_or, or_lt, or_add_and, and_le_l, and_le_r, and_shr}
+use lib.Bits.{bit_and, bit_or, or_lt, or_add_and, and_zero_l, and_le_l, and_le_r, and_shr}
 use borrow.Author.Tests.{eqb-true, eqb-false, eq-eqb, ne_eqb, ltb-true, ltb-false}
 use Rattle.blocks.specs.Choice.{pick}
 use Rattle.blocks.specs.Blocks.{bit, count_to, NextBit}
@@ -56,7 +56,7 @@ even_bits w f z e =
     sym (mod-eq_of_lt f) ∙ sym (mask_mod w (2 ^ 64) 64 refl) ∙ ap (bit_and w) (sym k) ∙ z
 
 -- THE LOWEST BIT OF A WORD
-pub lowest_zero : (w : ℕ) → w ≡ 0 → LowestBit w 0
+lowest_zero : (w : ℕ) → w ≡ 0 → LowestBit w 0
 lowest_zero w e = record {
   most = omega arith;
   none = λ z. refl;
@@ -65,7 +65,7 @@ lowest_zero w e = record {
   plain = λ z. refl;
 }
 
-pub lowest_of : (w : ℕ) → w < 2 ^ 64 → w ≢ 0 → LowestBit w (bit_and w (2 ^ 64 - 1 - w + 1))
+lowest_of : (w : ℕ) → w < 2 ^ 64 → w ≢ 0 → LowestBit w (bit_and w (2 ^ 64 - 1 - w + 1))
 lowest_of w f z = record {
   most = omega (arith, l, r);
   none = λ e. absurd (z e);
@@ -107,6 +107,15 @@ lowest_of w f z = record {
 
     min_r : (x y : ℕ) → y ≡ 0 → min x y ≡ 0
     min_r x y e = omega arith
+
+-- x is the number that w needs to 2^64
+pub lowest_by : (w x : ℕ) → w < 2 ^ 64 → x < 2 ^ 64 → (x + w) % 2 ^ 64 ≡ 0 → LowestBit w (bit_and w x)
+lowest_by w x f g e =
+    by_t (eqb w 0)
+    (λ t. let z : w ≡ 0 = eqb-true w 0 t in
+    subst (LowestBit w) (sym (ap (λ (y : ℕ). bit_and y x) z ∙ and_zero_l x)) (lowest_zero w z))
+    (λ t. let z : w ≢ 0 = eqb-false w 0 t in
+    let d : 2 ^ 64 - 1 - w + 1 ≡ x = omega arith in subst (λ (y : ℕ). LowestBit w (bit_and w y)) d (lowest_of w f z))
 
 -- 1 for a word that is not 0
 filled_one : (w u : ℕ) → LowestBit w u → (u + 9223372036854775807) / 2 ^ 63 ≡ pick (not (eqb w 0)) 1 0
@@ -168,18 +177,14 @@ module _ (ws : List ℕ) (n : ℕ) where
       at_most true = omega arith
       at_most false = omega arith
 
-  pub passed_inner : (a b o y c : ℕ) → Passed a o y c → o ≡ b → (bit 1 y ≡ 0 → ⊥) → PlainFilled ws n a b 65
-  passed_inner a b o y c g e z = record {
-    plain = λ h. absurd (omega arith);
-    count = λ h. absurd (omega arith);
-    inner = λ h p. z (g.zero (λ k x q. p k x (omega arith)));
-  }
+  pub passed_inner : (a b o y c : ℕ) → Passed a o y c → o ≡ b → (bit 1 y ≡ 0 → ⊥) → Plain ws n a b → ⊥
+  passed_inner a b o y c g e z p = z (g.zero (λ k x q. p k x (omega arith)))
 
-  pub passed_all : (a b o y c : ℕ) → Passed a o y c → o ≡ b → b ≤ slots → bit 1 y ≡ 0 → PlainFilled ws n a b c
-  passed_all a b o y c g e l z = record {
-    plain = λ h k x q. g.none z k x (omega arith);
-    count = λ h. ap (filled_to P n) (sym e) ∙ g.count;
-    inner = λ h. absurd (omega (arith, g.few));
+  pub passed_all : (a b o y c : ℕ) → Passed a o y c → o ≡ b → bit 1 y ≡ 0 → PlainFilled ws n a b c
+  passed_all a b o y c g e z = record {
+    few = omega (arith, g.few);
+    plain = λ k x q. g.none z k x (omega arith);
+    count = ap (filled_to P n) (sym e) ∙ g.count;
   }
 
   -- the slots from a up to o, if y is 0: each is empty or has an odd word, and c are filled
@@ -212,46 +217,33 @@ module _ (ws : List ℕ) (n : ℕ) where
           (λ t. let v : w ≢ 0 = eqb-false w 0 t in
           let u : w % 2 ≢ 0 = λ (q : w % 2 ≡ 0). v (h q) in rw t (omega arith))
 
-  pub odd_passed : (a b o y c : ℕ) → OddPassed a o y c → o ≡ b → y ≡ 0 → c ≤ slots → PlainFilled ws n a b c
-  odd_passed a b o y c g e z l = record {
-    plain = λ h k x q. g.plain z k x (omega arith);
-    count = λ h. ap (filled_to P n) (sym e) ∙ g.count z;
-    inner = λ h. absurd (omega arith);
+  pub odd_passed : (a b o y c : ℕ) → OddPassed a o y c → o ≡ b → y ≡ 0 → PlainFilled ws n a b c
+  odd_passed a b o y c g e z = record {
+    few = omega (arith, g.few);
+    plain = λ k x q. g.plain z k x (omega arith);
+    count = ap (filled_to P n) (sym e) ∙ g.count z;
   }
 
   -- two parts
-  pub first_inner : (a b c r : ℕ) → b ≤ c → PlainFilled ws n a b r → slots < r → PlainFilled ws n a c r
-  first_inner a b c r h g i = record {
-    plain = λ l. absurd (omega arith);
-    count = λ l. absurd (omega arith);
-    inner = λ l p. g.inner i (λ k x q. p k x (omega arith));
-  }
+  pub first_inner : (a b c : ℕ) → b ≤ c → (Plain ws n a b → ⊥) → Plain ws n a c → ⊥
+  first_inner a b c h g p = g (λ k x q. p k x (omega arith))
 
-  pub last_inner : (a b c d r : ℕ) → a ≤ b → c ≤ d → PlainFilled ws n b c r → slots < r → PlainFilled ws n a d r
-  last_inner a b c d r h e g i = record {
-    plain = λ l. absurd (omega arith);
-    count = λ l. absurd (omega arith);
-    inner = λ l p. g.inner i (λ k x q. p k (omega arith) (omega arith));
-  }
+  pub last_inner : (a b c d : ℕ) → a ≤ b → c ≤ d → (Plain ws n b c → ⊥) → Plain ws n a d → ⊥
+  last_inner a b c d h e g p = g (λ k x q. p k (omega arith) (omega arith))
 
-  pub both_plain : (b e r s : ℕ) → b ≤ e → e ≤ slots → PlainFilled ws n 0 b r → PlainFilled ws n b e s → r ≤ slots → s ≤ slots →
-      PlainFilled ws n 0 e (r + s)
-  both_plain b e r s h l g i p q =
-      let x : filled_to P n b ≡ r = omega (arith, g.count p) in
-      let y : filled_to P n e ≡ filled_to P n b + s = i.count q in
-      let z : filled_to P n e ≤ e = count_le (λ o. not (eqb (P.slot n o) 0)) e in
-      record {
-        plain = λ m k a lt. by_t (ltb k b) (λ t. g.plain p k a (ltb-true k b t)) (λ t. i.plain q k (ltb-false k b t) lt);
-        count = λ m. omega (arith, x, y);
-        inner = λ m. absurd (omega (arith, x, y, z));
-      }
+  pub both_plain : (b e r s : ℕ) → PlainFilled ws n 0 b r → PlainFilled ws n b e s → PlainFilled ws n 0 e (r + s)
+  both_plain b e r s g i = record {
+    few = omega (arith, g.few, i.few);
+    plain = λ k a lt. by_t (ltb k b) (λ t. g.plain k a (ltb-true k b t)) (λ t. i.plain k (ltb-false k b t) lt);
+    count = omega (arith, g.count, i.count);
+  }
 
   -- all slots
   pub odd_filled_lem : OddTo P n slots → PlainFilled ws n 0 slots 64
   odd_filled_lem h = record {
-    plain = λ l k a lt i. two_one (P.slot n k) i (h k lt);
-    count = λ l. count_all (λ o. not (eqb (P.slot n o) 0)) slots (λ o lt. ap not (ne_eqb (P.slot n o) 0 (none_one (P.slot n o) (h o lt))));
-    inner = λ l. absurd (omega arith);
+    few = omega arith;
+    plain = λ k a lt i. two_one (P.slot n k) i (h k lt);
+    count = count_all (λ o. not (eqb (P.slot n o) 0)) slots (λ o lt. ap not (ne_eqb (P.slot n o) 0 (none_one (P.slot n o) (h o lt))));
   }
     where
       two_one : (w : ℕ) → w % 4 ≡ 2 → w % 2 ≡ 1 → ⊥
@@ -260,21 +252,21 @@ module _ (ws : List ℕ) (n : ℕ) where
       none_one : (w : ℕ) → w % 2 ≡ 1 → w ≡ 0 → ⊥
       none_one w a b = omega arith
 
-  pub plain_count : (c : ℕ) → PlainFilled ws n 0 slots c → c ≤ slots → c ≡ filled_of (P.slot n)
-  plain_count c g l = from_zero (filled_to P n slots) c (g.count l)
+  pub plain_count : (c : ℕ) → PlainFilled ws n 0 slots c → c ≡ filled_of (P.slot n)
+  plain_count c g = from_zero (filled_to P n slots) c g.count
     where
       from_zero : (x y : ℕ) → x ≡ 0 + y → y ≡ x
       from_zero x y e = omega arith
 
-  pub full_tight : (m c : ℕ) → PlainFilled ws n 0 slots c → c ≤ slots → c ≡ slots → NoLoose P n m
-  full_tight m c g l e j lt z =
-      absurd (clash (count_full (λ o. not (eqb (P.slot n o) 0)) slots (sym (plain_count c g l) ∙ e) j lt)
+  pub full_tight : (m c : ℕ) → PlainFilled ws n 0 slots c → c ≡ slots → NoLoose P n m
+  full_tight m c g e j lt z =
+      absurd (clash (count_full (λ o. not (eqb (P.slot n o) 0)) slots (sym (plain_count c g) ∙ e) j lt)
       (ap not (eq-eqb (P.slot n j) 0 z)))
 
-  pub plain_slots_lem : (v c k : ℕ) (r : Bool) → PlainFilled ws n 0 slots c → c ≤ slots → c ≡ k → Decides r (SlotsOk P n v) →
+  pub plain_slots_lem : (v c k : ℕ) (r : Bool) → PlainFilled ws n 0 slots c → c ≡ k → Decides r (SlotsOk P n v) →
       Decides r (SlotsFilled P n v k)
-  plain_slots_lem v c k r g l e d = (
-    (λ t. record { slots_ok_lem = d.0 t; filled_is = sym e ∙ plain_count c g l }),
+  plain_slots_lem v c k r g e d = (
+    (λ t. record { slots_ok_lem = d.0 t; filled_is = sym e ∙ plain_count c g }),
     (λ t s. d.1 t s.slots_ok_lem),
   )
 
@@ -314,9 +306,9 @@ module _ (P : Pool) (n : ℕ) where
   pub tallied_start : (v : ℕ) → Tallied v 0 0
   tallied_start v = tallied v 0 0 (gone_start P n v) refl
 
-  pub tallied_on : (v j r c t : ℕ) → Tallied v j c → Stepped P n v j r → (r ≡ 0 → ⊥) → t ≡ pick (eqb (P.slot n j) 0) 0 r →
+  pub tallied_on : (v j r c t : ℕ) → Tallied v j c → Stepped P n v j r → t ≡ pick (eqb (P.slot n j) 0) 0 r →
       Tallied v (j + r) (c + t)
-  tallied_on v j r c t g s z d = tallied v (j + r) (c + t) (gone_on P n v j r g.gone s z)
+  tallied_on v j r c t g s d = tallied v (j + r) (c + t) (gone_on P n v j r g.gone s)
       (omega (arith, tally_on v j r s, g.count, d))
 
   -- where f has the filled slots, and m the marks
@@ -330,9 +322,9 @@ module _ (P : Pool) (n : ℕ) where
         (λ k a b. eq-eqb (P.slot n k) 0
         (bit_empty P n f fill k (omega (arith, x.most)) (x.first k a (omega arith))))))
 
-    pub tallied_leap : (j o r c : ℕ) → Tallied v o c → NextBit slots f j o → o < slots → Stepped P n v o r → (r ≡ 0 → ⊥) →
+    pub tallied_leap : (j o r c : ℕ) → Tallied v o c → NextBit slots f j o → o < slots → Stepped P n v o r →
         Tallied v (o + r) (c + r)
-    tallied_leap j o r c g x lt s z = tallied_on v o r c r g s z
+    tallied_leap j o r c g x lt s = tallied_on v o r c r g s
         (pick_filled (P.slot n o) r (λ q. let b : fill_bit P n o ≡ 0 = rw (eq-eqb (P.slot n o) 0 q) in
         omega (arith, fill o lt, x.on lt)))
 

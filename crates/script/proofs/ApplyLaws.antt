@@ -1,12 +1,14 @@
 -- A script read pair by pair, and what applying it answers.
-use Prim.Native.Nat.{ℕ, zero, suc, ◌+◌, ◌*◌, ◌%◌, ◌≤◌, ◌<◌}
+use Prim.Native.Nat.{ℕ, zero, suc, ◌+◌, ◌*◌, ◌/◌, ◌%◌, ◌≤◌, ◌<◌}
 use mathlib.Core.Path.{◌≡◌, refl, sym, ap, ◌∙◌}
 use mathlib.Core.Bool.{true, false}
 use mathlib.Core.List.{List, [], ◌∷◌}
 use native.Mathlib.Omega.{arith}
 use lib.Dec.{ltb, eqb}
-use lib.ListN.{length, get_or, set, drop, length-drop}
-use lib.Seq.{drop-cons}
+use lib.ListN.{length, get_or, set, take, drop, length-drop}
+use lib.Seq.{drop-cons, drop-drop}
+use Rattle.std.specs.List.{list_all}
+use Rattle.std.specs.Simd.{first_chunks}
 use borrow.Author.Tests.{ltb-true, ltb-false, ne_eqb, eq-eqb, eqb-true, eqb-false}
 use Rattle.blocks.specs.Choice.{both}
 use Rattle.blocks.proofs.BoolLaws.{both_l, both_r, both_no, by_t, clash, is_false}
@@ -53,6 +55,40 @@ end_below n t ss h = short_below n (drop t ss) (simp length-drop (omega arith))
 
 pub end_applied : (ws : List ℕ) (t : ℕ) (ss : List ℕ) → length ss < t + 2 → applied ws (drop t ss) ≡ ws
 end_applied ws t ss h = short_applied ws (drop t ss) (simp length-drop (omega arith))
+
+-- PAIRS, as the code goes by them: chunks of two
+chunk_at : (k i : ℕ) (ss : List ℕ) → i < k → get_or (first_chunks 2 k ss) i [] ≡ take 2 (drop (2 * i) ss)
+chunk_at zero i ss h = absurd (omega arith)
+chunk_at (suc k) zero ss h = refl
+chunk_at (suc k) (suc i) ss h =
+    let e : 2 + 2 * i ≡ 2 * suc i = omega arith in
+    chunk_at k i (drop 2 ss) (omega arith) ∙ ap (take 2) (drop-drop (2 * i) 2 ss ∙ ap (λ (t : ℕ). drop t ss) e)
+
+module _ (ss : List ℕ) (ps : List (List ℕ)) (e : ps ≡ first_chunks 2 (length ss / 2) ss) (l : length ps ≡ length ss / 2)
+    (i : ℕ) (h : i < length ps)
+  where
+    pub whole : 2 * i + 2 ≤ length ss
+    whole = omega arith
+
+    chunk : get_or ps i [] ≡ get_or ss (2 * i) 0 ∷ get_or ss (2 * i + 1) 0 ∷ []
+    chunk = ap (λ (x : List (List ℕ)). get_or x i []) e ∙ chunk_at (length ss / 2) i ss (omega arith) ∙ ap (take 2) (pair ss (2 * i) whole)
+
+    pub chunk_place : get_or (get_or ps i []) 0 0 ≡ get_or ss (2 * i) 0
+    chunk_place = ap (λ (x : List ℕ). get_or x 0 0) chunk
+
+    pub chunk_word : get_or (get_or ps i []) 1 0 ≡ get_or ss (2 * i + 1) 0
+    chunk_word = ap (λ (x : List ℕ). get_or x 1 0) chunk
+
+pub chunks_below : (n k : ℕ) (ss : List ℕ) → length ss / 2 ≡ k →
+    list_all (λ x. ltb (get_or x 0 0) n) (first_chunks 2 k ss) ≡ places_below n ss
+chunks_below n zero [] e = refl
+chunks_below n zero (p ∷ []) e = refl
+chunks_below n zero (p ∷ x ∷ ss) e = absurd (omega arith)
+chunks_below n (suc k) [] e = absurd (omega arith)
+chunks_below n (suc k) (p ∷ []) e = absurd (omega arith)
+chunks_below n (suc k) (p ∷ x ∷ ss) e =
+    let r : list_all (λ x. ltb (get_or x 0 0) n) (first_chunks 2 k ss) ≡ places_below n ss = chunks_below n k ss (omega arith) in
+    by_t (ltb p n) (λ t. rw t r) (λ t. rw t refl)
 
 -- PLACES
 pub in_all : (n : ℕ) (ss : List ℕ) → places_below n ss ≡ true → (k : ℕ) → 2 * k + 1 < length ss → get_or ss (2 * k) 0 < n

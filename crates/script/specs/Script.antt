@@ -1,6 +1,6 @@
 -- Edit scripts: the words that change between two states of a pool, and writing them (R320 to R327).
 use Rattle.std.specs.Prelude.{ℕ, zero, suc, ◌%◌, Bool, true, List, [], ◌∷◌, ltb, eqb, length, get_or, set}
-use Rattle.answers.specs.declared.Result.{Result}
+use Rattle.answers.specs.declared.Report.{Report}
 use Rattle.answers.specs.Answers.{result_of, done, pool_length, bad_script}
 use Rattle.blocks.specs.Choice.{pick, both}
 use Rattle.layout.specs.Decide.{is_sized}
@@ -41,5 +41,5 @@ apply_answer ws ss = pick (is_sized ws) (pick (is_script (length ws) ss) done ba
 abbrev pub apply_words : (ws ss : List ℕ) → List ℕ
 apply_words ws ss = pick (eqb (apply_answer ws ss) done) (applied ws ss) ws
 
-abbrev pub apply_result : (ws ss : List ℕ) → Result
+abbrev pub apply_result : (ws ss : List ℕ) → Report
 apply_result ws ss = result_of (apply_answer ws ss) 0

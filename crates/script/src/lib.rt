@@ -4,25 +4,18 @@
 #![tactic(auto)]
 
 ghost use Rattle.std.specs.Prelude.{◌≡◌, true, length};
-ghost use Rattle.answers.specs.Answers.{result_of};
+ghost use Rattle.answers.specs.Answers.{report_of};
 ghost use Rattle.script.specs.Script.{places_below, applied, apply_words, apply_result};
 
-use answers::{BAD_SCRIPT, DONE, POOL_LENGTH, Result};
+use answers::{Answer, Refusal};
 use verify::nodes_in;
 
 // Every place of a script lies below n.
 fn places_below(script: &[u64], n: u64) -> bool
     ensures { result ≡ places_below n script.now }
 {
-    let len = script.len();
-    let mut t: usize = 0;
-    while 2 <= len - t {
-        if script[t] >= n {
-            return false;
-        }
-        t = t + 2;
-    }
-    true
+    let (pairs, _) = script.as_chunks::<2>();
+    pairs.iter().all(|[p, _]| *p < n)
 }
 
 // Writes each word of a script, also one that is there already: what stands before it may be anything.
@@ -30,42 +23,27 @@ fn write_all(pool: &mut [u64], script: &[u64])
     requires { places_below (length pool.old) script.now ≡ true }
     ensures { pool.new ≡ applied pool.old script.now }
 {
-    let len = script.len();
-    let mut t: usize = 0;
-    while 2 <= len - t {
-        let p = script[t];
-        let x = script[t + 1];
-        pool[p as usize] = x;
-        t = t + 2;
-    }
-}
-
-fn with_answer(answer: u64) -> Result
-    ensures { result ≡ result_of answer 0 }
-{
-    Result {
-        answer: answer,
-        number: 0,
+    let (pairs, _) = script.as_chunks::<2>();
+    for [p, x] in pairs {
+        pool[*p as usize] = *x;
     }
 }
 
 /// Applies a script: 1 if the length is not that of a pool, 17 if the script has a place outside the pool or is not in
 /// whole pairs, each with nothing written; else 0. The pool need not be well-formed.
-pub fn apply(pool: &mut [u64], script: &[u64]) -> Result
-    ensures r_value { result ≡ apply_result pool.old script.now }
+pub fn apply(pool: &mut [u64], script: &[u64]) -> Result<u64, Refusal>
+    ensures r_value { report_of result ≡ apply_result pool.old script.now }
     ensures pool_after { pool.new ≡ apply_words pool.old script.now }
     ensures script_value { script.exit.now ≡ script.entry.now }
 {
-    if nodes_in(pool) == 0 {
-        return with_answer(POOL_LENGTH);
-    }
+    nodes_in(pool).ok_or(Answer::PoolLength)?;
     if script.len() % 2 != 0 {
-        return with_answer(BAD_SCRIPT);
+        return Err(Refusal::from(Answer::BadScript));
     }
     let n = pool.len() as u64;
     if !places_below(script, n) {
-        return with_answer(BAD_SCRIPT);
+        return Err(Refusal::from(Answer::BadScript));
     }
     write_all(pool, script);
-    with_answer(DONE)
+    Ok(0)
 }

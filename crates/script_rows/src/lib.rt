@@ -27,10 +27,10 @@ ghost use Rattle.script_rows.specs.Row.{in_run, OtherRows, Copies, BitsPut, RunP
 
 use layout::{
     ANCHOR_WORDS, COUNT_WORD, HEAD_WORD, MARKS_WORD, NODE_WORDS, SLOT_BITS, SLOTS, SPARE_WORD,
-    block_of, fill_slots, filled_of, mark_word, node_word, owner_word, put_filled, put_mark_word,
-    put_owner, put_shift, put_slot, shift_word, sibling_word, slot_word,
+    TOP_TIER, block_of, fill_slots, filled_of, mark_word, node_word, owner_word, put_filled,
+    put_mark_word, put_owner, put_shift, put_slot, shift_word, sibling_word, slot_word,
 };
-use marks::with_bit;
+use words::with_bit;
 use write::width_of;
 
 // Mark x among marks m.
@@ -48,10 +48,8 @@ fn clear_bits(w: u64, o: u64, c: u64) -> u64
     ensures { (f : ℕ → Bool) → w ≡ bits_to f slots → result ≡ bits_to (λ j. pick (in_run o c j) false (f j)) slots }
 {
     let mut y = w;
-    let mut t = 0;
-    while t < c {
+    for t in 0..c {
         y = with_bit(y, o + t, false);
-        t = t + 1;
     }
     y
 }
@@ -94,18 +92,17 @@ pub fn edit_run(rows: &mut [u64], r: u64, o: u64, c: u64, word: u64, m: u64)
     put_bits(rows, r, 2, o, c, has_bit(m, 2));
 }
 
-// Row r becomes the words of node n. Where this is inlined LLVM makes a call of memcpy of the loop, and the library is to need memset alone.
+// Row r becomes the words of node n. Where this is inlined LLVM makes a call of memcpy of the loop, as `copy_from_slice` would be, and the
+// library is to need memset alone.
 #[inline(never)]
 pub fn copy_node(pool: &[u64], n: u64, rows: &mut [u64], r: u64)
     requires n_in_bounds { last_place n < length pool.now }
     requires r_bound { last_place r < length rows.old }
     ensures { Copies pool.now n rows.old rows.new r }
 {
-    let mut f = 0;
-    while f < NODE_WORDS {
+    for f in 0..NODE_WORDS {
         let w = pool[(ANCHOR_WORDS + NODE_WORDS * n + f) as usize];
         rows[(ANCHOR_WORDS + NODE_WORDS * r + f) as usize] = w;
-        f = f + 1;
     }
 }
 
@@ -114,12 +111,9 @@ fn count_row(rows: &[u64], r: u64) -> u64
     requires { last_place r < length rows.now }
     ensures { result ≡ filled_of (λ j. get_or rows.now (slot_place r j) 0) }
 {
-    let mut j = 0;
     let mut q = 0;
-    while j < SLOTS {
-        let w = slot_word(rows, r, j);
-        q = q + ((w != 0) as u64);
-        j = j + 1;
+    for j in 0..SLOTS {
+        q += u64::from(slot_word(rows, r, j) != 0);
     }
     q
 }
@@ -137,7 +131,11 @@ pub fn finish_row(rows: &mut [u64], r: u64, shift: u64, owner: u64)
 
 // THE ROWS OF THE PATH: row u is that of the path's node of tier u
 
-// What becomes of an aligned range: it gets an entry's word and marks, or nothing, if the word is 0.
+// The tiers from 0 to the top one: as many numbers as a path has.
+pub const TIERS: usize = (TOP_TIER + 1) as usize;
+
+// What becomes of an aligned range: it gets an entry's word and marks, or nothing, if the word is 0, which is how the layout of pools
+// writes an empty slot: an Option would become that word at once, in `put_run`, as what `child_word` gives does.
 #[derive(Clone, Copy)]
 pub struct Range {
     pub base: u64,
@@ -182,7 +180,7 @@ fn marks_up(rows: &[u64], u: u64) -> u64
     let a = mark_word(rows, u, 0);
     let b = mark_word(rows, u, 1);
     let c = mark_word(rows, u, 2);
-    ((a != 0) as u64) + 2 * ((b != 0) as u64) + 4 * ((c != 0) as u64)
+    u64::from(a != 0) + 2 * u64::from(b != 0) + 4 * u64::from(c != 0)
 }
 
 // The rows of the path begin as copies of its nodes.
@@ -190,11 +188,9 @@ pub fn begin_rows(pool: &[u64], rows: &mut [u64], path: &[u64], v: u64, top: u64
     requires { Roomy pool.now rows.old path.now v top }
     ensures { Copied pool.now path.now v rows.new top }
 {
-    let mut u = v;
-    while u < top {
+    for u in v..top {
         let n = path[(u + 1) as usize];
         copy_node(pool, n, rows, u + 1);
-        u = u + 1;
     }
 }
 
@@ -245,10 +241,8 @@ pub fn put_rows(rows: &mut [u64], path: &[u64], at: Range, top: u64)
 {
     low_row(rows, path, at, top);
     let i = at.base;
-    let mut u = at.order / SLOT_BITS + 1;
-    while u < top {
+    for u in at.order / SLOT_BITS + 1..top {
         up_row(rows, path, i, u, top);
-        u = u + 1;
     }
 }
 

@@ -1,17 +1,24 @@
 -- The script by nodes: those without a row are passed at once.
 use Prim.Native.Nat.{ℕ, zero, suc, ◌+◌, ◌-◌, ◌≤◌, ◌<◌}
 use mathlib.Core.Path.{◌≡◌, refl, sym, ap, subst, ◌∙◌}
-use mathlib.Core.List.{List}
+use mathlib.Core.List.{List, [], ◌∷◌}
+use mathlib.Core.Bool.{Bool, true}
 use native.Mathlib.Omega.{arith}
 use lib.Dec.{eqb}
-use lib.ListN.{length, get_or, set}
-use borrow.Author.Tests.{eqb-true, eqb-false}
+use lib.ListN.{length, get_or, set, take}
+use borrow.Author.Tests.{eqb-true, eqb-false, le-leb}
+use Rattle.std.specs.Prelude.{nat_le, None, Some}
+use Rattle.std.specs.List.{All, filter, position, position_or_len}
+use Rattle.std.proofs.lemmas.Grind.{common_steps}
+use Rattle.std.proofs.lemmas.List.{get_or-take, length-take-le}
+use Rattle.std.proofs.lemmas.List.Quantifiers.{position-Some}
+use Rattle.std.proofs.lemmas.List.Sums.{fails_before_first}
 use Rattle.blocks.specs.Choice.{pick}
 use Rattle.blocks.proofs.BoolLaws.{by_t}
 use Rattle.layout.specs.Words.{anchor_words, node_words, pool_words, place, node_of, field_in}
 use Rattle.script.specs.Script.{script_from, script}
 use Rattle.script_table.proofs.LaidLaws.{next_same, next_pair, laid_pair, laid_none, script_end, script_start}
-use Rattle.script_table.specs.Table.{laid, row_count, Tables, Agrees, NextNumber, Wrote}
+use Rattle.script_table.specs.Table.{laid, row_count, Tables, Agrees, NextNumber, RowOf, numbers_from, Wrote}
 
 module _ (ws ws' : List ℕ) (len : ℕ) where
   abbrev pub after : ℕ → List ℕ
@@ -56,19 +63,64 @@ module _ (ws ws' : List ℕ) (len : ℕ) where
       e ∙ rw (a, g) (ap (laid out t) b ∙ (laid_pair out t p (get_or ws' p 0) (after (p + 1))
       ∙ ap (λ (y : ℕ). laid (set (set out t p) (t + 1) y) (t + 2) (after (p + 1))) d)))
 
+-- THE ROWS' NUMBERS
+-- no number of a row from `from` on is below r
+pub record NoneBelow (ns : List ℕ) (from r : ℕ) : Type 0 where
+  pub least : from ≤ r
+  pub between : (t : ℕ) → t < row_count → from ≤ get_or ns t 0 → r ≤ get_or ns t 0
+
+no_position : (p : ℕ → Bool) (xs : List ℕ) → position p xs ≡ None → length xs ≤ position_or_len p xs
+no_position p xs e = grind (arith, common_steps)
+
+-- what holds of those that pass holds of one that passes
+filter_each : (p : ℕ → Bool) (P : ℕ → Type 0) (xs : List ℕ) (i : ℕ) → i < length xs → p (get_or xs i 0) ≡ true →
+    All P (filter p xs) → P (get_or xs i 0)
+filter_each p P [] i h t a = absurd (omega arith)
+filter_each p P (x ∷ xs) zero h t a = (rw t at a) 0 0 (omega arith)
+filter_each p P (x ∷ xs) (suc i) h t a =
+    by_t (p x) (λ e. filter_each p P xs i (omega arith) t (λ k d lt. (rw e at a) (suc k) d (omega arith)))
+    (λ e. filter_each p P xs i (omega arith) t (rw e at a))
+
+module _ (ns : List ℕ) (from : ℕ) (P : ℕ → Type 0) (h : row_count ≤ length ns) (a : All P (numbers_from ns from)) where
+  number_each : (t : ℕ) → t < row_count → from ≤ get_or ns t 0 → P (get_or ns t 0)
+  number_each t lt le =
+      let same : get_or (take row_count ns) t 0 ≡ get_or ns t 0 = get_or-take row_count ns t 0 lt in
+      subst P same (filter_each (λ x. nat_le from x) P (take row_count ns) t
+      (omega (arith, length-take-le row_count ns h))
+      (subst (λ (x : ℕ). nat_le from x ≡ true) (sym same) (le-leb from (get_or ns t 0) le)) a)
+
+pub none_below : {ns : List ℕ} {from n : ℕ} → row_count ≤ length ns → from ≤ n → NextNumber ns from n None → NoneBelow ns from n
+none_below {ns} {from} {n} h f x = record { least = f; between = number_each ns from (λ (y : ℕ). n ≤ y) h x }
+
+pub some_below : {ns : List ℕ} {from n m : ℕ} → row_count ≤ length ns → NextNumber ns from n (Some m) → NoneBelow ns from m
+some_below {ns} {from} {n} {m} h x = record { least = x.0; between = number_each ns from (λ (y : ℕ). m ≤ y) h x.2 }
+
+pub row_some : (ns : List ℕ) (m r : ℕ) → row_count ≤ length ns → RowOf ns m (Some r) → (r < row_count) × (get_or ns r 0 ≡ m)
+row_some ns m r h x =
+    let f = position-Some (λ y. eqb y m) (take row_count ns) r 0 (sym x) in
+    let lt : r < row_count = omega (arith, length-take-le row_count ns h, f.0) in
+    (lt, sym (get_or-take row_count ns r 0 lt) ∙ eqb-true _ _ f.1)
+
+pub row_none : (ns : List ℕ) (m : ℕ) → row_count ≤ length ns → RowOf ns m None →
+    (t : ℕ) → t < row_count → get_or ns t 0 ≡ m → ⊥
+row_none ns m h x t lt e =
+    let size : length (take row_count ns) ≡ row_count = length-take-le row_count ns h in
+    let far : length (take row_count ns) ≤ position_or_len (λ y. eqb y m) (take row_count ns) = no_position _ _ (sym x) in
+    eqb-false _ _ (fails_before_first (λ y. eqb y m) (take row_count ns) t 0 (omega arith)) (get_or-take row_count ns t 0 lt ∙ e)
+
 module _ {ws rs ns ws' : List ℕ} {n : ℕ} (T : Tables ws rs ns ws' n) where
   -- the nodes from m on, below m', have no row
-  pub pass_nodes : (len m m' : ℕ) → len ≡ pool_words n → NextNumber ns m n m' row_count →
+  pub pass_nodes : (len m m' : ℕ) → len ≡ pool_words n → m' ≤ n → NoneBelow ns m m' →
       after ws ws' len (pool_words m) ≡ after ws ws' len (pool_words m')
-  pass_nodes len m m' e x =
+  pass_nodes len m m' e most x =
       let z : pool_words m + (pool_words m' - pool_words m) ≡ pool_words m' = omega (arith, x.least) in
-      skip ws ws' len (pool_words m' - pool_words m) (pool_words m) (omega (arith, x.least, x.most))
+      skip ws ws' len (pool_words m' - pool_words m) (pool_words m) (omega (arith, x.least, most))
       (λ t lt.
       let g : node_of (pool_words m + t) < m' = omega arith in
       let l : m ≤ node_of (pool_words m + t) = omega arith in
       let b : place (node_of (pool_words m + t)) (field_in (pool_words m + t)) ≡ pool_words m + t = omega arith in
       subst (λ (p : ℕ). get_or ws' p 0 ≡ get_or ws p 0) b
-      (T.rest (node_of (pool_words m + t)) (omega (arith, x.most))
+      (T.rest (node_of (pool_words m + t)) (omega (arith, most))
       (λ r lt' q. omega (arith, x.between r lt' (omega arith))) (field_in (pool_words m + t)) (omega arith)))
       ∙ ap (after ws ws' len) z
 

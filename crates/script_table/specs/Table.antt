@@ -1,5 +1,6 @@
 -- Words after a command, given by the words before it and by rows for the nodes that change.
-use Rattle.std.specs.Prelude.{ℕ, suc, ◌+◌, ◌-◌, ◌≤◌, ◌<◌, ◌≡◌, List, [], ◌∷◌, length, get_or, set}
+use Rattle.std.specs.Prelude.{ℕ, suc, ◌+◌, ◌-◌, ◌≤◌, ◌<◌, ◌≡◌, List, [], ◌∷◌, length, get_or, set, Option, MatchOption, take, eqb, nat_le}
+use Rattle.std.specs.List.{All, position, filter}
 use Rattle.script.specs.Script.{script_from, script}
 use Rattle.layout.specs.Words.{anchor_words, pool_words, place, IsField}
 
@@ -19,21 +20,18 @@ pub record Tables (ws rs ns ws' : List ℕ) (n : ℕ) : Type 0 where
 pub record Agrees (ws' rs : List ℕ) (p q c : ℕ) : Type 0 where
   pub words : (t : ℕ) → t < c → get_or ws' (p + t) 0 ≡ get_or rs (q + t) 0
 
-pub record Lesser (m from best r : ℕ) : Type 0 where
-  pub most : r ≤ best
-  pub least : from ≤ best → from ≤ r
-  pub below : from ≤ m → r ≤ m
+-- the numbers of the rows that are from or more
+abbrev pub numbers_from : (ns : List ℕ) (from : ℕ) → List ℕ
+numbers_from ns from = filter (λ x. nat_le from x) (take row_count ns)
 
--- r is from or more, and no number of the first q rows lies between
-pub record NextNumber (ns : List ℕ) (from n r q : ℕ) : Type 0 where
-  pub most : r ≤ n
-  pub least : from ≤ r
-  pub between : (t : ℕ) → t < q → from ≤ get_or ns t 0 → r ≤ get_or ns t 0
+-- the least of them, if one is below n
+abbrev pub NextNumber : (ns : List ℕ) (from n : ℕ) → Option ℕ → Type 0
+NextNumber ns from n o = MatchOption o (All (λ x. n ≤ x) (numbers_from ns from))
+    (λ m. (from ≤ m) × (m < n) × All (λ x. m ≤ x) (numbers_from ns from))
 
-pub record RowOf (ns : List ℕ) (m r : ℕ) : Type 0 where
-  pub most : r ≤ row_count
-  pub is : r < row_count → get_or ns r 0 ≡ m
-  pub none : r ≡ row_count → (t : ℕ) → t < row_count → get_or ns t 0 ≡ m → ⊥
+-- the row whose number is m, if there is one
+abbrev pub RowOf : (ns : List ℕ) (m : ℕ) → Option ℕ → Type 0
+RowOf ns m r = r ≡ position (λ x. eqb x m) (take row_count ns)
 
 -- words laid over those of a slice from place q on
 unfoldable pub laid : (slice : List ℕ) → (q : ℕ) → (ss : List ℕ) → List ℕ

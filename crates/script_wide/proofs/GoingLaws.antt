@@ -15,7 +15,7 @@ use Rattle.freemap.proofs.BitOneLaws.{bit_zero}
 use Rattle.freemap.proofs.MapLaws.{map_none}
 use Rattle.layout.specs.Words.{count_word}
 use Rattle.layout.specs.WellFormed.{WellFormed}
-use Rattle.script_wide.specs.Going.{Going, NextGoing, WideBy}
+use Rattle.script_wide.specs.Going.{Going, Clear, WideBy}
 use Rattle.script_wide.specs.Wide.{GoesAt, Wide}
 use Rattle.script_wide.proofs.GoesLaws.{count_is}
 
@@ -81,10 +81,6 @@ module _ (ms : List ℕ) (x : ℕ) {j : ℕ} (b : NextBit word_bits (get_or ms (
       let e : (word_bits * (x / word_bits) + j) % word_bits ≡ j = omega arith in
       rw (d, e) (b.on h)
 
--- no bit is set from m on, below x
-pub record Clear (ms : List ℕ) (m x : ℕ) : Type 0 where
-  pub each : (y : ℕ) → m ≤ y → y < x → map_bit ms y ≡ 0
-
 pub clear_start : (ms : List ℕ) (m : ℕ) → Clear ms m m
 clear_start ms m = record { each = λ y a b. absurd (omega arith) }
 
@@ -99,10 +95,5 @@ module _ {ms : List ℕ} {m x : ℕ} (c : Clear ms m x) where
       Clear ms m (word_bits * (x / word_bits + 1))
   clear_next b g = record { each = λ y l h. (clear_on b).each y l (omega (arith, b.most)) }
 
-  pub clear_end : {end : ℕ} → m ≤ end → end ≤ x → NextGoing ms m end end
-  clear_end l h = record {
-    past = l;
-    most = omega arith;
-    on = λ g. absurd (omega arith);
-    between = λ y a b. c.each y a (omega arith);
-  }
+  pub clear_end : {end : ℕ} → end ≤ x → Clear ms m end
+  clear_end h = record { each = λ y a b. c.each y a (omega arith) }

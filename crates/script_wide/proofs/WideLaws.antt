@@ -8,12 +8,13 @@ use Rattle.tree.specs.Tree.{slot_bits}
 use Rattle.layout.specs.Words.{anchor_words, node_words, pool_words, place, node_of, field_in, count_word}
 use Rattle.layout.specs.WellFormed.{WellFormed}
 use Rattle.layout.proofs.RenderWordLaws.{pool_length_lem}
+use Rattle.freemap.specs.FreeMap.{map_bit}
 use Rattle.script.specs.Script.{script}
-use Rattle.script_table.specs.Table.{row_count, Tables, Agrees, NextNumber, Wrote}
+use Rattle.script_table.specs.Table.{row_count, Tables, Agrees, Wrote}
 use Rattle.script_table.proofs.LaidLaws.{script_start, script_end}
-use Rattle.script_table.proofs.TableLaws.{after, skip}
+use Rattle.script_table.proofs.TableLaws.{after, skip, NoneBelow}
 use Rattle.script_wide.specs.Freed.{Gone, Freed, AllFreed, Counted}
-use Rattle.script_wide.specs.Going.{NextGoing, WideBy}
+use Rattle.script_wide.specs.Going.{Clear, WideBy}
 use Rattle.script_wide.specs.Wide.{NoRow, Wide}
 use Rattle.script_wide.proofs.ClimbLaws.{at_fits}
 use Rattle.script_wide.proofs.GoesLaws.{goes_node}
@@ -63,27 +64,23 @@ zeros_agree g = record { words = λ t lt. g.zeros t lt ∙ sym (get_or-replicate
 
 module _ {ws ms ws' : List ℕ} {m m' : ℕ} (d : AllFreed ws ms ws' m m') where
   -- those before the next that goes stay
-  pub stays_pass : {x r : ℕ} → pool_words m' ≤ length ws → m ≤ x → NextGoing ms x m' r →
+  pub stays_pass : {x r : ℕ} → pool_words m' ≤ length ws → m ≤ x → x ≤ r → r ≤ m' → Clear ms x r →
       after ws ws' (length ws) (pool_words x) ≡ after ws ws' (length ws) (pool_words r)
-  stays_pass {x} {r} h l g =
-      let z : pool_words x + (pool_words r - pool_words x) ≡ pool_words r = omega (arith, g.past) in
-      skip ws ws' (length ws) (pool_words r - pool_words x) (pool_words x) (omega (arith, g.past, g.most))
+  stays_pass {x} {r} h l past most g =
+      let z : pool_words x + (pool_words r - pool_words x) ≡ pool_words r = omega (arith, past) in
+      skip ws ws' (length ws) (pool_words r - pool_words x) (pool_words x) (omega (arith, past, most))
       (λ t lt.
       let a : x ≤ node_of (pool_words x + t) = omega arith in
       let b : node_of (pool_words x + t) < r = omega arith in
       let e : place (node_of (pool_words x + t)) (field_in (pool_words x + t)) ≡ pool_words x + t = omega arith in
       subst (λ (p : ℕ). get_or ws' p 0 ≡ get_or ws p 0) e
-      ((d.each (node_of (pool_words x + t)) (omega arith) (omega (arith, g.most))).rest (g.between (node_of (pool_words x + t)) a b)
+      ((d.each (node_of (pool_words x + t)) (omega arith) (omega (arith, most))).rest (g.each (node_of (pool_words x + t)) a b)
       (field_in (pool_words x + t)) (omega arith)))
       ∙ ap (after ws ws' (length ws)) z
 
-  pub stays_end : {x r : ℕ} → pool_words m' ≤ length ws → m ≤ x → NextGoing ms x m' r → r ≡ m' →
-      after ws ws' (length ws) (pool_words x) ≡ after ws ws' (length ws) (pool_words m')
-  stays_end h l g e = stays_pass h l g ∙ ap (λ (y : ℕ). after ws ws' (length ws) (pool_words y)) e
-
   -- and the next goes
-  pub next_gone : {x r : ℕ} → m ≤ x → NextGoing ms x m' r → r < m' → Gone ws' r
-  next_gone {x} {r} l g h = (d.each r (omega (arith, g.past)) h).gone (g.on h)
+  pub next_gone : {x r : ℕ} → m ≤ x → (x ≤ r) × (r < m') × (map_bit ms r ≡ 1) × Clear ms x r → Gone ws' r
+  next_gone {x} {r} l g = (d.each r (omega (arith, g.0)) g.1).gone g.2
 
 -- A NODE WITH A ROW, OR NONE
 module _ {ws rs ns ms ws' : List ℕ} (W : WideBy ws rs ns ms ws') where
@@ -96,9 +93,9 @@ module _ {ws rs ns ms ws' : List ℕ} (W : WideBy ws rs ns ms ws') where
   }
 
   -- the nodes before the next with a row
-  pub wide_next : {n m m' : ℕ} → n ≡ get_or ws count_word 0 → NextNumber ns m n m' row_count → AllFreed ws ms ws' m m'
-  wide_next {n} {m} {m'} e x = record {
-    each = λ y a b. wide_freed (omega (arith, x.most)) (λ r lt q. omega (arith, x.between r lt (omega arith)));
+  pub wide_next : {n m m' : ℕ} → n ≡ get_or ws count_word 0 → m' ≤ n → NoneBelow ns m m' → AllFreed ws ms ws' m m'
+  wide_next {n} {m} {m'} e most x = record {
+    each = λ y a b. wide_freed (omega (arith, most)) (λ r lt q. omega (arith, x.between r lt (omega arith)));
   }
 
   pub wide_row : {m r : ℕ} → m < get_or ws count_word 0 → r < row_count → get_or ns r 0 ≡ m → Agrees ws' rs (pool_words m) (pool_words r) node_words

@@ -1,5 +1,5 @@
 -- The nodes that go, as a map of bits, and the words after the command by this map.
-use Rattle.std.specs.Prelude.{ℕ, ◌≤◌, ◌<◌, ◌≡◌, List, length, get_or}
+use Rattle.std.specs.Prelude.{ℕ, ◌≤◌, ◌<◌, ◌≡◌, List, length, get_or, Option, MatchOption}
 use Rattle.freemap.specs.FreeMap.{map_nodes, map_words, map_bit}
 use Rattle.layout.specs.Words.{anchor_words, place, count_word, IsField}
 use Rattle.layout.specs.WellFormed.{WellFormed}
@@ -12,12 +12,13 @@ pub record Going {ws : List ℕ} (s : WellFormed ws) (ms : List ℕ) (i k n : �
   pub on : (m : ℕ) → m < map_nodes → map_bit ms m ≡ 1 → GoesAt s i k m
   pub off : (m : ℕ) → m < n → map_bit ms m ≡ 0 → GoesAt s i k m → ⊥
 
--- r is the least node of the map from m on, or end if there is none below it
-pub record NextGoing (ms : List ℕ) (m end r : ℕ) : Type 0 where
-  pub past : m ≤ r
-  pub most : r ≤ end
-  pub on : r < end → map_bit ms r ≡ 1
-  pub between : (x : ℕ) → m ≤ x → x < r → map_bit ms x ≡ 0
+-- no node of the map lies from m on, below x
+pub record Clear (ms : List ℕ) (m x : ℕ) : Type 0 where
+  pub each : (y : ℕ) → m ≤ y → y < x → map_bit ms y ≡ 0
+
+-- the least node of the map from m on, if one lies below end
+abbrev pub NextGoing : (ms : List ℕ) (m end : ℕ) → Option ℕ → Type 0
+NextGoing ms m end o = MatchOption o (Clear ms m end) (λ r. (m ≤ r) × (r < end) × (map_bit ms r ≡ 1) × Clear ms m r)
 
 -- as Wide, where the nodes of the map are those that go
 pub record WideBy (ws rs ns ms ws' : List ℕ) : Type 0 where

@@ -22,10 +22,6 @@ pub between_next : (P : ℕ → Type 0) (j i : ℕ) → ((k : ℕ) → j < k →
 between_next P j i h p k a b = by_t (eqb k i) (λ e. subst P (sym (eqb-true k i e)) p)
     (λ e. let d : k ≢ i = eqb-false k i e in h k a (omega arith))
 
-pub below_next : (P : ℕ → Type 0) (i : ℕ) → ((k : ℕ) → k < i → P k) → P i → (k : ℕ) → k < i + 1 → P k
-below_next P i h p k b = by_t (eqb k i) (λ e. subst P (sym (eqb-true k i e)) p)
-    (λ e. let d : k ≢ i = eqb-false k i e in h k (omega arith))
-
 pub three : (Q : ℕ → Type 0) → Q 0 → Q 1 → Q 2 → (μ : ℕ) → μ < 3 → Q μ
 three Q a b c zero h = a
 three Q a b c (suc zero) h = b

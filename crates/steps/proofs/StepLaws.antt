@@ -7,7 +7,8 @@ use native.Mathlib.Omega.{arith}
 use lib.Pow.{pow_pos}
 use lib.Dec.{eqb, ltb}
 use borrow.Author.Tests.{eqb-true, eqb-false, ne_eqb, ltb-true, ltb-false}
-use Rattle.blocks.specs.Choice.{pick}
+use Rattle.std.specs.Prelude.{MatchOption}
+use Rattle.std.specs.Bool.{then_some}
 use Rattle.blocks.specs.Blocks.{bit}
 use Rattle.blocks.proofs.BoolLaws.{by_t, decide_eqb}
 use Rattle.tree.specs.Tree.{slots}
@@ -27,35 +28,26 @@ module _ (P : Pool) (n v j : ℕ) where
   abbrev At : ℕ → Slot → Type 0
   At k κ = SlotOk P n v k κ
 
-  pub step_bad : j < slots → (SlotsOk P n v → ⊥) → Stepped P n v j 0
-  step_bad h f = record {
-    inside = omega arith;
-    bad = λ z. f;
-    good = λ z. absurd (z refl);
-    alike = λ k x y. absurd (omega arith);
-    past = λ z. absurd (z refl);
-  }
-
   slot_of_lem : {κ : Slot} → slot_at P n j ≡ κ → j < slots → SlotsOk P n v → At j κ
   slot_of_lem e h s = subst (At j) e (s j h)
 
   step_one : (κ : Slot) → slot_at P n j ≡ κ → (slot_at P n j ≢ Held) → j < slots → Past P n j → At j κ →
       Stepped P n v j 1
   step_one κ e ne h p a = record {
+    some = omega arith;
     inside = omega arith;
-    bad = λ z. absurd (omega arith);
-    good = λ z k x y. let d : j ≡ k = omega arith in
+    good = λ k x y. let d : j ≡ k = omega arith in
         subst (λ (i : ℕ). At i (slot_at P n i)) d (subst (At j) (sym e) a);
     alike = λ k x y. let d : k ≡ j = omega arith in ap (λ (i : ℕ). eqb (P.slot n i) 0) d;
-    past = λ z o x y. by_t (eqb o j)
+    past = λ o x y. by_t (eqb o j)
         (λ t. absurd (ne (subst (λ (i : ℕ). slot_at P n i ≡ Held) (eqb-true o j t) y)))
         (λ t. let d : o ≢ j = eqb-false o j t in omega (arith, p o (omega arith) y));
   }
 
   pub step_decides : (b : Bool) (κ : Slot) → slot_at P n j ≡ κ → (slot_at P n j ≢ Held) → j < slots → Past P n j →
-      Decides b (At j κ) → Stepped P n v j (pick b 1 0)
+      Decides b (At j κ) → MatchOption (then_some b 1) (SlotsOk P n v → ⊥) (Stepped P n v j)
   step_decides true κ e ne h p d = step_one κ e ne h p (d.0 refl)
-  step_decides false κ e ne h p d = step_bad h (λ s. d.1 refl (slot_of_lem e h s))
+  step_decides false κ e ne h p d = λ s. d.1 refl (slot_of_lem e h s)
 
   pub empty_not_held : slot_at P n j ≡ Empty → slot_at P n j ≢ Held
   empty_not_held e f = (word_of_lem (P.slot n j) Held f).0 (word_of_lem (P.slot n j) Empty e)
@@ -86,9 +78,9 @@ module _ (P : Pool) (n v j : ℕ) where
   pub child_bad : (m : ℕ) → slot_at P n j ≡ Child m → j < slots → (ChildOk P n v j m → ⊥) → SlotsOk P n v → ⊥
   child_bad m e h f s = f (slot_of_lem e h s)
 
-  pub step_sibling : (o : ℕ) → slot_at P n j ≡ Sibling o → j < slots → Past P n j → Stepped P n v j 0
-  step_sibling o e h p = step_bad h (λ s. let q : SiblingOk P n v j o = slot_of_lem e h s in
-      let x : o + 2 ^ run P n o ≤ j = p o q.after q.of_held in omega (arith, q.in_run_lem))
+  pub step_sibling : (o : ℕ) → slot_at P n j ≡ Sibling o → j < slots → Past P n j → SlotsOk P n v → ⊥
+  step_sibling o e h p s = let q : SiblingOk P n v j o = slot_of_lem e h s in
+      let x : o + 2 ^ run P n o ≤ j = p o q.after q.of_held in omega (arith, q.in_run_lem)
 
   -- an entry, with its run of r slots
   module _ (held : slot_at P n j ≡ Held) (lt : j < slots) where
@@ -96,18 +88,17 @@ module _ (P : Pool) (n v j : ℕ) where
       in_node : j + r ≤ slots
       in_node = omega (arith, ok.ends, cap_le v)
 
-      pub step_marked : (((i : ℕ) → j < i → i < j + r → bit i m ≡ 0) → ⊥) → Stepped P n v j 0
-      step_marked f = step_bad lt (λ s. f (λ i a b. am.cleared i
+      pub step_marked : (((i : ℕ) → j < i → i < j + r → bit i m ≡ 0) → ⊥) → SlotsOk P n v → ⊥
+      step_marked f s = f (λ i a b. am.cleared i
           (let q : SiblingOk P n v i j = subst (At i) (ok.siblings i a (omega arith)) (s i (omega (arith, in_node))) in
-          q.unmarked)))
+          q.unmarked))
 
       pub step_run : Past P n j → ((i : ℕ) → j < i → i < j + r → bit i m ≡ 0) → Stepped P n v j r
       step_run p clear =
-          let pos : 0 < r = omega (arith, pow_pos (run P n j)) in
           record {
+            some = omega (arith, pow_pos (run P n j));
             inside = in_node;
-            bad = λ z. absurd (omega arith);
-            good = λ z k a b. by_t (eqb j k)
+            good = λ k a b. by_t (eqb j k)
                 (λ t. subst (λ (i : ℕ). At i (slot_at P n i)) (eqb-true j k t) (subst (At j) (sym held) ok))
                 (λ t. let d : j ≢ k = eqb-false j k t in
                 subst (At k) (sym (ok.siblings k (omega arith) (omega arith))) (record {
@@ -120,7 +111,7 @@ module _ (P : Pool) (n v j : ℕ) where
                 (λ t. ap (λ (i : ℕ). eqb (P.slot n i) 0) (eqb-true k j t))
                 (λ t. let d : k ≢ j = eqb-false k j t in
                 sibling_full k (ok.siblings k (omega arith) (omega arith)) ∙ sym held_full);
-            past = λ z o a h. by_t (ltb o j)
+            past = λ o a h. by_t (ltb o j)
                 (λ t. omega (arith, p o (ltb-true o j t) h))
                 (λ t. let g : j ≤ o = ltb-false o j t in
                 by_t (eqb o j)
@@ -144,21 +135,21 @@ module _ (P : Pool) (n v j : ℕ) where
 
 -- empty slots from slot j on, r of them, where m is the marks
 module _ (P : Pool) (n v j m : ℕ) (empty : slot_at P n j ≡ Empty) (lt : j < slots) (am : AllMarks P n m) where
-  pub gap_marked : (bit j m ≡ 0 → ⊥) → Stepped P n v j 0
-  gap_marked f = step_bad P n v j lt (λ s. f (am.cleared j (subst (SlotOk P n v j) empty (s j lt))))
+  pub gap_marked : (bit j m ≡ 0 → ⊥) → SlotsOk P n v → ⊥
+  gap_marked f s = f (am.cleared j (subst (SlotOk P n v j) empty (s j lt)))
 
   module _ (r : ℕ) (c : SameSlots P n j 0 r) where
-    pub rest_marked : (((i : ℕ) → j < i → i < j + r → bit i m ≡ 0) → ⊥) → Stepped P n v j 0
-    rest_marked f = step_bad P n v j lt (λ s. f (λ i a b. am.cleared i
-        (subst (SlotOk P n v i) (said (P.slot n i) Empty (c.all i a b)) (s i (omega (arith, c.inside))))))
+    pub rest_marked : (((i : ℕ) → j < i → i < j + r → bit i m ≡ 0) → ⊥) → SlotsOk P n v → ⊥
+    rest_marked f s = f (λ i a b. am.cleared i
+        (subst (SlotOk P n v i) (said (P.slot n i) Empty (c.all i a b)) (s i (omega (arith, c.inside)))))
 
     pub step_gap : Past P n j → bit j m ≡ 0 → ((i : ℕ) → j < i → i < j + r → bit i m ≡ 0) → Stepped P n v j r
     step_gap p b g = record {
+      some = c.some;
       inside = c.inside;
-      bad = λ z. absurd (omega (arith, c.some));
-      good = λ z k x y. subst (SlotOk P n v k) (sym (empty_at k x y)) (am.clear k (clear_at k x y));
+      good = λ k x y. subst (SlotOk P n v k) (sym (empty_at k x y)) (am.clear k (clear_at k x y));
       alike = λ k x y. ap (λ (w : ℕ). eqb w 0) (word_of_lem (P.slot n k) Empty (empty_at k x y) ∙ sym (word_of_lem (P.slot n j) Empty empty));
-      past = λ z o y held. by_t (ltb o j) (λ t. omega (arith, p o (ltb-true o j t) held))
+      past = λ o y held. by_t (ltb o j) (λ t. omega (arith, p o (ltb-true o j t) held))
           (λ t. absurd (empty_not_held P n v o (empty_at o (ltb-false o j t) y) held));
     }
       where
@@ -184,9 +175,9 @@ module _ (P : Pool) (n v : ℕ) where
     past = λ o h. absurd (omega arith);
   }
 
-  pub gone_on : (j r : ℕ) → Gone j → Stepped P n v j r → (r ≡ 0 → ⊥) → Gone (j + r)
-  gone_on j r g s z = record {
+  pub gone_on : (j r : ℕ) → Gone j → Stepped P n v j r → Gone (j + r)
+  gone_on j r g s = record {
     inside = s.inside;
-    ok = λ k h. by_t (ltb k j) (λ t. g.ok k (ltb-true k j t)) (λ t. s.good z k (ltb-false k j t) h);
-    past = s.past z;
+    ok = λ k h. by_t (ltb k j) (λ t. g.ok k (ltb-true k j t)) (λ t. s.good k (ltb-false k j t) h);
+    past = s.past;
   }

@@ -21,14 +21,13 @@ filled_to P n = count_to (λ o. not (eqb (P.slot n o) 0))
 abbrev pub Past : Pool → (n j : ℕ) → Type 0
 Past P n j = (o : ℕ) → o < j → slot_at P n o ≡ Held → o + 2 ^ run P n o ≤ j
 
--- what the number r says of node n at slot j: 0 that its slots are not as they must be, else that r slots from j on are;
--- all of them are filled, or none
+-- r slots of node n from slot j on are as they must be, at least one; all of them are filled, or none
 pub record Stepped (P : Pool) (n v j r : ℕ) : Type 0 where
+  pub some : 0 < r
   pub inside : j + r ≤ slots
-  pub bad : r ≡ 0 → SlotsOk P n v → ⊥
-  pub good : r ≢ 0 → (k : ℕ) → j ≤ k → k < j + r → SlotOk P n v k (slot_at P n k)
+  pub good : (k : ℕ) → j ≤ k → k < j + r → SlotOk P n v k (slot_at P n k)
   pub alike : (k : ℕ) → j ≤ k → k < j + r → eqb (P.slot n k) 0 ≡ eqb (P.slot n j) 0
-  pub past : r ≢ 0 → Past P n (j + r)
+  pub past : Past P n (j + r)
 
 -- the slots of node n are as they must be, and k of them filled
 pub record SlotsFilled (P : Pool) (n v k : ℕ) : Type 0 where

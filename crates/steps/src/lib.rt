@@ -4,21 +4,21 @@
 // A test's contract is `Decides r A`: true with A, false with the refutation of A.
 #![tactic(auto)]
 
-ghost use Rattle.std.specs.Prelude.{◌≡◌, ℕ, ◌+◌, ◌<◌, ◌≤◌};
+ghost use Rattle.std.specs.Prelude.{◌≡◌, ℕ, ◌+◌, ◌<◌, ◌≤◌, MatchOption};
 ghost use Rattle.blocks.specs.Blocks.{bit};
 ghost use Rattle.model.specs.Model.{mark_count};
 ghost use Rattle.tree.specs.Tree.{slots};
 ghost use Rattle.layout.specs.declared.Slot.TheVariants.{Empty, Held};
 ghost use Rattle.layout.specs.Pool.{slot_at, pool_of};
 ghost use Rattle.layout.specs.Reading.{Decides};
-ghost use Rattle.local.specs.Local.{HasNode, cap, top_level, Agree, ReservedOk, ChildOk};
+ghost use Rattle.local.specs.Local.{HasNode, cap, top_level, Agree, SlotsOk, ReservedOk, ChildOk};
 ghost use Rattle.steps.specs.Steps.{AllMarks, Past, Stepped, SameSlots, Power, RunFits};
 
 use layout::{
     COUNT_WORD, SLOT_BITS, SLOTS, Slot, TOP_TIER, mark_bit, mark_word, owner_of, owner_word,
     read_slot, shift_of, sibling_word, slot_word,
 };
-use words::{one_if, pow2};
+use words::pow2;
 
 // The level of the nodes of shift 60.
 pub const TOP_LEVEL: u64 = TOP_TIER - 1;
@@ -37,14 +37,12 @@ fn same_slots(pool: &[u64], n: u64, j: u64, w: u64) -> u64
     requires fact_2 { j < slots }
     ensures { SameSlots (pool_of pool.now) n j w result }
 {
-    let mut p = 1;
-    while j + p < SLOTS {
+    for p in 1..SLOTS - j {
         if slot_word(pool, n, j + p) != w {
             return p;
         }
-        p = p + 1;
     }
-    p
+    SLOTS - j
 }
 
 // How many slots of a node of level v lie below 2^64.
@@ -58,25 +56,10 @@ fn width(v: u64) -> u64
 fn is_power(p: u64) -> bool
     ensures { Decides result (Power p) }
 {
-    if p == 1 {
-        return true;
-    }
-    if p == 2 {
-        return true;
-    }
-    if p == 4 {
-        return true;
-    }
-    if p == 8 {
-        return true;
-    }
-    if p == 16 {
-        return true;
-    }
-    p == 32
+    matches!(p, 1 | 2 | 4 | 8 | 16 | 32)
 }
 
-// Whether an entry may take p slots from slot j on.
+// Whether an entry may take p slots from slot j on. (c) Test by test, as child_ok.
 fn run_fits(v: u64, j: u64, p: u64) -> bool
     requires fact_1 { j + p ≤ slots }
     requires fact_2 { 0 < p }
@@ -92,10 +75,7 @@ fn run_fits(v: u64, j: u64, p: u64) -> bool
     if j & (p - 1) != 0 {
         return false;
     }
-    if j + p > w {
-        return false;
-    }
-    true
+    j + p <= w
 }
 
 // Whether the p - 1 bits of m after bit j are 0.
@@ -108,42 +88,42 @@ fn rest_clear(m: u64, j: u64, p: u64) -> bool
     ((m >> j) >> 1) % q == 0
 }
 
-// The slots that the entry in slot j takes, where m is the marks; 0 if its run is not as it must be.
-fn run_ok(pool: &[u64], n: u64, v: u64, j: u64, m: u64) -> u64
+// The slots that the entry in slot j takes, where m is the marks, if its run is as it must be.
+fn run_ok(pool: &[u64], n: u64, v: u64, j: u64, m: u64) -> Option<u64>
     requires fact_1 { HasNode n pool.now }
     requires fact_2 { (j < slots) × (v ≤ top_level) }
     requires fact_3 { AllMarks (pool_of pool.now) n m }
     requires fact_4 { Past (pool_of pool.now) n j }
     requires fact_5 { slot_at (pool_of pool.now) n j ≡ Held }
-    ensures { Stepped (pool_of pool.now) n v j result }
+    ensures { MatchOption result (SlotsOk (pool_of pool.now) n v → ⊥) (Stepped (pool_of pool.now) n v j) }
 {
     let p = same_slots(pool, n, j, sibling_word(j));
     if !run_fits(v, j, p) {
-        return 0;
+        return None;
     }
     if !rest_clear(m, j, p) {
-        return 0;
+        return None;
     }
-    p
+    Some(p)
 }
 
-// The empty slots from slot j on, where m is the marks; 0 if one has a mark.
-fn gap_ok(pool: &[u64], n: u64, v: u64, j: u64, m: u64) -> u64
+// How many slots from slot j on are empty, where m is the marks, if none of them has a mark.
+fn gap_ok(pool: &[u64], n: u64, v: u64, j: u64, m: u64) -> Option<u64>
     requires fact_1 { HasNode n pool.now }
     requires fact_2 { (j < slots) × (v ≤ top_level) }
     requires fact_3 { AllMarks (pool_of pool.now) n m }
     requires fact_4 { Past (pool_of pool.now) n j }
     requires fact_5 { slot_at (pool_of pool.now) n j ≡ Empty }
-    ensures { Stepped (pool_of pool.now) n v j result }
+    ensures { MatchOption result (SlotsOk (pool_of pool.now) n v → ⊥) (Stepped (pool_of pool.now) n v j) }
 {
     if (m >> j) % 2 != 0 {
-        return 0;
+        return None;
     }
     let g = same_slots(pool, n, j, 0);
     if !rest_clear(m, j, g) {
-        return 0;
+        return None;
     }
-    g
+    Some(g)
 }
 
 // Whether slot j may be reserved, where m is the marks: at level 0, without a mark and without siblings.
@@ -153,13 +133,7 @@ fn reserved_ok(pool: &[u64], n: u64, v: u64, j: u64, m: u64) -> bool
     requires fact_3 { AllMarks (pool_of pool.now) n m }
     ensures { Decides result (ReservedOk (pool_of pool.now) n v j) }
 {
-    if v != 0 {
-        return false;
-    }
-    if (m >> j) % 2 != 0 {
-        return false;
-    }
-    same_slots(pool, n, j, sibling_word(j)) == 1
+    v == 0 && (m >> j) % 2 == 0 && same_slots(pool, n, j, sibling_word(j)) == 1
 }
 
 // Whether mark k of slot j of node n is that of node m.
@@ -170,13 +144,11 @@ fn agrees(pool: &[u64], n: u64, j: u64, m: u64, k: u64) -> bool
     ensures { Decides result (Agree (pool_of pool.now) n j m k) }
 {
     let b = mark_bit(pool, n, k, j);
-    if mark_word(pool, m, k) == 0 {
-        return b == 0;
-    }
-    b == 1
+    b == u64::from(mark_word(pool, m, k) != 0)
 }
 
 // Whether slot j may lead to node m.
+// (c) Test by test: of a chain of `&&` the proof has the tests by case alone, and did not close.
 pub fn child_ok(pool: &[u64], n: u64, v: u64, j: u64, m: u64) -> bool
     requires fact_1 { HasNode n pool.now }
     requires fact_2 { j < slots }
@@ -207,21 +179,20 @@ pub fn child_ok(pool: &[u64], n: u64, v: u64, j: u64, m: u64) -> bool
     agrees(pool, n, j, m, 2)
 }
 
-// How many slots from slot j on are as they must be: empty slots, a reserved one, a child, or an entry with its siblings; 0 if not.
+// How many slots from slot j on are as they must be, if they are: empty slots, a reserved one, a child, or an entry with its siblings.
 // m: the marks.
-pub fn step(pool: &[u64], n: u64, v: u64, j: u64, m: u64) -> u64
+pub fn step(pool: &[u64], n: u64, v: u64, j: u64, m: u64) -> Option<u64>
     requires fact_1 { HasNode n pool.now }
     requires fact_2 { (j < slots) × (v ≤ top_level) }
     requires fact_3 { AllMarks (pool_of pool.now) n m }
     requires fact_4 { Past (pool_of pool.now) n j }
-    ensures { Stepped (pool_of pool.now) n v j result }
+    ensures { MatchOption result (SlotsOk (pool_of pool.now) n v → ⊥) (Stepped (pool_of pool.now) n v j) }
 {
-    let s = read_slot(slot_word(pool, n, j));
-    match s {
+    match read_slot(slot_word(pool, n, j)) {
         Slot::Empty => gap_ok(pool, n, v, j, m),
-        Slot::Reserved => one_if(reserved_ok(pool, n, v, j, m)),
+        Slot::Reserved => reserved_ok(pool, n, v, j, m).then_some(1),
         Slot::Held => run_ok(pool, n, v, j, m),
-        Slot::Sibling(_) => 0,
-        Slot::Child(c) => one_if(child_ok(pool, n, v, j, c)),
+        Slot::Sibling(_) => None,
+        Slot::Child(c) => child_ok(pool, n, v, j, c).then_some(1),
     }
 }

@@ -34,7 +34,8 @@ use Rattle.freemap.proofs.MapLaws.{map_as}
 use Rattle.plan.specs.Plan.{free_place, NewStore}
 use Rattle.plan.proofs.AfterStoreLaws.{Lies, lies, on_path_lem, in_run_lem, off, rooms, tops, has_path, stays, new_valid}
 use Rattle.write.specs.Writes.{width, offset, linked, entered}
-use Rattle.store.specs.Stored.{Stores, Done, entry_of}
+use Rattle.std.specs.Prelude.{Ok}
+use Rattle.store.specs.Stored.{Stores, entry_of}
 use Rattle.store.proofs.MapAfterLaws.{map_after}
 use Rattle.store.proofs.FreeingLaws.{Freed, freed_none}
 use Rattle.store.proofs.NewWordLaws.{field₁, field₁_as, field_at₁, X-anchor, X-at, Enough, FilledCounts}
@@ -121,12 +122,12 @@ module _ {ws : List ℕ} (s : WellFormed ws) {i k w : ℕ} (new : NewStore s.lis
       (λ m _. sym (either_no (free_place os₀ m))))
 
   pub stores_unmarked : {ws' : List ℕ} {e : Entry} → e ≡ entry_of i k w 0 → ws' ≡ render l₁ os₁ s.n →
-      Stores s.n l os l₁ i ws ws' (Done e)
+      Stores s.n l os l₁ i ws ws' (Ok e)
   stores_unmarked q e = record {
     done = λ _. record {
       entry = new_entry l i k w;
       covering_is = store_covering i k w l (rooms new) i refl;
-      outcome_is = ap Done (q ∙ ap (entry_of i k w) (sym (marks_zero new none_start)));
+      outcome_is = ap Ok (q ∙ ap (entry_of i k w) (sym (marks_zero new none_start)));
       words_are = e;
     };
     short = λ z. absurd (omega (arith, enough.free));

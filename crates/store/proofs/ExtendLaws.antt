@@ -32,7 +32,8 @@ use Rattle.freenodes.specs.FreeNodes.{FreeMap}
 use Rattle.plan.proofs.AfterStoreLaws.{lows, path_zero, has_path, zero_apart, has_zero}
 use Rattle.plan.proofs.WalkLaws.{head_zero}
 use Rattle.write.specs.Writes.{width, offset, linked, entered, ones, path_counts, grown_counts, extended}
-use Rattle.store.specs.Stored.{Stores, Done, entry_of, Prepared}
+use Rattle.std.specs.Prelude.{Ok}
+use Rattle.store.specs.Stored.{Stores, entry_of, Prepared}
 use Rattle.store.proofs.SlotCountLaws.{filled_at, empty_count, zero_count}
 use Rattle.store.proofs.FinalWordLaws.{Long, Right, Counts, counts_none, OneAt, ones_counts, ones_makes, PathFinal, path_counts_lem}
 use Rattle.store.proofs.FinalWordLaws.{path_makes}
@@ -253,7 +254,7 @@ module _ {ws : List ℕ} (s : WellFormed ws) {ps cs ms : List ℕ} {target : Tar
         chained ne = rw (ne_eqb head 0 ne) (rw (ne_eqb head 0 ne) at (both_r (ltb h top) _ beside))
 
     pub beside_done : {ws' : List ℕ} {e : Entry} → T (enterable k w) → e ≡ entry_of i k w 0 → ws' ≡ extended ws ps cs i k w h top head m →
-        Stores s.n l s.places (store_new l i k w) i ws ws' (Done e)
+        Stores s.n l s.places (store_new l i k w) i ws ws' (Ok e)
     beside_done st q e = stores_unmarked s r.known.new none_start plan.enough q (words st e)
 
     pub beside_map : {ws' : List ℕ} → T (enterable k w) → w < 2 ^ 64 → ws' ≡ extended ws ps cs i k w h top head m → FreeMap ws' ms

@@ -45,7 +45,8 @@ use Rattle.plan.proofs.AfterStoreLaws.{lows, tops, has_path}
 use Rattle.plan.proofs.MapNumbers.{map_places, left_new, drawn_none}
 use Rattle.plan.proofs.FreshNumbers.{Tiers, tiers_same, needed_is, path_number}
 use Rattle.write.specs.Writes.{width, offset, joins, head_at, linked, entered, path_counts, settled, Laid, built}
-use Rattle.store.specs.Stored.{AtGap, Stores, Done, Short, entry_of}
+use Rattle.std.specs.Prelude.{Ok, Err}
+use Rattle.store.specs.Stored.{AtGap, Stores, Short, entry_of}
 use Rattle.store.proofs.FinalWordLaws.{Long, Right, EdgeAt, Counts, PathFinal, path_counts_lem, path_makes, set_stays, joins_same}
 use Rattle.store.proofs.FinalWordLaws.{joins_split, joins_keeps, joins_stay}
 use Rattle.store.proofs.NewWordLaws.{field₁, field₁_shift, field₁_owner, field₁_slot, X, X-anchor, X-node, num_lt, edge_of, Enough}
@@ -432,7 +433,7 @@ module _ {ws : List ℕ} (s : WellFormed ws) {i k w u first : ℕ} (deep : k / s
   needed_as = need_is gap_below high
 
   pub below_short : free_count s.places < u - k / slot_bits →
-      Stores s.n s.list s.places (store_new s.list i k w) i ws ws Short
+      Stores s.n s.list s.places (store_new s.list i k w) i ws ws (Err Short)
   below_short h = record {
     done = λ z. absurd (omega (arith, needed_as));
     short = λ z. (refl, refl);
@@ -464,7 +465,7 @@ module _ {ws : List ℕ} (s : WellFormed ws) {i k w u first : ℕ} (deep : k / s
         (enterable_some k w st) ps ps_is
 
     pub below_done : {ws' : List ℕ} {e : Entry} → T (enterable k w) → e ≡ entry_of i k w 0 → ws' ≡ built ws ps i k w u →
-        Stores s.n s.list s.places (store_new s.list i k w) i ws ws' (Done e)
+        Stores s.n s.list s.places (store_new s.list i k w) i ws ws' (Ok e)
     below_done st q e = stores_unmarked s g.new none_below enough q (words st e)
 
     pub below_map : {ws' : List ℕ} → T (enterable k w) → w < 2 ^ 64 → ws' ≡ built ws ps i k w u → FreeMap ws' ms
@@ -528,7 +529,7 @@ module _ {ws : List ℕ} (s : WellFormed ws) {i k w u a : ℕ}
 
   pub slots_done : {ws' : List ℕ} {e : Entry} → T (enterable k w) → e ≡ entry_of i k w 0 →
       ws' ≡ settled ws a (offset i k) (width k) w →
-      Stores s.n s.list s.places (store_new s.list i k w) i ws ws' (Done e)
+      Stores s.n s.list s.places (store_new s.list i k w) i ws ws' (Ok e)
   slots_done st q e = stores_unmarked s g.new none_in enough₀ q (words₀ st e)
 
   pub slots_map : {ws' ms : List ℕ} → T (enterable k w) → w < 2 ^ 64 → FreeMap ws ms →

@@ -6,7 +6,7 @@ use native.Mathlib.Omega.{arith}
 use lib.ListN.{length, drop, set}
 use borrow.Author.Tests.{lt-ltb, le-ltb}
 use Rattle.calls.specs.Calls.{Called, refuse_call, run}
-use Rattle.answers.specs.declared.Result.{Result}
+use Rattle.answers.specs.declared.Report.{Report}
 use Rattle.answers.specs.Answers.{bad_batch}
 use Rattle.calls.specs.Demand.{Call.init, words_after}
 use Rattle.calls.specs.Refusal.{
@@ -67,10 +67,10 @@ Responds ws bs rs r ws' rs' =
     (r ≡ size (ran ws bs rs))
     × ((r ≤ length rs) × ((rs' ≡ space (ran ws bs rs)) × (ws' ≡ (ran ws bs rs).words)))
 
-pub has_room : (ws bs rs : List ℕ) {x : Result} → x ≡ (run ws bs rs).result → x.answer ≡ 0 →
+pub has_room : (ws bs rs : List ℕ) {x : Report} → x ≡ (run ws bs rs).result → x.answer ≡ 0 →
     24 * x.number ≤ length rs
 has_room ws bs rs q e =
-    subst (λ (y : Result). y.answer ≡ 0 → 24 * y.number ≤ length rs) (sym q) (room (call_row ws bs rs)) e
+    subst (λ (y : Report). y.answer ≡ 0 → 24 * y.number ≤ length rs) (sym q) (room (call_row ws bs rs)) e
 
 ran_is : (ws ws₁ bs rs : List ℕ) → length bs ≤ max_input → ws₁ ≡ words_after ws init → run ws₁ bs rs ≡ ran ws bs rs
 unfolding ran
@@ -89,7 +89,7 @@ long ws bs rs h room {r} e g = (
 )
 
 -- after the run: x is its result, ws₁ the words before it, ws' those after it, and rs₁ the reply space
-module _ (ws ws₁ bs rs : List ℕ) {ws' rs₁ : List ℕ} {x : Result} (few : length bs ≤ max_input)
+module _ (ws ws₁ bs rs : List ℕ) {ws' rs₁ : List ℕ} {x : Report} (few : length bs ≤ max_input)
     (init_is : ws₁ ≡ words_after ws init)
     (result_is : x ≡ (run ws₁ bs rs).result) (words_are : ws' ≡ (run ws₁ bs rs).words)
     (reply_is : rs₁ ≡ (run ws₁ bs rs).reply)
@@ -102,12 +102,12 @@ module _ (ws ws₁ bs rs : List ℕ) {ws' rs₁ : List ℕ} {x : Result} (few : 
 
     pub did : x.answer ≡ 0 → Responds ws bs rs (24 * x.number) ws' rs₁
     did e = (
-      done_size x.answer x.number e ∙ ap (λ (y : Result). size_for y.answer y.number) result_same,
+      done_size x.answer x.number e ∙ ap (λ (y : Report). size_for y.answer y.number) result_same,
       (
         has_room ws₁ bs rs result_is e,
         (
           done_space x.answer x.number rs₁ e
-              ∙ ap (λ (y : Result). space_for y.answer y.number rs₁) result_same
+              ∙ ap (λ (y : Report). space_for y.answer y.number rs₁) result_same
               ∙ ap (space_for (ran ws bs rs).result.answer (ran ws bs rs).result.number)
               (reply_is ∙ ap (λ (c : Called). c.reply) same),
           words_are ∙ ap (λ (c : Called). c.words) same,
@@ -118,12 +118,12 @@ module _ (ws ws₁ bs rs : List ℕ) {ws' rs₁ : List ℕ} {x : Result} (few : 
     pub said : (x.answer ≡ 0 → ⊥) → refusal_size ≤ length rs → {r : ℕ} {rs' : List ℕ} → r ≡ refusal_size →
         rs' ≡ refusal_over x.answer x.number rs₁ → Responds ws bs rs r ws' rs'
     said f h {r} e g = (
-      e ∙ refused_size x.answer x.number f ∙ ap (λ (y : Result). size_for y.answer y.number) result_same,
+      e ∙ refused_size x.answer x.number f ∙ ap (λ (y : Report). size_for y.answer y.number) result_same,
       (
         omega arith,
         (
           g ∙ refused_space x.answer x.number rs₁ f
-              ∙ ap (λ (y : Result). space_for y.answer y.number rs₁) result_same
+              ∙ ap (λ (y : Report). space_for y.answer y.number rs₁) result_same
               ∙ ap (space_for (ran ws bs rs).result.answer (ran ws bs rs).result.number)
               (reply_is ∙ ap (λ (c : Called). c.reply) same),
           words_are ∙ ap (λ (c : Called). c.words) same,

@@ -7,7 +7,7 @@ ghost use Rattle.std.specs.Io.KnownBytes.{Consumes};
 ghost use Rattle.tamburish.specs.Program;
 ghost use Rattle.tamburish.specs.Program.{ran, refusal_size, refusal_over, input_bytes, output_bytes, written};
 
-use answers::{BAD_BATCH, DONE};
+use answers::Answer;
 use std::io::{Read, Write};
 
 // 4 + 70 * 40 words for 40 nodes.
@@ -47,16 +47,13 @@ fn respond(pool: &mut [u64], batch: &[u8], reply: &mut [u8]) -> usize
     ensures pool_after { pool.new ≡ (ran pool.old batch.now reply.old).words }
 {
     if batch.len() > MAX_INPUT {
-        return refusal(reply, BAD_BATCH, MAX_INPUT as u64);
+        return refusal(reply, Answer::BadBatch.number(), MAX_INPUT as u64);
     }
-    calls::init(pool);
-    let result = calls::run(pool, batch, reply);
-    let answer = result.answer;
-    let number = result.number;
-    if answer != DONE {
-        return refusal(reply, answer, number);
+    let _ = calls::init(pool);
+    match calls::run(pool, batch, reply) {
+        Ok(n) => (REPLY_BYTES * n) as usize,
+        Err(r) => refusal(reply, r.answer.number(), r.number),
     }
-    (REPLY_BYTES * number) as usize
 }
 
 // What the program does with the n bytes that it read, on a pool of its own: how many bytes of `output` are to be written. The
@@ -79,30 +76,22 @@ fn read_full<R: Read>(input: &mut R, space: &mut [u8]) -> usize
     let mut done = 0;
     while done < space.len() {
         match input.read(&mut space[done..]) {
-            Ok(n) => {
-                if n == 0 {
-                    return done;
-                }
-                done += n;
-            }
-            Err(_) => return done,
+            Ok(0) | Err(_) => return done,
+            Ok(n) => done += n,
         }
     }
     done
 }
 
-// Writes all of `bytes`, or stops at the first write that takes nothing or fails, which is told in no other way.
+// Writes all of `bytes`, or stops at the first write that takes nothing or fails, which is told in no other way. (std's `write_all`
+// tries again where a write was interrupted, and read_exact where a read was.)
 fn write_all<W: Write>(output: &mut W, bytes: &[u8]) {
-    let mut done = 0;
-    while done < bytes.len() {
-        let n = match output.write(&bytes[done..]) {
-            Ok(n) => n,
-            Err(_) => 0,
-        };
-        if n == 0 {
-            break;
+    let mut rest = bytes;
+    while !rest.is_empty() {
+        match output.write(rest) {
+            Ok(0) | Err(_) => return,
+            Ok(n) => rest = &rest[n..],
         }
-        done += n;
     }
 }
 

@@ -2,6 +2,9 @@
 use Prim.Native.Nat.{ℕ}
 use mathlib.Core.Path.{◌≡◌, refl, sym, subst}
 use mathlib.Core.Bool.{true, false}
+use Rattle.std.specs.Prelude.{Option, Some, None, length}
+use Rattle.words.specs.Counted.{Counted}
+use Rattle.layout.specs.Words.{anchor_words, node_words, max_nodes}
 use mathlib.Core.List.{List}
 use native.Mathlib.Omega.{arith}
 use Rattle.blocks.proofs.BoolLaws.{by_t, is_false, clash}
@@ -12,7 +15,7 @@ use Rattle.layout.specs.WellFormed.{Sized, Prescribed, WellFormed}
 use Rattle.layout.specs.Decide.{node_count, is_sized, is_well_formed}
 use Rattle.decode.proofs.DecideLaws.{count_of, sized_is, is_sized_lem, well_formed_is, is_well_formed_lem}
 use Rattle.decode.proofs.DecodeLaws.{well_formed_sized, prescribed}
-use Rattle.verify.specs.Answers.{check_answer, init_answer, Verdict, well_formed_lem, wrong_size, malformed}
+use Rattle.verify.specs.Answers.{Counts, check_answer, init_answer, Verdict, well_formed_lem, wrong_size, malformed}
 
 pub not_sized : {ws : List ℕ} → ((n : ℕ) → Sized n ws → ⊥) → is_sized ws ≡ false
 not_sized {ws} f = is_false (λ t. f (node_count ws) (is_sized_lem ws t))
@@ -74,3 +77,14 @@ accepted ws e =
       placed = S.placed;
       words_are = S.words_are;
     }
+
+-- the number of nodes by the number of words
+pub counts : (ws : List ℕ) (r : Option ℕ) → Counted (length ws) anchor_words node_words max_nodes r → Counts ws r
+counts ws None f = λ n s. f n s.least s.most s.size
+counts ws (Some n) (lo, hi, e) = record { size = e; least = lo; most = hi }
+
+abbrev pub counted : {ws : List ℕ} {r : Option ℕ} {n : ℕ} → Counts ws r → r ≡ Some n → Sized n ws
+counted {ws} c e = let C : Option ℕ → Type 0 = Counts ws in subst C e c
+
+abbrev pub uncounted : {ws : List ℕ} {r : Option ℕ} → Counts ws r → r ≡ None → (n : ℕ) → Sized n ws → ⊥
+uncounted {ws} c e = let C : Option ℕ → Type 0 = Counts ws in subst C e c

@@ -1,5 +1,5 @@
 -- What the check and init answer, and the words that init leaves.
-use Rattle.std.specs.Prelude.{ℕ, ◌-◌, ◌≡◌, List, ◌∷◌, replicate}
+use Rattle.std.specs.Prelude.{ℕ, ◌-◌, List, ◌∷◌, replicate, Option, Some, None}
 use Rattle.blocks.specs.Choice.{pick}
 use Rattle.model.specs.declared.Entry.{Entry}
 use Rattle.layout.specs.Words.{pool_words}
@@ -23,10 +23,10 @@ empty_pool n = n ∷ replicate (pool_words n - 1) 0
 abbrev pub init_words : List ℕ → List ℕ
 init_words ws = pick (is_sized ws) (empty_pool (node_count ws)) ws
 
--- r is the number of nodes that the length makes room for, and 0 if it is not a pool's
-pub record Counts (ws : List ℕ) (r : ℕ) : Type 0 where
-  pub no_pool : r ≡ 0 → (n : ℕ) → Sized n ws → ⊥
-  pub sized : (r ≡ 0 → ⊥) → Sized r ws
+-- the number of nodes that the length makes room for; none if it is not a pool's
+abbrev pub Counts : List ℕ → Option ℕ → Type 0
+Counts ws None = (n : ℕ) → Sized n ws → ⊥
+Counts ws (Some n) = Sized n ws
 
 -- what each answer of the check means (AnswerLaws has it of `check_answer`)
 pub data Verdict (ws : List ℕ) : ℕ → Type 0 where

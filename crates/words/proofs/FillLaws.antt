@@ -1,14 +1,18 @@
 -- What stands at each place after a run of words is filled.
 use Prim.Native.Nat.{ℕ, zero, suc, ◌+◌, ◌≤◌, ◌<◌}
-use mathlib.Core.Path.{◌≡◌, refl, ◌∙◌}
-use mathlib.Core.List.{List}
+use mathlib.Core.Path.{◌≡◌, refl, sym, ap, ◌∙◌}
+use mathlib.Core.List.{List, [], ◌∷◌}
 use native.Mathlib.Omega.{arith}
 use lib.Dec.{eqb}
-use lib.ListN.{length, get_or, length-set}
+use lib.ListN.{length, get_or, set, replicate, length-set}
 use lib.Seq.{get_or-set_same, get_or-set_other}
 use borrow.Author.Tests.{eqb-true, eqb-false}
 use Rattle.blocks.proofs.BoolLaws.{by_t}
+use Rattle.std.proofs.Common.{add-one}
+use Rattle.std.proofs.lemmas.List.{replicate_more, length-replicate}
+use Rattle.words.specs.Bytes.{write_from, overwrite}
 use Rattle.words.specs.Fill.{filled}
+use Rattle.words.proofs.WriteLaws.{write_append}
 
 module _ (ws : List ℕ) (a x : ℕ) where
   pub length_filled : (n : ℕ) → length (filled ws a x n) ≡ length ws
@@ -36,3 +40,14 @@ module _ (ws : List ℕ) (a x : ℕ) where
       rw z (get_or-set_same (filled ws a x n) (a + n) x 0 (omega (arith, length_filled n))))
       (λ e. let z : j ≡ a + n → ⊥ = eqb-false _ _ e in
       get_or-set_other (filled ws a x n) (a + n) j x 0 z ∙ filled_in_lem n j (omega arith) h (omega arith))
+
+  -- as many copies of x, written from there on
+  pub filled_over : (n : ℕ) → overwrite ws a (replicate n x) ≡ filled ws a x n
+  unfolding filled write_from
+  filled_over zero = refl
+  filled_over (suc n) =
+      let e : a + (0 + length (replicate n x)) ≡ a + n = omega (arith, length-replicate n x) in
+      ap (λ (xs : List ℕ). write_from ws a 0 xs) (sym (replicate_more n x ∙ ap (λ (m : ℕ). replicate m x) (add-one n)))
+      ∙ write_append ws a 0 (replicate n x) (x ∷ [])
+      ∙ ap (λ (m : ℕ). set (write_from ws a 0 (replicate n x)) m x) e
+      ∙ ap (λ (ys : List ℕ). set ys (a + n) x) (filled_over n)

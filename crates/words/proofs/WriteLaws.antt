@@ -5,7 +5,9 @@ use mathlib.Core.List.{List, [], ◌∷◌, ◌++◌, append_assoc}
 use native.Mathlib.Omega.{arith}
 use native.Mathlib.Nat.{add-zero}
 use lib.ListN.{length, set, take, drop, length-set, take-append-drop}
-use lib.Seq.{take-suc-set, drop-set-lt}
+use lib.Seq.{take-suc-set, drop-set-lt, drop-drop}
+use borrow.Rule.Slice.PartMut.{put_mid}
+use Rattle.std.specs.Int.{bytes_high_first}
 use Rattle.words.specs.Bytes.{bytes_then, write_from, overwrite}
 
 -- the place may be moved into the distance
@@ -73,3 +75,29 @@ pub overwrite_all : (s bs : List ℕ) → length bs ≤ length s → overwrite s
 overwrite_all s bs h =
     let z : 0 + length bs ≡ length bs = omega arith in
     write_all_lem s 0 bs (omega arith) ∙ ap (λ (m : ℕ). bs ++ drop m s) z
+
+-- bytes put in the place of a part, and so many written from where it begins
+pub put_over : (s : List ℕ) (at k : ℕ) (bs : List ℕ) → k ≡ length bs → at + k ≤ length s → put_mid at k s bs ≡ overwrite s at bs
+put_over s at k bs e h =
+    let z : at + 0 ≡ at = omega arith in
+    let w : 0 + at ≡ at = omega arith in
+    ap (λ (t : List ℕ). take at s ++ (bs ++ t)) (drop-drop k at s ∙ ap (λ (m : ℕ). drop (at + m) s) e)
+    ∙ sym (write_all_lem s at bs (omega arith))
+    ∙ sym (ap (λ (m : ℕ). write_from s 0 m bs) z)
+    ∙ sym (write_shift s 0 at 0 bs)
+    ∙ ap (λ (m : ℕ). write_from s m 0 bs) w
+
+-- a number's bytes, as the library has them
+high_first : (n x : ℕ) → bytes_high_first n x ≡ bytes_then n x []
+high_first zero x = refl
+high_first (suc zero) x = let e : x ≡ x / 1 = omega arith in ap (λ (y : ℕ). y % 256 ∷ []) e
+high_first (suc (suc n)) x = ap (λ (bs : List ℕ). x / 256 ^ suc n % 256 ∷ bs) (high_first (suc n) x)
+
+length_bytes : (n x : ℕ) → length (bytes_then n x []) ≡ n
+length_bytes zero x = refl
+length_bytes (suc n) x = ap suc (length_bytes n x)
+
+pub put_number : (s : List ℕ) (at k n x : ℕ) → k ≡ n → at + k ≤ length s →
+    put_mid at k s (bytes_high_first n x) ≡ overwrite s at (bytes_then n x [])
+put_number s at k n x e h =
+    ap (put_mid at k s) (high_first n x) ∙ put_over s at k (bytes_then n x []) (e ∙ sym (length_bytes n x)) h

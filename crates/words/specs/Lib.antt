@@ -1,3 +1,4 @@
+pub mod Counted
 pub mod Bits
 pub mod Bytes
 pub mod Fill

@@ -57,12 +57,10 @@ fn join_all(pool: &mut [u64], nums: &[u64], index: u64, from: u64, to: u64)
     requires by_index { (u : ℕ) → from ≤ u → u ≤ to → last_place (get_or nums.now u 0) < length pool.old }
     ensures { pool.new ≡ Writes.joins nums.now index pool.old from (to - from) }
 {
-    let mut u = from;
-    while u < to {
+    for u in from..to {
         let p = nums[(u + 1) as usize];
         let c = nums[u as usize];
         join(pool, p, block_of(u, index) % SLOTS, c, u);
-        u = u + 1;
     }
 }
 
@@ -76,18 +74,14 @@ fn put_marks(pool: &mut [u64], n: u64, m: u64)
     put_mark_word(pool, n, 2, m / 4 % 2);
 }
 
-// The marks of the slots 0 of the tiers from to to.
+// The marks of the slots 0 of the tiers from from to to - 1.
 fn mark_all(pool: &mut [u64], nums: &[u64], m: u64, from: u64, to: u64)
-    requires to_le_top_tier { to ≤ top_tier }
-    requires to_in_bounds { to < length nums.now }
-    requires by_index { (u : ℕ) → from ≤ u → u ≤ to → last_place (get_or nums.now u 0) < length pool.old }
-    ensures { pool.new ≡ Writes.marked nums.now m pool.old from (to + 1 - from) }
+    requires to_in_bounds { to ≤ length nums.now }
+    requires by_index { (u : ℕ) → from ≤ u → u < to → last_place (get_or nums.now u 0) < length pool.old }
+    ensures { pool.new ≡ Writes.marked nums.now m pool.old from (to - from) }
 {
-    let mut u = from;
-    while u <= to {
-        let n = nums[u as usize];
-        put_marks(pool, n, m);
-        u = u + 1;
+    for u in from..to {
+        put_marks(pool, nums[u as usize], m);
     }
 }
 
@@ -111,8 +105,8 @@ fn fold_at(pool: &mut [u64], n: u64, m: u64, o: u64, c: u64)
     requires c_lt_slots { c < slots }
     ensures { pool.new ≡ Writes.fold_at pool.old (mark_place n m) o c }
 {
-    let w = mark_word(pool, n, m);
-    put_mark_word(pool, n, m, fold(w, o, c));
+    let w = fold(mark_word(pool, n, m), o, c);
+    put_mark_word(pool, n, m, w);
 }
 
 // Frees what the word of a slot leads to, of tier u. Each node that is freed enters the map.
@@ -124,17 +118,10 @@ fn free_slot(pool: &mut [u64], map: &mut [u64], top: u64, w: u64, u: u64)
     ensures pool_after { pool.new ≡ Writes.free_slot (Writes.free_tree top u) top pool.old w }
     ensures follows { Follows pool.old pool.new map.old map.new }
 {
-    let s = read_slot(w);
-    match s {
-        Slot::Child(n) => {
-            if n < top {
-                free_tree(pool, map, top, n, u);
-            }
+    if let Slot::Child(n) = read_slot(w) {
+        if n < top {
+            free_tree(pool, map, top, n, u);
         }
-        Slot::Empty => {}
-        Slot::Held => {}
-        Slot::Sibling(_) => {}
-        Slot::Reserved => {}
     }
 }
 
@@ -147,11 +134,9 @@ fn free_slots(pool: &mut [u64], map: &mut [u64], top: u64, n: u64, o: u64, c: u6
     ensures pool_after { pool.new ≡ Writes.free_slots (Writes.free_tree top u) top n o pool.old c }
     ensures follows { Follows pool.old pool.new map.old map.new }
 {
-    let mut j = 0;
-    while j < c {
+    for j in 0..c {
         let w = slot_word(pool, n, o + j);
         free_slot(pool, map, top, w, u);
-        j = j + 1;
     }
 }
 
@@ -207,8 +192,7 @@ fn link(pool: &mut [u64], path: &[u64], index: u64, v: u64, top: u64)
     ensures { pool.new ≡ Writes.linked pool.old path.now index v top }
 {
     join_all(pool, path, index, v + 1, top);
-    let a = path[top as usize];
-    put_head(pool, a, top);
+    put_head(pool, path[top as usize], top);
 }
 
 // An entry that was the head goes to slot 0 of the lowest node of the chain.
@@ -218,8 +202,7 @@ fn put_bottom(pool: &mut [u64], chain: &[u64], h: u64, word: u64)
     ensures { pool.new ≡ Writes.bottomed pool.old chain.now h word }
 {
     if h == 0 {
-        let a = chain[1];
-        put_slot(pool, a, 0, word);
+        put_slot(pool, chain[1], 0, word);
     }
 }
 
@@ -235,7 +218,7 @@ fn put_chain(pool: &mut [u64], chain: &[u64], heads: Heads)
     let top = heads.new;
     put_bottom(pool, chain, h, heads.word);
     join_all(pool, chain, 0, at_least_1(h), top);
-    mark_all(pool, chain, heads.marks, h + 1, top);
+    mark_all(pool, chain, heads.marks, h + 1, top + 1);
 }
 
 // The nodes above the old head, which stays: the chain down to it, or, where there was none, the new head's marks alone.
@@ -249,7 +232,7 @@ fn grow(pool: &mut [u64], path: &[u64], chain: &[u64], heads: Heads)
         heads.marks heads.old heads.new heads.word }
 {
     if heads.word == 0 {
-        mark_all(pool, path, heads.marks, heads.new, heads.new);
+        mark_all(pool, path, heads.marks, heads.new, heads.new + 1);
         return;
     }
     put_chain(pool, chain, heads);
@@ -265,7 +248,7 @@ fn mark_top(pool: &mut [u64], path: &[u64], heads: Heads)
     if heads.old >= heads.new {
         return;
     }
-    mark_all(pool, path, heads.marks, heads.new, heads.new);
+    mark_all(pool, path, heads.marks, heads.new, heads.new + 1);
 }
 
 // An entry in its slots.
@@ -290,24 +273,21 @@ pub fn settle(pool: &mut [u64], seat: Seat, word: u64)
     ensures { pool.new ≡ Writes.settled pool.old
         seat.node seat.slot seat.count word }
 {
-    let a = seat.node;
-    let f = filled_of(pool, a);
-    put_filled(pool, a, f + seat.count);
+    let f = filled_of(pool, seat.node);
+    put_filled(pool, seat.node, f + seat.count);
     put_entry(pool, seat, word);
 }
 
-// The three mark words of the entry's node: the marks of its slots give way to their OR in the first.
+// The three mark words of the entry's node: the marks of its slots give way to their OR in the first. Three calls, since a
+// loop over the marks takes as many lines, and an invariant.
 fn fold_all(pool: &mut [u64], seat: Seat)
     requires node_bound { last_place seat.node < length pool.old }
     requires slot_lt_slots { (seat.slot < slots) × (seat.count < slots) }
     ensures { pool.new ≡ Writes.fold_all pool.old seat.node seat.slot seat.count }
 {
-    let a = seat.node;
-    let o = seat.slot;
-    let c = seat.count;
-    fold_at(pool, a, 0, o, c);
-    fold_at(pool, a, 1, o, c);
-    fold_at(pool, a, 2, o, c);
+    fold_at(pool, seat.node, 0, seat.slot, seat.count);
+    fold_at(pool, seat.node, 1, seat.slot, seat.count);
+    fold_at(pool, seat.node, 2, seat.slot, seat.count);
 }
 
 // How many slots an entry takes.
@@ -331,12 +311,10 @@ pub fn seat_of(target: Target, node: u64) -> Seat
     ensures value { result ≡ Writes.seat_of target.index target.order node }
     ensures count_bound { (result.slot + result.count ≤ slots) × (1 ≤ result.count) × (result.count < slots) }
 {
-    let c = width_of(target.order);
-    let o = offset_of(target);
     Seat {
-        node: node,
-        slot: o,
-        count: c,
+        node,
+        slot: offset_of(target),
+        count: width_of(target.order),
         tier: target.order / SLOT_BITS,
     }
 }
@@ -348,11 +326,8 @@ fn count_ones(pool: &mut [u64], nums: &[u64], from: u64, to: u64)
     requires by_index { (u : ℕ) → from ≤ u → u < to → last_place (get_or nums.now u 0) < length pool.old }
     ensures { pool.new ≡ Writes.ones nums.now pool.old from (to - from) }
 {
-    let mut u = from;
-    while u < to {
-        let n = nums[u as usize];
-        put_filled(pool, n, 1);
-        u = u + 1;
+    for u in from..to {
+        put_filled(pool, nums[u as usize], 1);
     }
 }
 
@@ -401,12 +376,9 @@ fn filled_in(pool: &[u64], n: u64, o: u64, c: u64) -> u64
     requires c_bound { o + c ≤ slots }
     ensures { (result ≡ Writes.filled_in pool.now n o c) × (result ≤ c) }
 {
-    let mut j = 0;
     let mut r = 0;
-    while j < c {
-        let w = slot_word(pool, n, o + j);
-        r = r + ((w != 0) as u64);
-        j = j + 1;
+    for j in 0..c {
+        r += u64::from(slot_word(pool, n, o + j) != 0);
     }
     r
 }
@@ -481,10 +453,8 @@ pub fn lay(nums: &[u64], path: &mut [u64], first: u64, v: u64, u: u64)
     requires { (v < u) × (u < top_tier) × (top_tier < length nums.now) × (top_tier < length path.old) }
     ensures { Laid nums.now path.new first v u }
 {
-    let mut t = u;
-    while t > v {
+    for t in v + 1..=u {
         path[t as usize] = nums[(u - t) as usize];
-        t = t - 1;
     }
     path[(u + 1) as usize] = first;
 }

@@ -12,9 +12,8 @@ use Rattle.blocks.specs.Choice.{pick}
 use Rattle.blocks.proofs.BoolLaws.{by_t}
 use Rattle.answers.specs.Answers.{bad_mark, first_above_last, no_budget}
 use Rattle.model.specs.declared.Entry.{Entry}
-use Rattle.model.specs.declared.Covered.{Covered}
-use Rattle.model.specs.declared.Covered.TheVariants.{By}
-use Rattle.model.specs.Model.{reserved, reserved_word, mark_count, covering, present, covered}
+use Rattle.std.specs.Prelude as rust
+use Rattle.model.specs.Model.{reserved, mark_count, covering, present, covered}
 use Rattle.model.specs.Matches.{first_match}
 use Rattle.batch.specs.declared.Command.{Command}
 use Rattle.batch.specs.declared.Command.TheVariants.{Load, Erase, Find}
@@ -27,9 +26,6 @@ use Rattle.xaplain.specs.Executes.{Turned, Executes}
 use Rattle.xaplain.proofs.StoredLaws.{reply_by, stay}
 
 -- REPLIES
-pub seen_entry : (e : Entry) → e.word ≢ reserved_word → seen (By e) ≡ By e
-seen_entry e n = rw (ne_eqb e.word reserved_word n) refl
-
 seen_is : (o : Option Entry) → seen (covered o) ≡ covered (present o)
 seen_is none = refl
 seen_is (some e) = by_t (reserved e) (λ t. rw t refl) (λ t. rw t refl)
@@ -39,7 +35,7 @@ found_is none = refl
 found_is (some e) = refl
 
 module _ (room : ℕ) (l : List Entry) where
-  pub load_reply_lem : (i : ℕ) {x : Covered} → x ≡ seen (covered (covering l i)) → covered_reply 130 x ≡ (execute room l (Load i)).reply
+  pub load_reply_lem : (i : ℕ) {x : rust.Option Entry} → x ≡ seen (covered (covering l i)) → covered_reply 130 x ≡ (execute room l (Load i)).reply
   unfolding execute
   load_reply_lem i e = ap (covered_reply 130) (e ∙ seen_is (covering l i)) ∙ reply_by 130 (present (covering l i))
 
@@ -68,7 +64,7 @@ module _ (room : ℕ) (l : List Entry) where
     unfolding execute
     find_runs h g e = rw (le-ltb mark_count f h, le-ltb z a g, ne_eqb k 0 e)
 
-    pub find_reply_lem : f ≤ mark_count → a ≤ z → k ≢ 0 → {x : Covered} → x ≡ covered (first_match l a z f) →
+    pub find_reply_lem : f ≤ mark_count → a ≤ z → k ≢ 0 → {x : rust.Option Entry} → x ≡ covered (first_match l a z f) →
         found_reply x ≡ (execute room l (Find a z f k)).reply
     find_reply_lem h g e q =
         ap found_reply q ∙ found_is (first_match l a z f) ∙ sym (ap (λ (x : Executed). x.reply) (find_runs h g e))

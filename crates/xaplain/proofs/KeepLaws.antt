@@ -7,7 +7,7 @@ use mathlib.Core.Option.{Option, none, some}
 use native.Mathlib.Omega.{arith}
 use native.Mathlib.Nat.{le_refl}
 use lib.Dec.{leb, ltb, eqb, T, lit<}
-use lib.ListN.{length, length-map}
+use lib.ListN.{length, length-map, replicate}
 use borrow.Author.Tests.{ltb-false, leb-false, eq-eqb}
 use Rattle.blocks.specs.Choice.{either, both}
 use Rattle.blocks.specs.Blocks.{set_bit}
@@ -24,11 +24,10 @@ use Rattle.batch.specs.declared.Command.TheVariants.{Store, Load, Erase, Mark, U
 use Rattle.batch.specs.Fits.{Fits}
 use Rattle.commands.specs.Commands.{reserving}
 use Rattle.xaplain.specs.Slices.{slices, column, columns, list_of, init_slices, holds_list, sized_as, check_answer}
-use Rattle.xaplain.specs.Moves.{Holds, Columns, Cleared, Counts}
+use Rattle.xaplain.specs.Moves.{Holds, Columns, Counts}
 use Rattle.xaplain.specs.Engine.{xaplain, execute}
 use Rattle.xaplain.specs.Executes.{Turned, Executes}
-use Rattle.xaplain.proofs.ColumnLaws.{list_ext, column_length}
-use Rattle.xaplain.proofs.PlainLaws.{blank, column_nth}
+use Rattle.xaplain.proofs.ColumnLaws.{column_length}
 use Rattle.xaplain.proofs.CheckLaws.{Words, Prescribes, yes, only}
 use Rattle.xaplain.proofs.LoopLaws.{count_is, sized_lengths}
 use Rattle.xaplain.proofs.CommandLaws.{find_list}
@@ -174,20 +173,18 @@ holds_checked {is} {os} {ws} {ms} {n} wi ww e c =
     (λ t. absurd (let z : 1 ≡ 0 = sym (rw t refl) ∙ e in omega arith))
 
 -- INIT
-blank_column : (f : Entry → ℕ) → f blank ≡ 0 → (room : ℕ) (xs ys : List ℕ) → length xs ≡ room → Cleared xs ys 0 room → ys ≡ column f room []
-blank_column f z room xs ys e c =
-    list_ext ys (column f room []) (c.same_length ∙ e ∙ sym (column_length f room []))
-    (λ k g. let b : k < room = omega (arith, c.same_length) in
-    c.zeros k (omega arith) b ∙ sym (column_nth f z room [] k b ∙ z))
+blank_column : (f : Entry → ℕ) (room : ℕ) → replicate room 0 ≡ column f room []
+blank_column f zero = refl
+blank_column f (suc r) = ap (λ (xs : List ℕ). 0 ∷ xs) (blank_column f r)
 
-pub init_slices_lem : {is os ws ms is' os' ws' ms' : List ℕ} → sized_as is os ws ms ≡ true → Cleared is is' 0 (length is) →
-    Cleared os os' 0 (length is) → Cleared ws ws' 0 (length is) → Cleared ms ms' 0 (length is) →
+pub init_slices_lem : (is os ws ms : List ℕ) {is' os' ws' ms' : List ℕ} → sized_as is os ws ms ≡ true → is' ≡ replicate (length is) 0 →
+    os' ≡ replicate (length os) 0 → ws' ≡ replicate (length ws) 0 → ms' ≡ replicate (length ms) 0 →
     slices is' os' ws' ms' ≡ init_slices (slices is os ws ms)
-init_slices_lem {is} {os} {ws} {ms} {is'} {os'} {ws'} {ms'} t i o w m =
+init_slices_lem is os ws ms {is'} {os'} {ws'} {ms'} t i o w m =
     let (lo, lw, lm) = sized_lengths is os ws ms t in
-    let a = blank_column (λ x. x.base) refl (length is) is is' refl i in
-    let b = blank_column (λ x. x.order) refl (length is) os os' lo o in
-    let c = blank_column (λ x. x.word) refl (length is) ws ws' lw w in
-    let d = blank_column (λ x. x.marks) refl (length is) ms ms' lm m in
+    let a : is' ≡ column (λ x. x.base) (length is) [] = i ∙ blank_column (λ x. x.base) (length is) in
+    let b : os' ≡ column (λ x. x.order) (length is) [] = o ∙ ap (λ (r : ℕ). replicate r 0) lo ∙ blank_column (λ x. x.order) (length is) in
+    let c : ws' ≡ column (λ x. x.word) (length is) [] = w ∙ ap (λ (r : ℕ). replicate r 0) lw ∙ blank_column (λ x. x.word) (length is) in
+    let d : ms' ≡ column (λ x. x.marks) (length is) [] = m ∙ ap (λ (r : ℕ). replicate r 0) lm ∙ blank_column (λ x. x.marks) (length is) in
     let e : slices is' os' ws' ms' ≡ columns (length is) [] = λ j. record { index = a j; order = b j; word = c j; marks = d j } in
     e ∙ sym (rw t refl)

@@ -2,21 +2,23 @@
 use Prim.Native.Nat.{ℕ, zero, suc, ◌+◌, ◌-◌, ◌*◌, ◌%◌, ◌^◌, ◌≤◌, ◌<◌}
 use mathlib.Core.Path.{◌≡◌, refl, sym, ap, ◌∙◌}
 use mathlib.Core.Bool.{Bool, true, false}
-use mathlib.Core.Logic.{◌≢◌}
 use mathlib.Core.List.{List, [], ◌∷◌}
 use native.Mathlib.Omega.{arith}
 use native.Mathlib.Nat.{one-mul, mod-eq_of_lt, div-lt_iff_lt-mul, mul-le-mul_right}
 use lib.Dec.{leb, eqb}
-use lib.ListN.{length, get_or}
+use lib.ListN.{length, get_or, take, drop}
+use lib.Seq.{drop-cons}
 use lib.Pow.{pow-lt, pow-add}
 use borrow.Author.Tests.{eq-eqb, ne_eqb, eqb-true}
+use Rattle.std.specs.Prelude.{Some}
+use Rattle.std.specs.List.{list_all}
 use Rattle.blocks.specs.Choice.{both}
 use Rattle.blocks.specs.Blocks.{block}
-use Rattle.blocks.proofs.BoolLaws.{both_l, both_r, both_no}
+use Rattle.blocks.proofs.BoolLaws.{by_t, both_l, both_r, both_no}
 use Rattle.blocks.proofs.BlockLaws.{pow_pos}
 use Rattle.model.specs.declared.Entry.{Entry}
 use Rattle.model.specs.Model.{EntryOk}
-use Rattle.xaplain.specs.Slices.{entry_at, entries_from, list_of, fits_entry, in_order, zeros_from, rest_zero, sized_as}
+use Rattle.xaplain.specs.Slices.{entry_at, entries_from, list_of, fits_entry, in_order, zeros_from, sized_as}
 use Rattle.xaplain.specs.Moves.{Counts, low_of}
 use Rattle.xaplain.proofs.CheckLaws.{entry_ok}
 
@@ -34,22 +36,13 @@ end_fits o x h lt a =
     omega arith
 
 -- zeros from a place on
-pub zero_on : (xs : List ℕ) (k : ℕ) → k < length xs → get_or xs k 0 ≡ 0 → rest_zero xs k ≡ rest_zero xs (k + 1)
+pub all_zeros : (xs : List ℕ) (n k : ℕ) → k + n ≤ length xs → list_all (λ x. eqb x 0) (take n (drop k xs)) ≡ zeros_from xs n k
 unfolding zeros_from
-zero_on xs k h e =
-    let d : length xs - k ≡ suc (length xs - (k + 1)) = omega arith in
-    let s : suc k ≡ k + 1 = omega arith in
-    ap (λ (n : ℕ). zeros_from xs n k) d ∙ rw (eq-eqb (get_or xs k 0) 0 e) (ap (zeros_from xs (length xs - (k + 1))) s)
-
-pub zero_no : (xs : List ℕ) (k : ℕ) → k < length xs → get_or xs k 0 ≢ 0 → rest_zero xs k ≡ false
-unfolding zeros_from
-zero_no xs k h e =
-    let d : length xs - k ≡ suc (length xs - (k + 1)) = omega arith in
-    ap (λ (n : ℕ). zeros_from xs n k) d ∙ rw (ne_eqb (get_or xs k 0) 0 e)
-
-pub zero_end : (xs : List ℕ) (k : ℕ) → length xs ≤ k → rest_zero xs k ≡ true
-unfolding zeros_from
-zero_end xs k h = let d : length xs - k ≡ 0 = omega arith in ap (λ (n : ℕ). zeros_from xs n k) d
+all_zeros xs zero k h = refl
+all_zeros xs (suc n) k h =
+    let d : drop k xs ≡ get_or xs k 0 ∷ drop (suc k) xs = drop-cons xs k 0 (omega arith) in
+    let r : list_all (λ x. eqb x 0) (take n (drop (suc k) xs)) ≡ zeros_from xs n (suc k) = all_zeros xs n (suc k) (omega arith) in
+    by_t (eqb (get_or xs k 0) 0) (λ t. rw (d, t) r) (λ t. rw (d, t) refl)
 
 -- the entries from a place on
 module _ (is os ws ms : List ℕ) where
@@ -114,8 +107,8 @@ module _ (b o w m : ℕ) (lt : b < 2 ^ 64) (lw : w < 2 ^ 64) (t : fits_entry (re
   last_fits = let e = end_fits o b order_small lt ok.aligned in
       rw (shl_one o order_small) (omega (arith, e, pow_pos o))
 
-  pub next_low : (k : ℕ) → low_of (k + 1) (b + (1 * 2 ^ o % 18446744073709551616 - 1)) ≡ b + 2 ^ o
-  next_low k = rw (ne_eqb (k + 1) 0 (λ z. omega arith), shl_one o order_small) (omega (arith, pow_pos o))
+  pub next_low : low_of (Some (b + (1 * 2 ^ o % 18446744073709551616 - 1))) ≡ b + 2 ^ o
+  next_low = rw (shl_one o order_small) (omega (arith, pow_pos o))
 
 -- the count is the list's length
 pub count_is : (is os ws ms : List ℕ) (n : ℕ) → length ws ≡ length is → Counts ws n → n ≡ length (list_of is os ws ms)

@@ -1,27 +1,25 @@
 -- A store into the larger entry over its index.
-use Prim.Native.Nat.{ℕ, zero, suc, ◌+◌, ◌-◌, ◌*◌, ◌/◌, ◌%◌, ◌^◌, ◌≤◌, ◌<◌}
+use Prim.Native.Nat.{ℕ, zero, suc, ◌<◌}
 use mathlib.Core.Path.{◌≡◌, refl, sym, ap, ◌∙◌}
 use mathlib.Core.Bool.{Bool, true, false}
 use mathlib.Core.List.{List, [], ◌∷◌, map}
-use mathlib.Core.Option.{some}
+use mathlib.Core.Option.{Option, none, some}
 use native.Mathlib.Omega.{arith}
-use native.Mathlib.Nat.{div-eq_of_lt}
-use lib.Dec.{leb, ltb, eqb}
+use lib.Dec.{leb, ltb}
 use lib.ListN.{length, get_or, set}
-use borrow.Author.Tests.{ltb-true, ltb-false, lt-ltb, le-leb, leb-true, eqb-true, eq-eqb}
+use borrow.Author.Tests.{ltb-true, ltb-false, le-leb, leb-true}
 use Rattle.blocks.specs.Choice.{pick}
-use Rattle.blocks.specs.Blocks.{bit, set_bit}
+use Rattle.blocks.specs.Blocks.{set_bit}
 use Rattle.blocks.specs.Lists.{any, In}
-use Rattle.blocks.proofs.BoolLaws.{by_t, clash, is_false, both_l, both_r}
+use Rattle.blocks.proofs.BoolLaws.{by_t, is_false, both_l, both_r}
 use Rattle.blocks.proofs.ListLaws.{look, each, any_none, in_any}
-use Rattle.blocks.proofs.BlockLaws.{pow_pos}
 use Rattle.blocks.proofs.PlacingLaws.{none_some}
 use Rattle.model.specs.declared.Entry.{Entry}
 use Rattle.model.specs.Model.{EntryOk, covers, covering, over, with_word, matched_mark}
-use Rattle.model.proofs.ValidLaws.{covers_i, covers_lo, covers_hi, sorted_ok, sole}
+use Rattle.model.proofs.ValidLaws.{covers_lo, covers_hi, sole}
 use Rattle.xaplain.specs.Slices.{column}
-use Rattle.xaplain.specs.Moves.{Holds, Columns, Splits}
-use Rattle.xaplain.specs.Stores.{over_at, entry_with}
+use Rattle.xaplain.specs.Moves.{Holds, Columns}
+use Rattle.xaplain.specs.Stores.{Over, NoneOver, uncovered, smaller, entry_with}
 use Rattle.xaplain.proofs.PlainLaws.{
   nth,
   nth_in,
@@ -30,65 +28,34 @@ use Rattle.xaplain.proofs.PlainLaws.{
   order_at,
   marks_at,
   entry_ok,
-  only_last,
-  last_low,
-  last_order,
-  inside_run,
 }
-
--- mark 2 of three
-pub clear_matched : (m : ℕ) → m < 8 → m % 4 ≡ set_bit matched_mark false m
-clear_matched m h = let e : bit 2 m * 2 ^ 2 ≡ m / 4 * 4 = omega arith in omega (arith, e)
+use Rattle.xaplain.proofs.PlaceLaws.{place_none, place_in, place_some, covering_covers}
 
 -- THE SEARCH
--- an entry over i is the one before the place of i
-module _ {index order word marks : List ℕ} {n : ℕ} (h : Holds index order word marks n) (i k p : ℕ) (s : Splits index n i p) where
-  -- what the test reads
-  pub over_reads : 0 < p → (get_or index (p - 1) 0 ≤ i) × (get_or order (p - 1) 0 < 64)
-  over_reads z = (last_low h i p s (λ e. omega arith), last_order h i p s (λ e. omega arith))
+module _ {index order word marks : List ℕ} {n : ℕ} (h : Holds index order word marks n) (i k : ℕ) where
+  module _ (j : ℕ) (d : Over index order n i k j) where
+    pub over_place : j < n
+    over_place = place_in h i j d.reaches
 
-  module _ (t : over_at index order p i k ≡ true) where
-    pub over_some : 0 < p
-    over_some = ltb-true _ _ (both_l (ltb 0 p) _ t)
-
-    parts : ((i - get_or index (p - 1) 0) / 2 ^ get_or order (p - 1) 0 ≡ 0) × (k ≤ get_or order (p - 1) 0)
-    parts =
-        let u = both_r (ltb 0 p) _ t in
-        let a : Bool = eqb ((i - get_or index (p - 1) 0) / 2 ^ get_or order (p - 1) 0) 0 in
-        (eqb-true _ _ (both_l a _ u), leb-true _ _ (both_r a _ u))
-
-    pub over_place : p - 1 < n
-    over_place = omega (arith, over_some, s.within)
-
-    pub over_covers : covers i (nth h.list (p - 1)) ≡ true
-    over_covers =
-        let near : i < get_or index (p - 1) 0 + 2 ^ get_or order (p - 1) 0 =
-        inside_run (get_or index (p - 1) 0) i (get_or order (p - 1) 0) (over_reads over_some).0 parts.0 in
-        let near' = rw (index_at h (p - 1) over_place, order_at h (p - 1) over_place) at near in
-        covers_i (nth h.list (p - 1)) i (entry_ok h (p - 1) over_place)
-        (omega (arith, (over_reads over_some).0, index_at h (p - 1) over_place)) near'
+    pub over_covers : covers i (nth h.list j) ≡ true
+    over_covers = covering_covers h.list i (place_some h i j d.reaches)
 
     pub over_any : any (over i k) h.list ≡ true
-    over_any = in_any (over i k) (nth_in h.list (p - 1) (omega (arith, over_place, h.count)))
-        (rw over_covers (le-leb k (nth h.list (p - 1)).order (omega (arith, parts.1, order_at h (p - 1) over_place))))
+    over_any = in_any (over i k) (nth_in h.list j (omega (arith, over_place, h.count)))
+        (rw over_covers (le-leb k (nth h.list j).order (omega (arith, d.large, order_at h j over_place))))
 
-  pub over_none : over_at index order p i k ≡ false → any (over i k) h.list ≡ false
-  over_none f = any_none (over i k) (each h.list no)
+  pub over_none : NoneOver index order n i k → any (over i k) h.list ≡ false
+  over_none d = any_none (over i k) (each h.list no)
     where
+      small : NoneOver index order n i k → (x : Entry) → covering h.list i ≡ some x → leb k x.order ≡ true → ⊥
+      small (uncovered u) x e t = let z : ◌≡◌ {A = Option Entry} none (some x) = sym (place_none h i u) ∙ e in cc
+      small (smaller j r g) x e t =
+          let z : some (nth h.list j) ≡ some x = sym (place_some h i j r) ∙ e in
+          let y : nth h.list j ≡ x = cc in
+          omega (arith, leb-true k x.order t, order_at h j (place_in h i j r), ap (λ (y : Entry). y.order) y)
+
       no : (x : Entry) → In x h.list → over i k x ≡ true → ⊥
-      no x m t =
-          let c : covers i x ≡ true = both_l (covers i x) _ t in
-          let o : leb k x.order ≡ true = both_r (covers i x) _ t in
-          let (z, e) = only_last h i p s x m c in
-          let q : p - 1 < n = omega (arith, z, s.within) in
-          let ok : EntryOk x = look (sorted_ok h.valid) m in
-          let bi : get_or index (p - 1) 0 ≡ x.base = index_at h (p - 1) q ∙ ap (λ (y : Entry). y.base) e in
-          let bo : get_or order (p - 1) 0 ≡ x.order = order_at h (p - 1) q ∙ ap (λ (y : Entry). y.order) e in
-          let near : (i - x.base) / 2 ^ x.order ≡ 0 = within_run x.base i x.order (covers_hi x i ok c) in
-          clash (rw (lt-ltb 0 p z, bi, bo, eq-eqb _ _ near) o) f
-        where
-          within_run : (b i o : ℕ) → i < b + 2 ^ o → (i - b) / 2 ^ o ≡ 0
-          within_run b i o g = div-eq_of_lt (omega (arith, pow_pos o))
+      no x m t = small d x (look (sole i h.valid) m (both_l (covers i x) _ t)) (both_r (covers i x) _ t)
 
 -- THE LIST
 -- a field that the new entries share

@@ -1,5 +1,5 @@
 -- The entry over an index, by where the search for it stops.
-use Prim.Native.Nat.{ℕ, ◌+◌, ◌-◌, ◌^◌, ◌≤◌, ◌<◌}
+use Prim.Native.Nat.{ℕ, suc, ◌+◌, ◌-◌, ◌^◌, ◌≤◌, ◌<◌}
 use mathlib.Core.Path.{◌≡◌, refl, sym, ap, subst, ◌∙◌}
 use mathlib.Core.Bool.{true, false}
 use mathlib.Core.Logic.{◌≢◌}
@@ -15,7 +15,7 @@ use Rattle.model.specs.declared.Entry.{Entry}
 use Rattle.model.specs.Model.{EntryOk, Sorted, reserved_word, covers, covering, present}
 use Rattle.model.proofs.ValidLaws.{covers_lo, covers_hi, sorted_ok}
 use Rattle.xaplain.specs.Slices.{entry_at}
-use Rattle.xaplain.specs.Moves.{Holds, Splits, Searchable, Placed}
+use Rattle.xaplain.specs.Moves.{Holds, Searchable, Reaches, Unreached}
 use Rattle.xaplain.proofs.PlainLaws.{
   nth,
   nth_in,
@@ -67,32 +67,21 @@ module _ {index order word marks : List ℕ} {n : ℕ} (h : Holds index order wo
       let d = marks_at h k g in
       λ j. record { base = a j; order = b j; word = c j; marks = d j }
 
-  module _ (i r : ℕ) (d : Placed index order n i r) where
-    pub place_none : r ≡ 0 → covering h.list i ≡ none
-    place_none z =
-        by_t (eqb d.at 0) (λ t. before_first h i d.at d.splits (eqb-true _ _ t))
-        (λ t. let p : d.at ≢ 0 = eqb-false _ _ t in last_none h i d.at d.splits p (d.none z p))
+  pub place_none : (i : ℕ) → Unreached index order n i → covering h.list i ≡ none
+  place_none i d =
+      by_t (eqb d.at 0) (λ t. before_first h i d.at d.splits (eqb-true _ _ t))
+      (λ t. let p : d.at ≢ 0 = eqb-false _ _ t in last_none h i d.at d.splits p (d.short p))
 
-    module _ (p : r ≢ 0) where
-      splits_at : Splits index n i r
-      splits_at = subst (λ (x : ℕ). Splits index n i x) (d.some p).0 d.splits
+  module _ (i k : ℕ) (d : Reaches index order n i k) where
+    pub place_in : k < n
+    place_in = omega (arith, d.splits.within)
 
-      pub place_in : r - 1 < n
-      place_in = omega (arith, p, splits_at.within)
+    pub place_some : covering h.list i ≡ some (nth h.list k)
+    place_some =
+        let e : suc k - 1 ≡ k = omega arith in
+        subst (λ (x : ℕ). covering h.list i ≡ some (nth h.list x)) e
+        (last_some h i (suc k) d.splits (λ z. omega arith) (rw e d.near))
 
-      pub place_reads : (r - 1 < length index) × (r - 1 < length order) × (r - 1 < length word) × (r - 1 < length marks)
-      place_reads = let g : r - 1 < n = place_in in (
-        omega (arith, h.fits),
-        omega (arith, h.fits, h.order_fits),
-        omega (arith, h.fits, h.word_fits),
-        omega (arith, h.fits, h.marks_fit),
-      )
-
-      pub place_some : covering h.list i ≡ some (nth h.list (r - 1))
-      place_some = last_some h i r splits_at p (d.some p).1
-
-      -- a reservation is not seen
-      pub place_reserved : get_or word (r - 1) 0 ≡ reserved_word → present (covering h.list i) ≡ none
-      place_reserved e =
-          ap present place_some
-          ∙ rw (eq-eqb (nth h.list (r - 1)).word reserved_word (sym (word_at h (r - 1) place_in) ∙ e)) refl
+    -- a reservation is not seen
+    pub place_reserved : get_or word k 0 ≡ reserved_word → present (covering h.list i) ≡ none
+    place_reserved e = ap present place_some ∙ rw (eq-eqb (nth h.list k).word reserved_word (sym (word_at h k place_in) ∙ e)) refl

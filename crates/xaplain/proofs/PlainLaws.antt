@@ -144,9 +144,6 @@ module _ {index order word marks : List ℕ} {n : ℕ} (h : Holds index order wo
   pub last_low : get_or index (r - 1) 0 ≤ i
   last_low = s.low (r - 1) (omega (arith, p))
 
-  pub last_order : get_or order (r - 1) 0 < 64
-  last_order = let rn : r ≤ n = s.within in omega (arith, p, order_at h (r - 1) (omega (arith, p)), (entry_ok h (r - 1) (omega (arith, p))).order_le)
-
   pub last_none : ((i - get_or index (r - 1) 0) / 2 ^ get_or order (r - 1) 0 ≡ 0 → ⊥) → covering h.list i ≡ none
   last_none e =
       let rn : r ≤ n = s.within in

@@ -1,14 +1,14 @@
 -- A store in the slices.
 use Prim.Native.Nat.{ℕ, zero, suc, ◌+◌, ◌-◌, ◌*◌, ◌%◌, ◌^◌, ◌≤◌, ◌<◌}
 use mathlib.Core.Path.{◌≡◌, refl, sym, ap, ◌∙◌}
-use mathlib.Core.Bool.{true, false}
 use mathlib.Core.List.{List, [], ◌∷◌}
 use native.Mathlib.Omega.{arith}
-use lib.Dec.{ltb}
+use lib.Dec.{eqb, ltb}
 use lib.ListN.{length, get_or, take, drop, length-append, length-take, length-drop}
+use lib.Seq.{drop-cons}
 use native.Mathlib.Nat.{le_refl}
 use Rattle.xaplain.proofs.LoopLaws.{shl_one}
-use borrow.Author.Tests.{ltb-true, ltb-false, lt-ltb, le-ltb, le-leb, lt-leb, eq-eqb, ne_eqb}
+use borrow.Author.Tests.{ltb-true, ltb-false, lt-ltb, le-ltb, le-leb, lt-leb}
 use Rattle.blocks.specs.Lists.{any, keep}
 use Rattle.blocks.specs.Blocks.{bit}
 use Rattle.blocks.proofs.BoolLaws.{by_t}
@@ -17,26 +17,8 @@ use Rattle.blocks.proofs.ListLaws.{keep_none}
 use Rattle.model.specs.declared.Entry.{Entry}
 use Rattle.model.specs.Model.{Sorted, more, done, starts_in, inside, kept_marks, has_mark, new_entry, store_new}
 use Rattle.xaplain.specs.Moves.{Holds, Splits, Parts, any_from, kept_from, replaced, below}
-use Rattle.xaplain.proofs.PlainLaws.{nth, index_at, marks_at}
+use Rattle.xaplain.proofs.PlainLaws.{blank, nth, index_at, marks_at}
 use Rattle.xaplain.proofs.ColumnLaws.{insert_clear, stops_below, sorted_starts, below_none}
-
--- the loop over marks
-pub any_on : (xs : List ℕ) (m q k : ℕ) → k < q → (bit m (get_or xs k 0) ≡ 1 → ⊥) → any_from xs m (q - k) k ≡ any_from xs m (q - (k + 1)) (k + 1)
-unfolding any_from
-any_on xs m q k h e =
-    let d : q - k ≡ suc (q - (k + 1)) = omega arith in
-    let s : suc k ≡ k + 1 = omega arith in
-    ap (λ (n : ℕ). any_from xs m n k) d ∙ rw (ne_eqb (bit m (get_or xs k 0)) 1 e) (ap (any_from xs m (q - (k + 1))) s)
-
-pub any_hit : (xs : List ℕ) (m q k : ℕ) → k < q → bit m (get_or xs k 0) ≡ 1 → any_from xs m (q - k) k ≡ true
-unfolding any_from
-any_hit xs m q k h e =
-    let d : q - k ≡ suc (q - (k + 1)) = omega arith in
-    ap (λ (n : ℕ). any_from xs m n k) d ∙ rw (eq-eqb (bit m (get_or xs k 0)) 1 e)
-
-pub any_end : (xs : List ℕ) (m q k : ℕ) → q ≤ k → any_from xs m (q - k) k ≡ false
-unfolding any_from
-any_end xs m q k h = let d : q - k ≡ 0 = omega arith in ap (λ (n : ℕ). any_from xs m n k) d
 
 -- THE ENTRIES INSIDE
 abbrev pub segment : ℕ → ℕ → List Entry → List Entry
@@ -64,19 +46,16 @@ below_zero : (l : List Entry) → below 0 l ≡ 0
 below_zero [] = refl
 below_zero (e ∷ l) = rw (le-ltb e.base 0 (omega arith))
 
-drop_nth : (l : List Entry) (p : ℕ) → p < length l → drop p l ≡ nth l p ∷ drop (suc p) l
-drop_nth [] p h = absurd (omega arith)
-drop_nth (e ∷ l) zero h = refl
-drop_nth (e ∷ l) (suc p) h = drop_nth l p (omega arith)
-
 module _ {index order word marks : List ℕ} {n : ℕ} (h : Holds index order word marks n) where
   -- marks of a part of the list, in the slice
   pub any_segment : (m j p : ℕ) → p + j ≤ n → any_from marks m j p ≡ any (has_mark m) (take j (drop p h.list))
-  unfolding any_from
   any_segment m zero p g = refl
   any_segment m (suc j) p g =
-      let d : drop p h.list ≡ nth h.list p ∷ drop (suc p) h.list = drop_nth h.list p (omega (arith, h.count)) in
-      rw (d, marks_at h p (omega arith), any_segment m j (suc p) (omega arith))
+      let d : drop p h.list ≡ nth h.list p ∷ drop (suc p) h.list = drop-cons h.list p blank (omega (arith, h.count)) in
+      let e : drop p marks ≡ get_or marks p 0 ∷ drop (suc p) marks = drop-cons marks p 0 (omega (arith, h.marks_fit, h.fits)) in
+      let t = any_segment m j (suc p) (omega arith) in
+      by_t (eqb (bit m (nth h.list p).marks) 1) (λ u. rw (d, e, marks_at h p (omega arith), u) refl)
+      (λ u. rw (d, e, marks_at h p (omega arith), u) t)
 
   -- where the searches stop
   pub parts_below : (i r : ℕ) → Parts index n i r → r ≡ below i h.list

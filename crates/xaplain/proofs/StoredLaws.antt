@@ -11,13 +11,13 @@ use borrow.Author.Tests.{lt-ltb, le-ltb, le-leb, leb-false, eqb-true}
 use Rattle.blocks.specs.Choice.{pick}
 use Rattle.blocks.specs.Blocks.{block, set_bit}
 use Rattle.blocks.specs.Lists.{any}
-use Rattle.blocks.proofs.BoolLaws.{by_t, clash}
+use Rattle.blocks.proofs.BoolLaws.{clash}
 use Rattle.blocks.proofs.ListLaws.{All-map, All-without, any_no}
 use Rattle.blocks.proofs.BlockLaws.{block_up, block_lo, block_hi}
 use Rattle.answers.specs.Answers.{bad_order, not_aligned, bad_entry, is_covered}
 use Rattle.model.specs.declared.Entry.{Entry}
-use Rattle.model.specs.declared.Covered.{Covered}
-use Rattle.model.specs.declared.Covered.TheVariants.{Nothing, By}
+use Rattle.std.specs.Prelude as rust
+use Rattle.std.specs.Prelude.{None, Some}
 use Rattle.model.specs.Model.{covers, covering, covered, starts_in, over, new_entry, store_new, store, with_word}
 use Rattle.model.specs.Model.{storable, reserved_word, aligned, max_order, matched_mark}
 use Rattle.model.proofs.ValidLaws.{covers_self}
@@ -30,7 +30,7 @@ use Rattle.commands.specs.Replies.{covered_reply}
 use Rattle.xaplain.specs.Moves.{Holds, Columns, Splits, Parts, kept_from, replaced}
 use Rattle.xaplain.specs.Engine.{xaplain, execute}
 use Rattle.xaplain.specs.Executes.{Turned, Executes}
-use Rattle.xaplain.specs.Stores.{Stored, Short, Done, over_at, entry_with, stored_as, Stores, refused_by, turned_by}
+use Rattle.xaplain.specs.Stores.{Stored, Over, entry_with, Leaves, Stores, refused_by, turned_by}
 use Rattle.xaplain.proofs.StoreLaws.{new_length, new_marks, new_list}
 use Rattle.xaplain.proofs.OverLaws.{over_place, over_covers, over_any, over_covering, over_entry_lem, over_columns}
 
@@ -60,55 +60,58 @@ module _ {is os ws ms : List ℕ} {n : ℕ} (h : Holds is os ws ms n) where
 
   -- THE TWO OUTCOMES
   module _ (i : ℕ) (new : List Entry) where
-    short : length is < length new → Stores h i new Short is os ws ms
+    short : length is < length new → Stores h i new None is os ws ms
     short g = let t : ltb (length is) (length new) ≡ true = lt-ltb _ _ g in record {
-      outcome = sym (ap (λ (b : Bool). pick b Short (Done (covered (covering new i)) (length new))) t);
+      outcome = g;
       columns = subst (λ (l : List Entry). Columns is os ws ms (length is) l) (sym (ap (λ (b : Bool). pick b h.list new) t)) stay;
     }
 
-    done : {is' os' ws' ms' : List ℕ} {c : Covered} {m : ℕ} → length new ≤ length is → c ≡ covered (covering new i) → m ≡ length new →
-        Columns is' os' ws' ms' (length is) new → Stores h i new (Done c m) is' os' ws' ms'
-    done {is'} {os'} {ws'} {ms'} g d e q = let t : ltb (length is) (length new) ≡ false = le-ltb _ _ g in record {
-      outcome = rw (d, e) (sym (ap (λ (b : Bool). pick b Short (Done (covered (covering new i)) (length new))) t));
+    done : {is' os' ws' ms' : List ℕ} {s : Stored} → Leaves (length is) i new s → Columns is' os' ws' ms' (length is) new →
+        Stores h i new (Some s) is' os' ws' ms'
+    done {is'} {os'} {ws'} {ms'} d q = let t : ltb (length is) (length new) ≡ false = le-ltb _ _ d.fits in record {
+      outcome = d;
       columns = subst (λ (l : List Entry). Columns is' os' ws' ms' (length is) l) (sym (ap (λ (b : Bool). pick b h.list new) t)) q;
     }
 
   -- in place of what starts in the range
   module _ (i k w p q : ℕ) (k≤ : k ≤ 63) (a : Parts is n i p) (b : Splits is n (i + (1 * 2 ^ k % 18446744073709551616 - 1)) q) where
-    pub new_short : length is < p + 1 + (n - q) → Stores h i (store_new h.list i k w) Short is os ws ms
+    pub new_short : length is < p + 1 + (n - q) → Stores h i (store_new h.list i k w) None is os ws ms
     new_short g = short i (store_new h.list i k w) (omega (arith, g, new_length h i k w p q 0 k≤ a b))
 
     pub new_done : {is' os' ws' ms' : List ℕ} (m : ℕ) → aligned k i ≡ true → any (over i k) h.list ≡ false →
         p + 1 + (n - q) ≤ length is → m ≡ kept_from ms (q - p) p →
         Columns is' os' ws' ms' (length is) (replaced p q (record { base = i; order = k; word = w; marks = m }) h.list) →
-        Stores h i (store_new h.list i k w) (Done (By (record { base = i; order = k; word = w; marks = m })) (p + 1 + (n - q))) is' os' ws' ms'
+        Stores h i (store_new h.list i k w) (Some (record { entry = record { base = i; order = k; word = w; marks = m }; count = p + 1 + (n - q) }))
+        is' os' ws' ms'
     new_done {is'} {os'} {ws'} {ms'} m al free g e c =
         let z = new_length h i k w p q 0 k≤ a b in
         let f = new_marks h i k w p q m k≤ a b e in
-        done i (store_new h.list i k w) (omega (arith, g, z))
-        (ap (λ (x : ℕ). By (record { base = i; order = k; word = w; marks = x })) f ∙ sym (ap covered (new_covering i k w h.list al free)))
-        (sym z) (subst (λ (y : List Entry). Columns is' os' ws' ms' (length is) y) (new_list h i k w p q m k≤ a b e) c)
+        done i (store_new h.list i k w) (record {
+          fits = omega (arith, g, z);
+          covers = new_covering i k w h.list al free ∙ ap (λ (x : ℕ). some (record { base = i; order = k; word = w; marks = x })) (sym f);
+          count = sym z;
+        }) (subst (λ (y : List Entry). Columns is' os' ws' ms' (length is) y) (new_list h i k w p q m k≤ a b e) c)
 
   -- which is the store where no entry over the index has its order
-  pub stores_new_lem : {is' os' ws' ms' : List ℕ} {r : Stored} (i k w : ℕ) → any (over i k) h.list ≡ false →
+  pub stores_new_lem : {is' os' ws' ms' : List ℕ} {r : rust.Option Stored} (i k w : ℕ) → any (over i k) h.list ≡ false →
       Stores h i (store_new h.list i k w) r is' os' ws' ms' → Stores h i (store h.list i k w) r is' os' ws' ms'
   stores_new_lem {is'} {os'} {ws'} {ms'} {r} i k w f s =
       subst (λ (l : List Entry). Stores h i l r is' os' ws' ms') (sym (ap (λ (b : Bool). pick b (map (with_word i w) h.list) (store_new h.list i k w)) f)) s
 
   -- into the larger entry
-  pub stores_over : {e : Entry} {ws' ms' : List ℕ} (i k w p : ℕ) → Splits is n i p → over_at is os p i k ≡ true →
-      e ≡ entry_with is os ms (p - 1) w → ws' ≡ set ws (p - 1) w → ms' ≡ set ms (p - 1) (set_bit matched_mark false (get_or ms (p - 1) 0)) →
-      Stores h i (store h.list i k w) (Done (By e) n) is os ws' ms'
-  stores_over {e} {ws'} {ms'} i k w p s t d a b =
-      let j = over_place h i k p s t in
-      let c = over_covers h i k p s t in
+  pub stores_over : {e : Entry} {is' os' ws' ms' : List ℕ} (i k w j : ℕ) → Over is os n i k j →
+      e ≡ entry_with is os ms j w → (is' ≡ is) × (os' ≡ os) → ws' ≡ set ws j w → ms' ≡ set ms j (set_bit matched_mark false (get_or ms j 0)) →
+      Stores h i (store h.list i k w) (Some (record { entry = e; count = n })) is' os' ws' ms'
+  stores_over {e} {is'} {os'} {ws'} {ms'} i k w j o d (x, y) a b =
+      let g = over_place h i k j o in
+      let c = over_covers h i k j o in
       let z : length (map (with_word i w) h.list) ≡ n = length-map h.list (with_word i w) ∙ h.count in
-      let q : By e ≡ covered (covering (map (with_word i w) h.list) i) =
-      ap By (d ∙ over_entry_lem h i w (p - 1) j c) ∙ sym (ap covered (over_covering h i w (p - 1) j c)) in
-      let g : Columns is os ws' ms' (length is) (map (with_word i w) h.list) = rw (a, b) (over_columns h i w (p - 1) j c) in
-      subst (λ (l : List Entry). Stores h i l (Done (By e) n) is os ws' ms')
-      (sym (ap (λ (b : Bool). pick b (map (with_word i w) h.list) (store_new h.list i k w)) (over_any h i k p s t)))
-      (done i (map (with_word i w) h.list) (omega (arith, z, h.fits)) q (sym z) g)
+      let q : covering (map (with_word i w) h.list) i ≡ some e =
+      over_covering h i w j g c ∙ ap some (sym (d ∙ over_entry_lem h i w j g c)) in
+      let cs : Columns is' os' ws' ms' (length is) (map (with_word i w) h.list) = rw (x, y, a, b) (over_columns h i w j g c) in
+      subst (λ (l : List Entry). Stores h i l (Some (record { entry = e; count = n })) is' os' ws' ms')
+      (sym (ap (λ (b : Bool). pick b (map (with_word i w) h.list) (store_new h.list i k w)) (over_any h i k j o)))
+      (done i (map (with_word i w) h.list) (record { fits = omega (arith, z, h.fits); covers = q; count = sym z }) cs)
 
   -- COMMANDS
   -- a reply alone
@@ -120,28 +123,29 @@ module _ {is os ws ms : List ℕ} {n : ℕ} (h : Holds is os ws ms n) where
     columns = subst (λ (l : List Entry). Columns is os ws ms (length is) l) (sym (ap (λ (x : Executed). x.list) e)) stay;
   }
 
+  held : {i : ℕ} {new l : List Entry} {r : rust.Option Stored} {is' os' ws' ms' : List ℕ} → Stores h i new r is' os' ws' ms' →
+      pick (ltb (length is) (length new)) h.list new ≡ l → Columns is' os' ws' ms' (length is) l
+  held {is'} {os'} {ws'} {ms'} d e = subst (λ (l : List Entry). Columns is' os' ws' ms' (length is) l) e d.columns
+
   -- a list
-  pub turns : {is' os' ws' ms' : List ℕ} {s : Stored} {r : Turned} (c : Command) (t i : ℕ) (new : List Entry) →
+  pub turns : {is' os' ws' ms' : List ℕ} {s : rust.Option Stored} {r : Turned} (c : Command) (t i : ℕ) (new : List Entry) →
       execute (length is) h.list c ≡ storing (xaplain (length is)) t h.list i new → Stores h i new s is' os' ws' ms' → r ≡ turned_by t n s →
       Executes h c r is' os' ws' ms'
-  turns {is'} {os'} {ws'} {ms'} {s} {r} c t i new e d f =
-      let u : r ≡ turned_by t n (stored_as (length is) i new) = f ∙ ap (turned_by t n) d.outcome in
-      by_t (ltb (length is) (length new))
-      (λ y. let u' : r ≡ refused_by t 11 n = rw y at u in
+  turns {is'} {os'} {ws'} {ms'} {s = None} {r} c t i new e d f =
+      let y : ltb (length is) (length new) ≡ true = lt-ltb _ _ d.outcome in
       let e' : execute (length is) h.list c ≡ refuse h.list t 11 = rw y at e in record {
-        reply_is = ap (λ (x : Turned). x.reply) u' ∙ sym (ap (λ (x : Executed). x.reply) e');
-        count_is = ap (λ (x : Turned). x.count) u' ∙ sym h.count ∙ sym (ap (λ (x : Executed). length x.list) e');
-        columns = held (ap (λ (b : Bool). pick b h.list new) y ∙ sym (ap (λ (x : Executed). x.list) e'));
-      })
-      (λ y. let u' : r ≡ record { reply = covered_reply t (covered (covering new i)); count = length new } = rw y at u in
+        reply_is = ap (λ (x : Turned). x.reply) f ∙ sym (ap (λ (x : Executed). x.reply) e');
+        count_is = ap (λ (x : Turned). x.count) f ∙ sym h.count ∙ sym (ap (λ (x : Executed). length x.list) e');
+        columns = held d (ap (λ (b : Bool). pick b h.list new) y ∙ sym (ap (λ (x : Executed). x.list) e'));
+      }
+  turns {is'} {os'} {ws'} {ms'} {s = Some s} {r} c t i new e d f =
+      let o : Leaves (length is) i new s = d.outcome in
+      let y : ltb (length is) (length new) ≡ false = le-ltb _ _ o.fits in
       let e' : execute (length is) h.list c ≡ record { reply = reply_of t 0 (covering new i); list = new } = rw y at e in record {
-        reply_is = ap (λ (x : Turned). x.reply) u' ∙ reply_by t (covering new i) ∙ sym (ap (λ (x : Executed). x.reply) e');
-        count_is = ap (λ (x : Turned). x.count) u' ∙ sym (ap (λ (x : Executed). length x.list) e');
-        columns = held (ap (λ (b : Bool). pick b h.list new) y ∙ sym (ap (λ (x : Executed). x.list) e'));
-      })
-    where
-      held : {l : List Entry} → pick (ltb (length is) (length new)) h.list new ≡ l → Columns is' os' ws' ms' (length is) l
-      held e = subst (λ (l : List Entry). Columns is' os' ws' ms' (length is) l) e d.columns
+        reply_is = ap (λ (x : Turned). x.reply) f ∙ sym (ap (reply_of t 0) o.covers) ∙ sym (ap (λ (x : Executed). x.reply) e');
+        count_is = ap (λ (x : Turned). x.count) f ∙ o.count ∙ sym (ap (λ (x : Executed). length x.list) e');
+        columns = held d (ap (λ (b : Bool). pick b h.list new) y ∙ sym (ap (λ (x : Executed). x.list) e'));
+      }
 
   -- a store, by its tests
   module _ (i k w : ℕ) where
@@ -165,21 +169,21 @@ module _ {is os ws ms : List ℕ} {n : ℕ} (h : Holds is os ws ms n) where
 
   -- a reservation, by what covers its index
   module _ (i : ℕ) where
-    pub reserve_some : (e : Entry) → By e ≡ covered (covering h.list i) →
+    pub reserve_some : (e : Entry) → Some e ≡ covered (covering h.list i) →
         execute (length is) h.list (Reserve i) ≡ refuse h.list 135 is_covered
     unfolding execute
     reserve_some e q = go (covering h.list i) q
       where
-        go : (o : Option Entry) → By e ≡ covered o → reserving (xaplain (length is)) 135 h.list i o ≡ refuse h.list 135 is_covered
+        go : (o : Option Entry) → Some e ≡ covered o → reserving (xaplain (length is)) 135 h.list i o ≡ refuse h.list 135 is_covered
         go none q = cc
         go (some x) q = refl
 
-    pub reserve_none : Nothing ≡ covered (covering h.list i) →
+    pub reserve_none : None ≡ covered (covering h.list i) →
         execute (length is) h.list (Reserve i) ≡ storing (xaplain (length is)) 135 h.list i (store h.list i 0 reserved_word)
     unfolding execute
     reserve_none q = go (covering h.list i) q
       where
-        go : (o : Option Entry) → Nothing ≡ covered o → reserving (xaplain (length is)) 135 h.list i o
+        go : (o : Option Entry) → None ≡ covered o → reserving (xaplain (length is)) 135 h.list i o
             ≡ storing (xaplain (length is)) 135 h.list i (store h.list i 0 reserved_word)
         go none q = refl
         go (some x) q = cc

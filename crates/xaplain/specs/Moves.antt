@@ -1,12 +1,10 @@
 -- What the functions of this crate promise each other of slices, searches and moves.
-use Rattle.std.specs.Prelude.{ℕ, zero, suc, ◌+◌, ◌-◌, ◌/◌, ◌^◌, ◌≤◌, ◌<◌, ◌≡◌, ◌≢◌, Bool, true, false, not, List, [], ◌∷◌, ◌++◌, ltb, eqb, length, get_or, take, drop}
-use Rattle.blocks.specs.Choice.{pick, both, either}
+use Rattle.std.specs.Prelude.{ℕ, suc, ◌+◌, ◌-◌, ◌/◌, ◌^◌, ◌≤◌, ◌<◌, ◌≡◌, ◌≢◌, Bool, true, false, List, [], ◌∷◌, ◌++◌, ltb, eqb, length, get_or, take, drop, Option, None, Some, MatchOption}
+use Rattle.std.specs.List.{list_any}
+use Rattle.blocks.specs.Choice.{pick}
 use Rattle.blocks.specs.Blocks.{bit}
 use Rattle.model.specs.declared.Entry.{Entry}
-use Rattle.model.specs.declared.Covered.{Covered}
-use Rattle.model.specs.declared.Covered.TheVariants.{Nothing, By}
-use Rattle.model.specs.Model.{Valid, storable, reserved, reserved_word}
-use Rattle.model.specs.Matches.{any_mark}
+use Rattle.model.specs.Model.{Valid, reserved}
 use Rattle.batch.specs.declared.Command.{Command}
 use Rattle.batch.specs.declared.Command.TheVariants.{Mark, Unmark}
 use Rattle.batch.specs.declared.Reply.{Reply}
@@ -46,12 +44,20 @@ pub record Searchable (index order : List ℕ) (n : ℕ) : Type 0 where
   pub rises : Rising index n
   pub orders : (k : ℕ) → k < n → get_or order k 0 < 64
 
--- r is one more than the number of the entry over i, or 0 where none is: the last that starts at i or before, if it reaches i
-pub record Placed (index order : List ℕ) (n i r : ℕ) : Type 0 where
+-- entry k is over i: the last that starts at i or before, and it reaches i
+pub record Reaches (index order : List ℕ) (n i k : ℕ) : Type 0 where
+  pub splits : Splits index n i (suc k)
+  pub near : (i - get_or index k 0) / 2 ^ get_or order k 0 ≡ 0
+
+-- none is: none starts at i or before, or the last that does ends before i
+pub record Unreached (index order : List ℕ) (n i : ℕ) : Type 0 where
   pub at : ℕ
   pub splits : Splits index n i at
-  pub none : r ≡ 0 → at ≢ 0 → ((i - get_or index (at - 1) 0) / 2 ^ get_or order (at - 1) 0 ≡ 0 → ⊥)
-  pub some : r ≢ 0 → (at ≡ r) × ((i - get_or index (r - 1) 0) / 2 ^ get_or order (r - 1) 0 ≡ 0)
+  pub short : at ≢ 0 → ((i - get_or index (at - 1) 0) / 2 ^ get_or order (at - 1) 0 ≡ 0 → ⊥)
+
+-- the number of the entry over i, if there is one
+abbrev pub Placed : (index order : List ℕ) → (n i : ℕ) → Option ℕ → Type 0
+Placed is os n i r = MatchOption r (Unreached is os n i) (Reaches is os n i)
 
 -- MOVES in one slice: ys is what xs has become
 pub record Opened (xs ys : List ℕ) (p n : ℕ) : Type 0 where
@@ -116,13 +122,10 @@ pub record Counts (ws : List ℕ) (r : ℕ) : Type 0 where
   pub some : (k : ℕ) → k < r → get_or ws k 0 ≢ 0
   pub none : r < length ws → get_or ws r 0 ≡ 0
 
--- is_word_ok, by fields
-abbrev pub entry_fits : (order word marks : ℕ) → Bool
-entry_fits o w m = either (storable w) (both (eqb w reserved_word) (both (eqb o 0) (eqb m 0)))
-
--- the index after the last, but for the first entry
-abbrev pub low_of : (k last : ℕ) → ℕ
-low_of k last = pick (eqb k 0) 0 (suc last)
+-- where the next entry may start, by the last index of the one before
+abbrev pub low_of : Option ℕ → ℕ
+low_of None = 0
+low_of (Some last) = suc last
 
 -- STORE: the first r numbers are below i, the others not
 pub record Parts (xs : List ℕ) (n i r : ℕ) : Type 0 where
@@ -131,9 +134,8 @@ pub record Parts (xs : List ℕ) (n i r : ℕ) : Type 0 where
   pub high : (k : ℕ) → r ≤ k → k < n → i ≤ get_or xs k 0
 
 -- some of the n marks words from k on has mark m
-unfoldable pub any_from : List ℕ → (m n k : ℕ) → Bool
-any_from xs m zero k = false
-any_from xs m (suc n) k = either (eqb (bit m (get_or xs k 0)) 1) (any_from xs m n (suc k))
+abbrev pub any_from : List ℕ → (m n k : ℕ) → Bool
+any_from xs m n k = list_any (λ x. eqb (bit m x) 1) (take n (drop k xs))
 
 abbrev pub kept_from : List ℕ → (n k : ℕ) → ℕ
 kept_from xs n k = pick (any_from xs 0 n k) (2 ^ 0) 0 + pick (any_from xs 1 n k) (2 ^ 1) 0
@@ -144,20 +146,16 @@ pub record Begins (xs : List ℕ) (n a r : ℕ) : Type 0 where
   pub within : r ≤ n
   pub before : (k : ℕ) → k < r → (k + 1 < n) × (get_or xs (k + 1) 0 ≤ a)
 
--- `matches` of a filter, by fields
-abbrev pub accepts_by : (filter word marks : ℕ) → Bool
-accepts_by f w m = both (not (eqb w reserved_word)) (either (eqb f any_mark) (eqb (bit f m) 1))
-
 -- COMMANDS
 -- what load, mark and unmark see of what covers an index (R203)
-abbrev pub seen : Covered → Covered
-seen Nothing = Nothing
-seen (By e) = pick (reserved e) Nothing (By e)
+abbrev pub seen : Option Entry → Option Entry
+seen None = None
+seen (Some e) = pick (reserved e) None (Some e)
 
 -- a find's reply by what it found
-abbrev pub found_reply : Covered → Reply
-found_reply Nothing = answered 134 ended 0 0
-found_reply (By e) = answered_by 134 e 0
+abbrev pub found_reply : Option Entry → Reply
+found_reply None = answered 134 ended 0 0
+found_reply (Some e) = answered_by 134 e 0
 
 -- the command that sets a mark, or clears it
 abbrev pub remarking : (i m : ℕ) → Bool → Command

@@ -3,32 +3,30 @@
 // index, order, word, marks: the borrowed slices, of one length; n: how many entries they hold; i: an index.
 #![tactic(auto)]
 
-ghost use Rattle.std.specs.Prelude.{leb, ltb, ◌≡◌, ℕ, ◌+◌, ◌-◌, ◌^◌, ◌≤◌, ◌<◌, length, get_or, set, true, false};
-ghost use Rattle.blocks.specs.Choice.{pick, both};
+ghost use Rattle.std.specs.Prelude.{leb, ltb, ◌≡◌, ◌+◌, ◌-◌, ◌^◌, ◌≤◌, ◌<◌, length, get_or, set, true, false};
+ghost use Rattle.answers.specs.Answers.{answer_of, number_of};
 ghost use Rattle.blocks.specs.Blocks.{set_bit};
-ghost use Rattle.model.specs.Model.{covering, covered, store_new, mark_count, over, store, aligned, max_order, matched_mark};
-ghost use Rattle.model.specs.Matches.{first_match};
-ghost use Rattle.xaplain.specs.Slices.{slices, entry_at, check_answer, init_answer, init_slices, fits_entry};
-ghost use Rattle.xaplain.specs.Slices.{rest_zero, in_order, list_of, all_zero, holds_list, sized_as};
+ghost use Rattle.model.specs.Model.{covering, covered, store_new, over, store, aligned, max_order, matched_mark, is_word_ok};
+ghost use Rattle.model.specs.Matches.{matches, first_match};
+ghost use Rattle.xaplain.specs.Slices.{check_answer, init_answer, init_slices, fits_entry};
+ghost use Rattle.xaplain.specs.Slices.{rest_zero, in_order, list_in, all_zero, holds_list, is_sized};
+ghost use Rattle.xaplain.specs.Lent.{lent, Held, Even, Within, entry_in, Shown};
+ghost use Rattle.xaplain.specs.Lent.{WithinMut, lent_mut, HeldMut, Listed, Kept, room_in, StoresIn, ExecutesIn};
 ghost use Rattle.xaplain.specs.Moves.{Rising, Splits, Searchable, Placed, Closed, removed, seen, found_reply, remarking};
-ghost use Rattle.xaplain.specs.Moves.{Holds, Opened, Pulled, Cleared, Spliced, Columns, replaced, Counts};
-ghost use Rattle.xaplain.specs.Moves.{entry_fits, low_of, Parts, any_from, kept_from, Begins, accepts_by};
+ghost use Rattle.xaplain.specs.Moves.{Opened, Pulled, Cleared, Spliced, replaced, Counts};
+ghost use Rattle.xaplain.specs.Moves.{low_of, Parts, any_from, kept_from, Begins};
 ghost use Rattle.xaplain.specs.Engine.{execute};
-ghost use Rattle.xaplain.specs.Executes.{Executes};
 ghost use Rattle.blocks.specs.Lists.{any};
-ghost use Rattle.xaplain.specs.Stores.{over_at, entry_with, Stores, turned_by, refused_by};
+ghost use Rattle.xaplain.specs.Stores.{Larger, entry_with, turned_by, refused_by};
 
-use answers::{
-    ABSENT, BAD_ENTRY, BAD_MARK, BAD_ORDER, COVERED, DONE, ENDED, FIRST_ABOVE_LAST, NO_BUDGET,
-    NOT_ALIGNED, NOT_WELL_FORMED, POOL_LENGTH, TOO_FEW_NODES,
-};
+use answers::Answer;
 use batch::{Command, Reply};
 use commands::{
-    ERASE_REPLY, FIND_REPLY, LOAD_REPLY, MARK_REPLY, RESERVE_REPLY, STORE_REPLY, UNMARK_REPLY,
-    answered, answered_by, covered_reply, is_aligned, is_storable,
+    ERASE_REPLY, FIND_REPLY, LOAD_REPLY, RESERVE_REPLY, STORE_REPLY, answered, answered_by,
+    covered_reply, is_aligned, is_storable, remarked_tag,
 };
-use model::{Covered, Entry, RESERVED};
-use words::pow2;
+use model::{Entry, RESERVED, is_reserved};
+use words::with_bit;
 
 // The most entries that the slices may have room for.
 pub const MAX_ROOM: usize = 4096;
@@ -36,8 +34,32 @@ pub const MAX_ROOM: usize = 4096;
 // The highest order of an entry.
 const MAX_ORDER: u64 = 63;
 
+// How many marks an entry has.
+const MARKS: u64 = 3;
+
+// The filter that any entry passes (R64).
+const ANY_MARK: u64 = 3;
+
 // Mark 2, which no store hands on (R190), is worth this; marks 0 and 1 are below it.
 const MATCHED_BIT: u64 = 4;
+
+// The four slices, lent to read. The number of entries is not in it: `check` has none yet, and each command hands on another.
+#[derive(Clone, Copy)]
+pub struct Entries<'a> {
+    pub index: &'a [u64],
+    pub order: &'a [u64],
+    pub word: &'a [u64],
+    pub marks: &'a [u64],
+}
+
+// The four slices, lent to write.
+#[derive(Drop)]
+pub struct EntriesMut<'a> {
+    pub index: &'a mut [u64],
+    pub order: &'a mut [u64],
+    pub word: &'a mut [u64],
+    pub marks: &'a mut [u64],
+}
 
 // What a command comes to: its reply, and the number of entries after it.
 #[derive(Clone, Copy)]
@@ -46,89 +68,30 @@ pub struct Turned {
     pub count: usize,
 }
 
-// What a store comes to: too little room; or what covers its index then, and the number of entries.
+// What a store comes to: the entry that covers its index then, and the number of entries.
 #[derive(Clone, Copy)]
-enum Stored {
-    Short,
-    Done(Covered, usize),
+struct Stored {
+    entry: Entry,
+    count: usize,
 }
 
-// How many of the first n entries start at i or before: by halves.
+// How many of the first n entries start at i or before.
 pub fn position(index: &[u64], n: usize, i: u64) -> usize
     requires n_in_bounds { n ≤ length index.now }
     requires rising { Rising index.now n }
     ensures { Splits index.now n i result }
 {
-    let mut low: usize = 0;
-    let mut high = n;
-    while low < high {
-        let mid = low + (high - low) / 2;
-        if index[mid] <= i {
-            low = mid + 1;
-        } else {
-            high = mid;
-        }
-    }
-    low
+    index[..n].partition_point(|x| *x <= i)
 }
 
-// One more than the number of the entry over i, or 0 where none is.
-fn place(index: &[u64], order: &[u64], n: usize, i: u64) -> usize
-    requires { Searchable index.now order.now n }
-    ensures { Placed index.now order.now n i result }
-{
-    let p = position(index, n, i);
-    if p == 0 {
-        return 0;
-    }
-    if (i - index[p - 1]) >> order[p - 1] != 0 {
-        return 0;
-    }
-    p
-}
-
-fn entry_at(index: &[u64], order: &[u64], word: &[u64], marks: &[u64], k: usize) -> Entry
-    requires { (k < length index.now) × (k < length order.now) × (k < length word.now) × (k < length marks.now) }
-    ensures { result ≡ entry_at index.now order.now word.now marks.now k }
-{
-    Entry {
-        base: index[k],
-        order: order[k],
-        word: word[k],
-        marks: marks[k],
-    }
-}
-
-// What covers an index.
-pub fn covering(
-    index: &[u64],
-    order: &[u64],
-    word: &[u64],
-    marks: &[u64],
-    n: usize,
-    i: u64,
-) -> Covered
-    requires { Holds index.now order.now word.now marks.now n }
-    ensures { (h : Holds index.now order.now word.now marks.now n) →
-        result ≡ covered (covering h.list i) }
-{
-    let p = place(index, order, n, i);
-    if p == 0 {
-        return Covered::Nothing;
-    }
-    Covered::By(entry_at(index, order, word, marks, p - 1))
-}
-
-// Moves the places from p to n - 1 one up.
+// Moves the places from p to n - 1 one up. Place by place: slices have no copy_within here, and the library calls no memmove.
 fn open(xs: &mut [u64], p: usize, n: usize)
     requires p_le_n { p ≤ n }
     requires n_in_bounds { n < length xs.old }
     ensures { Opened xs.old xs.new p n }
 {
-    let mut k = n;
-    while p < k {
-        xs[k] = xs[k - 1];
-        k = k - 1;
+    for k in (p..n).rev() {
+        xs[k + 1] = xs[k];
     }
 }
 
@@ -138,10 +101,8 @@ fn pull(xs: &mut [u64], a: usize, q: usize, n: usize)
     requires n_in_bounds { n ≤ length xs.old }
     ensures { Pulled xs.old xs.new a q n }
 {
-    let mut k: usize = 0;
-    while k < n - q {
+    for k in 0..n - q {
         xs[a + k] = xs[q + k];
-        k += 1;
     }
 }
 
@@ -151,11 +112,7 @@ fn clear(xs: &mut [u64], a: usize, n: usize)
     requires n_in_bounds { n ≤ length xs.old }
     ensures { Cleared xs.old xs.new a n }
 {
-    let mut k = a;
-    while k < n {
-        xs[k] = 0;
-        k += 1;
-    }
+    xs[a..n].fill(0);
 }
 
 // Puts v for the places from p to q - 1 of n, and zeros after the last.
@@ -175,84 +132,35 @@ fn splice(xs: &mut [u64], p: usize, q: usize, n: usize, v: u64)
     xs[p] = v;
 }
 
-// One entry for those from p to q - 1, in all four slices.
-fn put(
-    index: &mut [u64],
-    order: &mut [u64],
-    word: &mut [u64],
-    marks: &mut [u64],
-    p: usize,
-    q: usize,
-    n: usize,
-    e: Entry,
-)
-    requires holds { Holds index.old order.old word.old marks.old n }
-    requires p_le_q { (p ≤ q) × (q ≤ n) }
-    requires q_in_bounds { p + 1 + (n - q) ≤ length index.old }
-    ensures { (h : Holds index.old order.old word.old marks.old n) →
-        Columns index.new order.new word.new marks.new (length index.old)
-        (replaced p q e h.list) }
-{
-    splice(index, p, q, n, e.base);
-    splice(order, p, q, n, e.order);
-    splice(word, p, q, n, e.word);
-    splice(marks, p, q, n, e.marks);
-}
-
 // How many words stand before the first 0.
 pub fn count(word: &[u64]) -> usize
     ensures { Counts word.now result }
 {
-    let mut k: usize = 0;
-    while k < word.len() {
-        if word[k] == 0 {
-            return k;
-        }
-        k += 1;
-    }
-    k
+    word.iter().position(|w| *w == 0).unwrap_or(word.len())
 }
 
-// Whether a word may stand in an entry: a storable one, or a reservation's, of order 0 and without marks.
-fn word_fits(order: u64, word: u64, marks: u64) -> bool
-    ensures { result ≡ entry_fits order word marks }
+// Whether its word may stand in an entry: a storable one, or a reservation's, of order 0 and without marks.
+fn word_fits(e: Entry) -> bool
+    ensures { result ≡ is_word_ok e }
 {
-    if word == RESERVED {
-        if order != 0 {
-            return false;
-        }
-        return marks == 0;
-    }
-    if word == 0 {
-        return false;
-    }
-    word % 4 != 2
+    is_storable(e.word) || (is_reserved(e) && e.order == 0 && e.marks == 0)
 }
 
 // Whether an entry is one that a list may hold.
-fn fits(base: u64, order: u64, word: u64, marks: u64) -> bool
-    ensures { result ≡ fits_entry (record { base = base; order = order; word = word; marks = marks }) }
+fn fits(e: Entry) -> bool
+    ensures { result ≡ fits_entry e }
 {
-    if 63 < order {
-        return false;
-    }
-    if base % (1u64 << order) != 0 {
-        return false;
-    }
-    if !word_fits(order, word, marks) {
-        return false;
-    }
-    marks < 8
+    e.order <= MAX_ORDER && is_aligned(e.base, e.order) && word_fits(e) && e.marks < 8
 }
 
-// Whether an entry starts after the last index of the one before it.
-fn follows(k: usize, last: u64, base: u64) -> bool
-    ensures { result ≡ leb (low_of k last) base }
+// Whether an entry starts after the last index of the one before it, if there is one.
+fn follows(last: Option<u64>, base: u64) -> bool
+    ensures { result ≡ leb (low_of last) base }
 {
-    if k == 0 {
-        return true;
+    match last {
+        None => true,
+        Some(last) => last < base,
     }
-    last < base
 }
 
 // Whether zeros stand from a place on.
@@ -260,113 +168,163 @@ fn rest_zero(xs: &[u64], a: usize) -> bool
     requires { a ≤ length xs.now }
     ensures { result ≡ rest_zero xs.now a }
 {
-    let mut k = a;
-    while k < xs.len() {
-        if xs[k] != 0 {
-            return false;
+    xs[a..].iter().all(|x| *x == 0)
+}
+
+impl<'a> Entries<'a> {
+    // The number of the entry over i: the last that starts at i or before, if it reaches i.
+    fn place(self, n: usize, i: u64) -> Option<usize>
+        requires { Searchable self.index.now self.order.now n }
+        ensures { Placed self.entry.index.now self.entry.order.now n i result }
+    {
+        let k = position(self.index, n, i).checked_sub(1)?;
+        if (i - self.index[k]) >> self.order[k] == 0 {
+            Some(k)
+        } else {
+            None
         }
-        k += 1;
     }
-    true
-}
 
-// Whether the first n entries are a list.
-fn in_order(index: &[u64], order: &[u64], word: &[u64], marks: &[u64], n: usize) -> bool
-    requires order_len { (length order.now ≡ length index.now) × (length word.now ≡ length index.now) × (length marks.now ≡ length index.now) }
-    requires counts { Counts word.now n }
-    ensures { result ≡ in_order 0 (list_of index.now order.now word.now marks.now) }
-{
-    let mut k: usize = 0;
-    let mut last: u64 = 0;
-    while k < n {
-        let base = index[k];
-        let o = order[k];
-        if !follows(k, last, base) {
-            return false;
+    // The number of the entry over i, if its order is k or more.
+    fn larger(self, n: usize, i: u64, k: u64) -> Option<usize>
+        requires { Searchable self.index.now self.order.now n }
+        ensures { Larger self.entry.index.now self.entry.order.now n i k result }
+    {
+        let j = self.place(n, i)?;
+        if k <= self.order[j] { Some(j) } else { None }
+    }
+
+    fn entry_at(self, k: usize) -> Entry
+        requires { Within self k }
+        ensures { result ≡ entry_in self.entry k }
+    {
+        Entry {
+            base: self.index[k],
+            order: self.order[k],
+            word: self.word[k],
+            marks: self.marks[k],
         }
-        if !fits(base, o, word[k], marks[k]) {
-            return false;
+    }
+
+    // What covers an index.
+    pub fn covering(self, n: usize, i: u64) -> Option<Entry>
+        requires { Held self n }
+        ensures { (h : Held self.entry n) → result ≡ covered (covering h.list i) }
+    {
+        let k = self.place(n, i)?;
+        Some(self.entry_at(k))
+    }
+
+    /// The first entry in index order that a filter accepts and whose run meets a to z.
+    pub fn find(self, n: usize, a: u64, z: u64, f: u64) -> Option<Entry>
+        requires holds { Held self n }
+        requires f_bound { f < 64 }
+        ensures { (h : Held self.entry n) → result ≡ covered (first_match h.list a z f) }
+    {
+        for k in begin(self.index, n, a)..n {
+            let e = self.entry_at(k);
+            if z < e.base {
+                return None;
+            }
+            if accepts(f, e) && reaches(a, e) {
+                return Some(e);
+            }
         }
-        last = base + ((1u64 << o) - 1);
-        k += 1;
+        None
     }
-    true
-}
 
-// Whether zeros stand in all four slices from a place on.
-fn all_zero(index: &[u64], order: &[u64], word: &[u64], marks: &[u64], n: usize) -> bool
-    requires order_len { (length order.now ≡ length index.now) × (length word.now ≡ length index.now) × (length marks.now ≡ length index.now) }
-    requires n_in_bounds { n ≤ length index.now }
-    ensures { result ≡ all_zero index.now order.now word.now marks.now n }
-{
-    if !rest_zero(index, n) {
-        return false;
+    // Whether the first n entries are a list.
+    fn in_order(self, n: usize) -> bool
+        requires order_len { Even self }
+        requires counts { Counts self.word.now n }
+        ensures { result ≡ in_order 0 (list_in (lent self.entry)) }
+    {
+        let mut last = None;
+        for k in 0..n {
+            let e = self.entry_at(k);
+            if !follows(last, e.base) {
+                return false;
+            }
+            if !fits(e) {
+                return false;
+            }
+            last = Some(e.base + ((1u64 << e.order) - 1));
+        }
+        true
     }
-    if !rest_zero(order, n) {
-        return false;
-    }
-    if !rest_zero(word, n) {
-        return false;
-    }
-    rest_zero(marks, n)
-}
 
-// Whether four slices of one length hold a list and then zeros.
-fn holds(index: &[u64], order: &[u64], word: &[u64], marks: &[u64]) -> bool
-    requires { (length order.now ≡ length index.now) × (length word.now ≡ length index.now) × (length marks.now ≡ length index.now) }
-    ensures { result ≡ holds_list index.now order.now word.now marks.now }
-{
-    let n = count(word);
-    if !in_order(index, order, word, marks, n) {
-        return false;
+    // Whether zeros stand in all four slices from a place on.
+    fn all_zero(self, n: usize) -> bool
+        requires order_len { Even self }
+        requires n_in_bounds { n ≤ length self.index.now }
+        ensures { result ≡ all_zero self.entry.index.now self.entry.order.now self.entry.word.now self.entry.marks.now n }
+    {
+        rest_zero(self.index, n)
+            && rest_zero(self.order, n)
+            && rest_zero(self.word, n)
+            && rest_zero(self.marks, n)
     }
-    all_zero(index, order, word, marks, n)
-}
 
-// Whether the slices are of one length, at most 4,096.
-fn sized(index: &[u64], order: &[u64], word: &[u64], marks: &[u64]) -> bool
-    ensures { result ≡ sized_as index.now order.now word.now marks.now }
-{
-    if index.len() > MAX_ROOM {
-        return false;
+    // Whether four slices of one length hold a list and then zeros.
+    fn holds(self) -> bool
+        requires { Even self }
+        ensures { result ≡ holds_list self.entry.index.now self.entry.order.now self.entry.word.now self.entry.marks.now }
+    {
+        let n = count(self.word);
+        self.in_order(n) && self.all_zero(n)
     }
-    if order.len() != index.len() {
-        return false;
-    }
-    if word.len() != index.len() {
-        return false;
-    }
-    marks.len() == index.len()
-}
 
-// Whether the slices hold a list: answers 0, 1 or 2.
-pub fn check(index: &[u64], order: &[u64], word: &[u64], marks: &[u64]) -> u64
-    ensures { result ≡ check_answer (slices index.now order.now word.now marks.now) }
-{
-    if !sized(index, order, word, marks) {
-        return POOL_LENGTH;
+    // Whether the slices are of one length, at most 4,096.
+    fn is_sized(self) -> bool
+        ensures { result ≡ is_sized (lent self.entry) }
+    {
+        let room = self.index.len();
+        room <= MAX_ROOM
+            && self.order.len() == room
+            && self.word.len() == room
+            && self.marks.len() == room
     }
-    if !holds(index, order, word, marks) {
-        return NOT_WELL_FORMED;
-    }
-    DONE
-}
 
-// Four slices of one length become those of the empty list: answers 0, or 1 with nothing written.
-pub fn init(index: &mut [u64], order: &mut [u64], word: &mut [u64], marks: &mut [u64]) -> u64
-    ensures value { result ≡ init_answer (slices index.old order.old word.old marks.old) }
-    ensures marks_after { slices index.new order.new word.new marks.new
-        ≡ init_slices (slices index.old order.old word.old marks.old) }
-{
-    if !sized(index, order, word, marks) {
-        return POOL_LENGTH;
+    // Whether the slices hold a list: answers 0, 1 or 2.
+    pub fn check(self) -> Result<(), Answer>
+        ensures { answer_of result ≡ check_answer (lent self.entry) }
+    {
+        if !self.is_sized() {
+            return Err(Answer::PoolLength);
+        }
+        if self.holds() {
+            Ok(())
+        } else {
+            Err(Answer::NotWellFormed)
+        }
     }
-    let room = index.len();
-    clear(index, 0, room);
-    clear(order, 0, room);
-    clear(word, 0, room);
-    clear(marks, 0, room);
-    DONE
+
+    fn run_load(self, n: usize, i: u64) -> Reply
+        requires { Held self n }
+        ensures { (h : Held self.entry n) →
+            result ≡ (execute (length self.entry.index.now) h.list (Command.Load i)).reply }
+    {
+        let c = seen(self.covering(n, i));
+        covered_reply(LOAD_REPLY, c)
+    }
+
+    // A find never pauses; all its budget does is not to be 0 (R305).
+    fn run_find(self, n: usize, s: Sought) -> Reply
+        requires { Held self n }
+        ensures { (h : Held self.entry n) →
+            result ≡ (execute (length self.entry.index.now) h.list (Command.Find s.first s.last s.filter s.budget)).reply }
+    {
+        if s.filter > ANY_MARK {
+            return answered(FIND_REPLY, Answer::BadMark, 0, 0);
+        }
+        if s.first > s.last {
+            return answered(FIND_REPLY, Answer::FirstAboveLast, 0, 0);
+        }
+        if s.budget == 0 {
+            return answered(FIND_REPLY, Answer::NoBudget, 0, 0);
+        }
+        found_reply(self.find(n, s.first, s.last, s.filter))
+    }
 }
 
 // How many of the first n entries start below i.
@@ -375,10 +333,7 @@ fn starts_below(index: &[u64], n: usize, i: u64) -> usize
     requires rising { Rising index.now n }
     ensures { Parts index.now n i result }
 {
-    if i == 0 {
-        return 0;
-    }
-    position(index, n, i - 1)
+    index[..n].partition_point(|x| *x < i)
 }
 
 // Whether an entry from p to q - 1 has mark m.
@@ -387,14 +342,7 @@ fn any_mark(marks: &[u64], p: usize, q: usize, m: u64) -> bool
     requires m_bound { m < 64 }
     ensures { result ≡ any_from marks.now m (q - p) p }
 {
-    let mut k = p;
-    while k < q {
-        if (marks[k] >> m) % 2 == 1 {
-            return true;
-        }
-        k += 1;
-    }
-    false
+    marks[p..q].iter().any(|x| (*x >> m) % 2 == 1)
 }
 
 // Marks 0 and 1 of the entries from p to q - 1.
@@ -402,124 +350,12 @@ fn kept(marks: &[u64], p: usize, q: usize) -> u64
     requires { (p ≤ q) × (q ≤ length marks.now) }
     ensures { result ≡ kept_from marks.now (q - p) p }
 {
-    let a = any_mark(marks, p, q, 0);
-    let b = any_mark(marks, p, q, 1);
-    if a {
-        if b {
-            return 3;
-        }
-        return 1;
-    }
-    if b {
-        return 2;
-    }
-    0
-}
-
-// A store that replaces what starts in its range, where no entry over i has its order or more.
-fn store_new(
-    index: &mut [u64],
-    order: &mut [u64],
-    word: &mut [u64],
-    marks: &mut [u64],
-    n: usize,
-    i: u64,
-    k: u64,
-    w: u64,
-) -> Stored
-    requires holds { Holds index.old order.old word.old marks.old n }
-    requires k_le_max_order { (k ≤ max_order) × (aligned k i ≡ true) }
-    requires list_value { (h : Holds index.old order.old word.old marks.old n) → any (over i k) h.list ≡ false }
-    ensures { (h : Holds index.old order.old word.old marks.old n) →
-        Stores h i (store_new h.list i k w) result index.new order.new word.new marks.new }
-{
-    let p = starts_below(index, n, i);
-    let last = i + ((1u64 << k) - 1);
-    let q = position(index, n, last);
-    let count = p + 1 + (n - q);
-    if index.len() < count {
-        return Stored::Short;
-    }
-    let m = kept(marks, p, q);
-    let e = Entry {
-        base: i,
-        order: k,
-        word: w,
-        marks: m,
-    };
-    put(index, order, word, marks, p, q, n, e);
-    Stored::Done(Covered::By(e), count)
-}
-
-// Whether the entry before place p is over i and has order k or more.
-fn is_over(index: &[u64], order: &[u64], p: usize, i: u64, k: u64) -> bool
-    requires p_in_bounds { (p ≤ length index.now) × (p ≤ length order.now) }
-    requires p_bound { 0 < p → (get_or index.now (p - 1) 0 ≤ i) × (get_or order.now (p - 1) 0 < 64) }
-    ensures { result ≡ over_at index.now order.now p i k }
-{
-    if p == 0 {
-        return false;
-    }
-    let o = order[p - 1];
-    if (i - index[p - 1]) >> o != 0 {
-        return false;
-    }
-    k <= o
-}
-
-// The entry at place j takes a word, and loses mark 2 (R190).
-fn store_over(
-    index: &[u64],
-    order: &[u64],
-    word: &mut [u64],
-    marks: &mut [u64],
-    j: usize,
-    w: u64,
-) -> Entry
-    requires j_in_bounds { (j < length index.now) × (j < length order.now) × (j < length word.old) × (j < length marks.old) }
-    requires j_bound { get_or marks.old j 0 < 8 }
-    ensures value { result ≡ entry_with index.now order.now marks.old j w }
-    ensures word_after { word.new ≡ set word.old j w }
-    ensures marks_after { marks.new ≡ set marks.old j (set_bit matched_mark false (get_or marks.old j 0)) }
-{
-    let m = marks[j] % MATCHED_BIT;
-    word[j] = w;
-    marks[j] = m;
-    Entry {
-        base: index[j],
-        order: order[j],
-        word: w,
-        marks: m,
-    }
-}
-
-// A store: into the larger entry over i if there is one, else in place of what starts in its range.
-fn store(
-    index: &mut [u64],
-    order: &mut [u64],
-    word: &mut [u64],
-    marks: &mut [u64],
-    n: usize,
-    i: u64,
-    k: u64,
-    w: u64,
-) -> Stored
-    requires holds { Holds index.old order.old word.old marks.old n }
-    requires k_le_max_order { (k ≤ max_order) × (aligned k i ≡ true) }
-    ensures { (h : Holds index.old order.old word.old marks.old n) →
-        Stores h i (store h.list i k w) result index.new order.new word.new marks.new }
-{
-    let p = position(index, n, i);
-    if is_over(index, order, p, i, k) {
-        let e = store_over(index, order, word, marks, p - 1, w);
-        return Stored::Done(Covered::By(e), n);
-    }
-    store_new(index, order, word, marks, n, i, k, w)
+    u64::from(any_mark(marks, p, q, 0)) + 2 * u64::from(any_mark(marks, p, q, 1))
 }
 
 // A command that is refused: the entries stay.
-fn refused(tag: u64, answer: u64, n: usize) -> Turned
-    ensures { result ≡ refused_by tag answer n }
+fn refused(tag: u64, answer: Answer, n: usize) -> Turned
+    ensures { result ≡ refused_by tag (number_of answer) n }
 {
     Turned {
         reply: answered(tag, answer, 0, 0),
@@ -528,102 +364,39 @@ fn refused(tag: u64, answer: u64, n: usize) -> Turned
 }
 
 // What a command that stores comes to; n: the number of entries before it.
-fn stored_turn(tag: u64, n: usize, s: Stored) -> Turned
+fn stored_turn(tag: u64, n: usize, s: Option<Stored>) -> Turned
     ensures { result ≡ turned_by tag n s }
 {
     match s {
-        Stored::Short => refused(tag, TOO_FEW_NODES, n),
-        Stored::Done(c, m) => Turned {
-            reply: covered_reply(tag, c),
-            count: m,
+        None => refused(tag, Answer::TooFewNodes, n),
+        Some(s) => Turned {
+            reply: answered_by(tag, s.entry, 0),
+            count: s.count,
         },
     }
 }
 
-// The tests in the order of their numbers, but for 14, between 5 and 6 (R81, R181).
-pub fn run_store(
-    index: &mut [u64],
-    order: &mut [u64],
-    word: &mut [u64],
-    marks: &mut [u64],
-    n: usize,
-    i: u64,
-    k: u64,
-    w: u64,
-) -> Turned
-    requires { Holds index.old order.old word.old marks.old n }
-    ensures { (h : Holds index.old order.old word.old marks.old n) →
-        Executes h (Command.Store i k w) result index.new order.new word.new marks.new }
-{
-    if k > MAX_ORDER {
-        return refused(STORE_REPLY, BAD_ORDER, n);
-    }
-    if !is_aligned(i, k) {
-        return refused(STORE_REPLY, NOT_ALIGNED, n);
-    }
-    if !is_storable(w) {
-        return refused(STORE_REPLY, BAD_ENTRY, n);
-    }
-    let s = store(index, order, word, marks, n, i, k, w);
-    stored_turn(STORE_REPLY, n, s)
-}
-
-// A reservation is a store of order 0 where nothing covers the index (R204 to R206).
-pub fn run_reserve(
-    index: &mut [u64],
-    order: &mut [u64],
-    word: &mut [u64],
-    marks: &mut [u64],
-    n: usize,
-    i: u64,
-) -> Turned
-    requires { Holds index.old order.old word.old marks.old n }
-    ensures { (h : Holds index.old order.old word.old marks.old n) →
-        Executes h (Command.Reserve i) result index.new order.new word.new marks.new }
-{
-    match covering(index, order, word, marks, n, i) {
-        Covered::Nothing => {
-            let s = store(index, order, word, marks, n, i, 0, RESERVED);
-            stored_turn(RESERVE_REPLY, n, s)
-        }
-        Covered::By(_) => refused(RESERVE_REPLY, COVERED, n),
-    }
-}
-
 // Whether an entry's run reaches past a - 1.
-fn reaches(a: u64, base: u64, order: u64) -> bool
-    requires { order < 64 }
-    ensures { result ≡ ltb a (base + 2 ^ order) }
+fn reaches(a: u64, e: Entry) -> bool
+    requires { e.order < 64 }
+    ensures { result ≡ ltb a (e.base + 2 ^ e.order) }
 {
-    if a < base {
-        return true;
-    }
-    (a - base) >> order == 0
+    a < e.base || (a - e.base) >> e.order == 0
 }
 
-// Whether a filter accepts an entry: no reservation, and any mark (3) or the one named.
-fn accepts(f: u64, word: u64, marks: u64) -> bool
+// Whether a filter accepts an entry: no reservation, and any mark or the one named. Test by test: joined by `||`, they cost a find's
+// loop 26 instructions an entry in place of 16.
+fn accepts(f: u64, e: Entry) -> bool
     requires { f < 64 }
-    ensures { result ≡ accepts_by f word marks }
+    ensures { result ≡ matches f e }
 {
-    if word == RESERVED {
+    if is_reserved(e) {
         return false;
     }
-    if f == 3 {
+    if f == ANY_MARK {
         return true;
     }
-    (marks >> f) % 2 == 1
-}
-
-// Whether a filter accepts an entry that reaches past a - 1.
-fn hits(f: u64, a: u64, base: u64, order: u64, word: u64, marks: u64) -> bool
-    requires { (order < 64) × (f < 64) }
-    ensures { result ≡ both (accepts_by f word marks) (ltb a (base + 2 ^ order)) }
-{
-    if !accepts(f, word, marks) {
-        return false;
-    }
-    reaches(a, base, order)
+    (e.marks >> f) % 2 == 1
 }
 
 // Where a find from a begins: the last entry that starts at a or before, or the first.
@@ -632,56 +405,10 @@ fn begin(index: &[u64], n: usize, a: u64) -> usize
     requires rising { Rising index.now n }
     ensures { Begins index.now n a result }
 {
-    let p = position(index, n, a);
-    if p == 0 {
-        return 0;
-    }
-    p - 1
-}
-
-/// The first entry in index order that a filter accepts and whose run meets a to z.
-pub fn find(
-    index: &[u64],
-    order: &[u64],
-    word: &[u64],
-    marks: &[u64],
-    n: usize,
-    a: u64,
-    z: u64,
-    f: u64,
-) -> Covered
-    requires holds { Holds index.now order.now word.now marks.now n }
-    requires f_bound { f < 64 }
-    ensures { (h : Holds index.now order.now word.now marks.now n) →
-        result ≡ covered (first_match h.list a z f) }
-{
-    let mut k = begin(index, n, a);
-    while k < n {
-        let base = index[k];
-        if z < base {
-            return Covered::Nothing;
-        }
-        let o = order[k];
-        let w = word[k];
-        let m = marks[k];
-        if hits(f, a, base, o, w, m) {
-            return Covered::By(Entry {
-                base: base,
-                order: o,
-                word: w,
-                marks: m,
-            });
-        }
-        k += 1;
-    }
-    Covered::Nothing
+    position(index, n, a).saturating_sub(1)
 }
 
 // COMMANDS
-
-const MARKS: u64 = 3;
-
-const ANY_MARK: u64 = 3;
 
 // What a find asks.
 #[derive(Clone, Copy)]
@@ -693,55 +420,19 @@ pub struct Sought {
 }
 
 // A reservation is absent to load, mark and unmark (R203).
-fn seen(c: Covered) -> Covered
+fn seen(c: Option<Entry>) -> Option<Entry>
     ensures { result ≡ seen c }
 {
-    match c {
-        Covered::Nothing => Covered::Nothing,
-        Covered::By(e) => {
-            if e.word == RESERVED {
-                Covered::Nothing
-            } else {
-                Covered::By(e)
-            }
-        }
-    }
+    c.filter(|e| !is_reserved(*e))
 }
 
-fn run_load(index: &[u64], order: &[u64], word: &[u64], marks: &[u64], n: usize, i: u64) -> Reply
-    requires { Holds index.now order.now word.now marks.now n }
-    ensures { (h : Holds index.now order.now word.now marks.now n) →
-        result ≡ (execute (length index.now) h.list (Command.Load i)).reply }
-{
-    let c = seen(covering(index, order, word, marks, n, i));
-    covered_reply(LOAD_REPLY, c)
-}
-
-fn found_reply(c: Covered) -> Reply
+fn found_reply(c: Option<Entry>) -> Reply
     ensures { result ≡ found_reply c }
 {
     match c {
-        Covered::Nothing => answered(FIND_REPLY, ENDED, 0, 0),
-        Covered::By(e) => answered_by(FIND_REPLY, e, 0),
+        None => answered(FIND_REPLY, Answer::Ended, 0, 0),
+        Some(e) => answered_by(FIND_REPLY, e, 0),
     }
-}
-
-// A find never pauses; all its budget does is not to be 0 (R305).
-fn run_find(index: &[u64], order: &[u64], word: &[u64], marks: &[u64], n: usize, s: Sought) -> Reply
-    requires { Holds index.now order.now word.now marks.now n }
-    ensures { (h : Holds index.now order.now word.now marks.now n) →
-        result ≡ (execute (length index.now) h.list (Command.Find s.first s.last s.filter s.budget)).reply }
-{
-    if s.filter > ANY_MARK {
-        return answered(FIND_REPLY, BAD_MARK, 0, 0);
-    }
-    if s.first > s.last {
-        return answered(FIND_REPLY, FIRST_ABOVE_LAST, 0, 0);
-    }
-    if s.budget == 0 {
-        return answered(FIND_REPLY, NO_BUDGET, 0, 0);
-    }
-    found_reply(find(index, order, word, marks, n, s.first, s.last, s.filter))
 }
 
 // Takes place k out of n.
@@ -753,169 +444,241 @@ fn close(xs: &mut [u64], k: usize, n: usize)
     clear(xs, n - 1, n);
 }
 
-// Takes entry k out, in all four slices.
-fn take_out(
-    index: &mut [u64],
-    order: &mut [u64],
-    word: &mut [u64],
-    marks: &mut [u64],
-    k: usize,
-    n: usize,
-)
-    requires holds { Holds index.old order.old word.old marks.old n }
-    requires k_lt_n { k < n }
-    ensures { (h : Holds index.old order.old word.old marks.old n) →
-        Columns index.new order.new word.new marks.new (length index.old)
-        (removed k h.list) }
-{
-    close(index, k, n);
-    close(order, k, n);
-    close(word, k, n);
-    close(marks, k, n);
-}
-
-fn run_erase(
-    index: &mut [u64],
-    order: &mut [u64],
-    word: &mut [u64],
-    marks: &mut [u64],
-    n: usize,
-    i: u64,
-) -> Turned
-    requires { Holds index.old order.old word.old marks.old n }
-    ensures { (h : Holds index.old order.old word.old marks.old n) →
-        Executes h (Command.Erase i) result index.new order.new word.new marks.new }
-{
-    let p = place(index, order, n, i);
-    if p == 0 {
-        return refused(ERASE_REPLY, ABSENT, n);
-    }
-    let e = entry_at(index, order, word, marks, p - 1);
-    take_out(index, order, word, marks, p - 1, n);
-    Turned {
-        reply: answered_by(ERASE_REPLY, e, 0),
-        count: n - 1,
-    }
-}
-
-// The reply's tag of a mark, or of an unmark.
-fn remarked_tag(on: bool) -> u64
-    ensures { result ≡ pick on 132 133 }
-{
-    if on { MARK_REPLY } else { UNMARK_REPLY }
-}
-
-// Marks with mark m set or cleared.
-fn with_mark(w: u64, m: u64, on: bool) -> u64
-    requires { (m < mark_count) × (w < 8) }
-    ensures { result ≡ set_bit m on w }
-{
-    let was = (w >> m) % 2;
-    if on {
-        if was == 1 {
-            return w;
+impl<'a> EntriesMut<'a> {
+    // The same slices, to read.
+    fn lent(&self) -> Entries
+        ensures { Shown result self.now }
+    {
+        Entries {
+            index: &*self.index,
+            order: &*self.order,
+            word: &*self.word,
+            marks: &*self.marks,
         }
-        return w + pow2(m);
     }
-    if was == 0 {
-        return w;
-    }
-    w - pow2(m)
-}
 
-// A mark where the bit is on, an unmark where it is off: one word changes.
-fn run_remark(
-    index: &[u64],
-    order: &[u64],
-    word: &[u64],
-    marks: &mut [u64],
-    n: usize,
-    i: u64,
-    m: u64,
-    on: bool,
-) -> Turned
-    requires { Holds index.now order.now word.now marks.old n }
-    ensures { (h : Holds index.now order.now word.now marks.old n) →
-        Executes h (remarking i m on) result index.now order.now word.now marks.new }
-{
-    let tag = remarked_tag(on);
-    if m >= MARKS {
-        return refused(tag, BAD_MARK, n);
+    // Four slices of one length become those of the empty list: answers 0, or 1 with nothing written.
+    pub fn init(&mut self) -> Result<(), Answer>
+        ensures value { answer_of result ≡ init_answer (lent_mut self.old) }
+        ensures marks_after { lent_mut self.new ≡ init_slices (lent_mut self.old) }
+        ensures kept { Kept self.old self.new }
+    {
+        if !self.lent().is_sized() {
+            return Err(Answer::PoolLength);
+        }
+        self.index.fill(0);
+        self.order.fill(0);
+        self.word.fill(0);
+        self.marks.fill(0);
+        Ok(())
     }
-    let p = place(index, order, n, i);
-    if p == 0 {
-        return refused(tag, ABSENT, n);
-    }
-    let e = entry_at(index, order, word, marks, p - 1);
-    if e.word == RESERVED {
-        return refused(tag, ABSENT, n);
-    }
-    let x = with_mark(e.marks, m, on);
-    marks[p - 1] = x;
-    Turned {
-        reply: answered_by(
-            tag,
-            Entry {
-                base: e.base,
-                order: e.order,
-                word: e.word,
-                marks: x,
-            },
-            0,
-        ),
-        count: n,
-    }
-}
 
-// One command: its reply, and the number of entries after it.
-pub fn execute(
-    index: &mut [u64],
-    order: &mut [u64],
-    word: &mut [u64],
-    marks: &mut [u64],
-    n: usize,
-    c: Command,
-) -> Turned
-    requires { Holds index.old order.old word.old marks.old n }
-    ensures { (h : Holds index.old order.old word.old marks.old n) →
-        Executes h c result index.new order.new word.new marks.new }
-{
-    match c {
-        Command::Store {
-            index: i,
+    // One entry for those from p to q - 1, in all four slices.
+    fn put(&mut self, p: usize, q: usize, n: usize, e: Entry)
+        requires holds { HeldMut self.old n }
+        requires p_le_q { (p ≤ q) × (q ≤ n) }
+        requires q_in_bounds { p + 1 + (n - q) ≤ length self.old.index.now }
+        ensures list_after { (h : HeldMut self.old n) → Listed self.new (room_in self.old) (replaced p q e h.list) }
+        ensures kept { Kept self.old self.new }
+    {
+        splice(self.index, p, q, n, e.base);
+        splice(self.order, p, q, n, e.order);
+        splice(self.word, p, q, n, e.word);
+        splice(self.marks, p, q, n, e.marks);
+    }
+
+    // A store that replaces what starts in its range, where no entry over i has its order or more.
+    fn store_new(&mut self, n: usize, i: u64, k: u64, w: u64) -> Option<Stored>
+        requires holds { HeldMut self.old n }
+        requires k_le_max_order { (k ≤ max_order) × (aligned k i ≡ true) }
+        requires list_value { (h : HeldMut self.old n) → any (over i k) h.list ≡ false }
+        ensures stores { (h : HeldMut self.old n) → StoresIn h i (store_new h.list i k w) result self.new }
+        ensures kept { Kept self.old self.new }
+    {
+        let s = self.lent();
+        let p = starts_below(s.index, n, i);
+        let last = i + ((1u64 << k) - 1);
+        let q = position(s.index, n, last);
+        let count = p + 1 + (n - q);
+        if s.index.len() < count {
+            return None;
+        }
+        let entry = Entry {
+            base: i,
             order: k,
             word: w,
-        } => run_store(index, order, word, marks, n, i, k, w),
-        Command::Load { index: i } => Turned {
-            reply: run_load(index, order, word, marks, n, i),
+            marks: kept(s.marks, p, q),
+        };
+        self.put(p, q, n, entry);
+        Some(Stored { entry, count })
+    }
+
+    // The entry at place j takes a word, and loses mark 2 (R190).
+    fn store_over(&mut self, j: usize, w: u64) -> Entry
+        requires j_in_bounds { WithinMut self.old j }
+        requires j_bound { get_or self.old.marks.now j 0 < 8 }
+        ensures value { result ≡ entry_with self.old.index.now self.old.order.now self.old.marks.now j w }
+        ensures others { (self.new.index.now ≡ self.old.index.now) × (self.new.order.now ≡ self.old.order.now) }
+        ensures word_after { self.new.word.now ≡ set self.old.word.now j w }
+        ensures marks_after { self.new.marks.now ≡ set self.old.marks.now j (set_bit matched_mark false (get_or self.old.marks.now j 0)) }
+        ensures kept { Kept self.old self.new }
+    {
+        let m = self.marks[j] % MATCHED_BIT;
+        self.word[j] = w;
+        self.marks[j] = m;
+        Entry {
+            base: self.index[j],
+            order: self.order[j],
+            word: w,
+            marks: m,
+        }
+    }
+
+    // A store: into the larger entry over i if there is one, else in place of what starts in its range.
+    fn store(&mut self, n: usize, i: u64, k: u64, w: u64) -> Option<Stored>
+        requires holds { HeldMut self.old n }
+        requires k_le_max_order { (k ≤ max_order) × (aligned k i ≡ true) }
+        ensures stores { (h : HeldMut self.old n) → StoresIn h i (store h.list i k w) result self.new }
+        ensures kept { Kept self.old self.new }
+    {
+        match self.lent().larger(n, i, k) {
+            Some(j) => {
+                let entry = self.store_over(j, w);
+                Some(Stored { entry, count: n })
+            }
+            None => self.store_new(n, i, k, w),
+        }
+    }
+
+    // The tests in the order of their numbers, but for 14, between 5 and 6 (R81, R181).
+    fn run_store(&mut self, n: usize, i: u64, k: u64, w: u64) -> Turned
+        requires { HeldMut self.old n }
+        ensures executes { (h : HeldMut self.old n) → ExecutesIn h (Command.Store i k w) result self.new }
+        ensures kept { Kept self.old self.new }
+    {
+        if k > MAX_ORDER {
+            return refused(STORE_REPLY, Answer::BadOrder, n);
+        }
+        if !is_aligned(i, k) {
+            return refused(STORE_REPLY, Answer::NotAligned, n);
+        }
+        if !is_storable(w) {
+            return refused(STORE_REPLY, Answer::BadEntry, n);
+        }
+        let s = self.store(n, i, k, w);
+        stored_turn(STORE_REPLY, n, s)
+    }
+
+    // A reservation is a store of order 0 where nothing covers the index (R204 to R206).
+    fn run_reserve(&mut self, n: usize, i: u64) -> Turned
+        requires { HeldMut self.old n }
+        ensures executes { (h : HeldMut self.old n) → ExecutesIn h (Command.Reserve i) result self.new }
+        ensures kept { Kept self.old self.new }
+    {
+        match self.lent().covering(n, i) {
+            None => {
+                let s = self.store(n, i, 0, RESERVED);
+                stored_turn(RESERVE_REPLY, n, s)
+            }
+            Some(_) => refused(RESERVE_REPLY, Answer::Covered, n),
+        }
+    }
+
+    // Takes entry k out, in all four slices.
+    fn take_out(&mut self, k: usize, n: usize)
+        requires holds { HeldMut self.old n }
+        requires k_lt_n { k < n }
+        ensures list_after { (h : HeldMut self.old n) → Listed self.new (room_in self.old) (removed k h.list) }
+        ensures kept { Kept self.old self.new }
+    {
+        close(self.index, k, n);
+        close(self.order, k, n);
+        close(self.word, k, n);
+        close(self.marks, k, n);
+    }
+
+    fn run_erase(&mut self, n: usize, i: u64) -> Turned
+        requires { HeldMut self.old n }
+        ensures executes { (h : HeldMut self.old n) → ExecutesIn h (Command.Erase i) result self.new }
+        ensures kept { Kept self.old self.new }
+    {
+        let s = self.lent();
+        let Some(k) = s.place(n, i) else {
+            return refused(ERASE_REPLY, Answer::Absent, n);
+        };
+        let e = s.entry_at(k);
+        self.take_out(k, n);
+        Turned {
+            reply: answered_by(ERASE_REPLY, e, 0),
+            count: n - 1,
+        }
+    }
+
+    // A mark where the bit is on, an unmark where it is off: one word changes.
+    fn run_remark(&mut self, n: usize, i: u64, m: u64, on: bool) -> Turned
+        requires { HeldMut self.old n }
+        ensures executes { (h : HeldMut self.old n) → ExecutesIn h (remarking i m on) result self.new }
+        ensures kept { Kept self.old self.new }
+    {
+        let tag = remarked_tag(on);
+        if m >= MARKS {
+            return refused(tag, Answer::BadMark, n);
+        }
+        let s = self.lent();
+        let Some(k) = s.place(n, i) else {
+            return refused(tag, Answer::Absent, n);
+        };
+        let e = s.entry_at(k);
+        if is_reserved(e) {
+            return refused(tag, Answer::Absent, n);
+        }
+        let x = with_bit(e.marks, m, on);
+        self.marks[k] = x;
+        Turned {
+            reply: answered_by(tag, Entry { marks: x, ..e }, 0),
             count: n,
-        },
-        Command::Erase { index: i } => run_erase(index, order, word, marks, n, i),
-        Command::Mark { index: i, mark: m } => run_remark(index, order, word, marks, n, i, m, true),
-        Command::Unmark { index: i, mark: m } => run_remark(
-            index, order, word, marks, n, i, m, false,
-        ),
-        Command::Find {
-            first,
-            last,
-            filter,
-            budget,
-        } => Turned {
-            reply: run_find(
-                index,
-                order,
-                word,
-                marks,
-                n,
-                Sought {
-                    first,
-                    last,
-                    filter,
-                    budget,
-                },
-            ),
-            count: n,
-        },
-        Command::Reserve { index: i } => run_reserve(index, order, word, marks, n, i),
+        }
+    }
+
+    // One command: its reply, and the number of entries after it. A function of its own: in the loop over a batch, a find takes one
+    // instruction an entry more.
+    #[inline(never)]
+    pub fn execute(&mut self, n: usize, c: Command) -> Turned
+        requires { HeldMut self.old n }
+        ensures executes { (h : HeldMut self.old n) → ExecutesIn h c result self.new }
+        ensures kept { Kept self.old self.new }
+    {
+        match c {
+            Command::Store {
+                index: i,
+                order: k,
+                word: w,
+            } => self.run_store(n, i, k, w),
+            Command::Load { index: i } => Turned {
+                reply: self.lent().run_load(n, i),
+                count: n,
+            },
+            Command::Erase { index: i } => self.run_erase(n, i),
+            Command::Mark { index: i, mark: m } => self.run_remark(n, i, m, true),
+            Command::Unmark { index: i, mark: m } => self.run_remark(n, i, m, false),
+            Command::Find {
+                first,
+                last,
+                filter,
+                budget,
+            } => Turned {
+                reply: self.lent().run_find(
+                    n,
+                    Sought {
+                        first,
+                        last,
+                        filter,
+                        budget,
+                    },
+                ),
+                count: n,
+            },
+            Command::Reserve { index: i } => self.run_reserve(n, i),
+        }
     }
 }

@@ -8,7 +8,8 @@ use lib.ListN.{length, drop}
 use Rattle.model.specs.declared.Entry.{Entry}
 use borrow.Author.Tests.{eq-eqb, ne_eqb, lt-ltb, le-ltb}
 use Rattle.answers.specs.Answers.{result_of, bad_batch, reply_space, done}
-use Rattle.batch.specs.declared.Counted.TheVariants.{Refused}
+use Rattle.std.specs.Prelude.{Err}
+use Rattle.batch.specs.declared.BadRecord.{BadRecord}
 use Rattle.batch.specs.Batch.{Parsed, counted, parse}
 use Rattle.batch.specs.Reply.{reply_bytes}
 use Rattle.commands.specs.Batches.{replies_by, list_by}
@@ -30,7 +31,7 @@ module _ (s : Slices) (bs rs : List ℕ) where
     unfolding run
     run_checked q = rw (eq-eqb (check_answer s) done e, q)
 
-    pub run_bad : {at : ℕ} → Refused at ≡ counted (parse bs) → run s bs rs ≡ refuse_call s rs bad_batch at
+    pub run_bad : {b : BadRecord} → Err b ≡ counted (parse bs) → run s bs rs ≡ refuse_call s rs bad_batch b.at
     run_bad f = run_checked (was_refused bs f)
 
     module _ {k : ℕ} (r : Read bs k) where

@@ -2,7 +2,7 @@
 -- (calls/Calls) are.
 use Rattle.std.specs.Prelude.{ℕ, ◌*◌, List, ◌++◌, ltb, eqb, length, drop}
 use Rattle.blocks.specs.Choice.{pick}
-use Rattle.answers.specs.declared.Result.{Result}
+use Rattle.answers.specs.declared.Report.{Report}
 use Rattle.answers.specs.Answers.{result_of, done, bad_batch, reply_space}
 use Rattle.batch.specs.Batch.{Parsed, Parsed.commands, Parsed.refused, parse}
 use Rattle.batch.specs.Reply.{reply_bytes}
@@ -12,17 +12,17 @@ use Rattle.xaplain.specs.Engine.{execute}
 
 -- what a call leaves: its result, the slices and the reply's bytes
 pub record Called : Type 0 where
-  pub result : Result
+  pub result : Report
   pub slices : Slices
   pub reply : List ℕ
 
 abbrev pub refuse_call : Slices → List ℕ → ℕ → ℕ → Called
 refuse_call s rs a n = record { result = result_of a n; slices = s; reply = rs }
 
-abbrev pub init_result : Slices → Result
+abbrev pub init_result : Slices → Report
 init_result s = result_of (init_answer s) 0
 
-abbrev pub check_result : Slices → Result
+abbrev pub check_result : Slices → Report
 check_result s = result_of (check_answer s) 0
 
 -- RUN: as R72 for the tree

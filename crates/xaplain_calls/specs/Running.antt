@@ -8,6 +8,8 @@ use Rattle.batch.specs.Reply.{encode}
 use Rattle.commands.specs.Batches.{replies_by, list_by, Ahead}
 use Rattle.xaplain.specs.Moves.{Holds, Columns}
 use Rattle.xaplain.specs.Engine.{execute}
+use Rattle.xaplain.specs.declared.EntriesMut.{EntriesMut}
+use Rattle.xaplain.specs.Lent.{Kept}
 
 -- what a batch that runs leaves, from any list and place on
 pub record Ends (room : ℕ) (l : List Entry) (cs : List Command) (out : ℕ) (reply index order word marks reply' : List ℕ) : Type 0 where
@@ -31,3 +33,16 @@ pub record Running (is₀ os₀ ws₀ ms₀ reply₀ batch is os ws ms reply : L
   pub leads : (h₀ : Holds is₀ os₀ ws₀ ms₀ n₀) (cs : List Command) → rest_at batch 0 ≡ Parsed.commands cs →
       (is' os' ws' ms' reply' : List ℕ) → Ends (length is) held.list ahead.rest out reply is' os' ws' ms' reply' →
       Ends (length is₀) h₀.list cs 0 reply₀ is' os' ws' ms' reply'
+
+-- the same of slices that are lent to write
+abbrev pub EndsIn : (room : ℕ) (l : List Entry) (cs : List Command) (out : ℕ) (reply : List ℕ) → EntriesMut → (reply' : List ℕ) → Type 0
+EndsIn r l cs out reply s reply' = Ends r l cs out reply s.index.now s.order.now s.word.now s.marks.now reply'
+
+abbrev pub TurnsIn : {is os ws ms : List ℕ} {n : ℕ} (h : Holds is os ws ms n) (c : Command) (out : ℕ) (reply : List ℕ) (r : ℕ) → EntriesMut →
+    (reply' : List ℕ) → Type 0
+TurnsIn h c out reply r s reply' = Turns h c out reply r s.index.now s.order.now s.word.now s.marks.now reply'
+
+pub record RunningIn (s₀ : EntriesMut) (reply₀ batch : List ℕ) (s : EntriesMut) (reply : List ℕ) (n₀ n at out : ℕ) : Type 0 where
+  pub running : Running s₀.index.now s₀.order.now s₀.word.now s₀.marks.now reply₀ batch s.index.now s.order.now s.word.now s.marks.now
+      reply n₀ n at out
+  pub kept : Kept s₀ s

@@ -5,75 +5,59 @@
 // reply: the borrowed bytes for their replies; at: a place in the batch; out: a place in the reply.
 #![tactic(auto)]
 
-ghost use Rattle.std.specs.Prelude.{◌≡◌, List, ◌+◌, ◌≤◌, length};
+ghost use Rattle.std.specs.Prelude.{◌≡◌, List, ◌+◌, ◌≤◌, length, Ok};
+ghost use Rattle.answers.specs.Answers.{report_of};
 ghost use Rattle.batch.specs.Batch.{rest_at, counted, parse};
 ghost use Rattle.batch.specs.Batch;
 ghost use Rattle.batch.specs.Reply.{reply_bytes};
-ghost use Rattle.batch.specs.declared.Counted.TheVariants.{Commands};
 ghost use Rattle.commands.specs.Batches.{Ahead};
 ghost use Rattle.xaplain.specs.Slices.{slices, check_answer, init_slices};
-ghost use Rattle.xaplain.specs.Moves.{Holds};
+ghost use Rattle.xaplain.specs.Lent.{room_in, HeldMut, Kept};
 ghost use Rattle.xaplain_calls.specs.Calls;
 ghost use Rattle.xaplain_calls.specs.Calls.{init_result, check_result};
-ghost use Rattle.xaplain_calls.specs.Running.{Turns, Ends};
+ghost use Rattle.xaplain_calls.specs.Running.{TurnsIn, EndsIn};
 
-use answers::{BAD_BATCH, DONE, REPLY_SPACE, Result};
-use batch::{Command, Counted, REPLY_BYTES};
+use answers::{Answer, Refusal};
+use batch::{Command, REPLY_BYTES};
+use xaplain::{Entries, EntriesMut};
 
 const REPLY_SIZE: u64 = 24;
 
 // One command, with its reply written at `out`: the number of entries after it.
-fn run_one(
-    index: &mut [u64],
-    order: &mut [u64],
-    word: &mut [u64],
-    marks: &mut [u64],
-    n: usize,
-    c: Command,
-    reply: &mut [u8],
-    out: usize,
-) -> usize
-    requires holds { Holds index.old order.old word.old marks.old n }
+fn run_one(s: &mut EntriesMut, n: usize, c: Command, reply: &mut [u8], out: usize) -> usize
+    requires holds { HeldMut s.old n }
     requires reply_bytes_in_bounds { out + reply_bytes ≤ length reply.old }
-    ensures { (h : Holds index.old order.old word.old marks.old n) →
-        Turns h c out reply.old result index.new order.new word.new marks.new
-        reply.new }
+    ensures turns { (h : HeldMut s.old n) → TurnsIn h c out reply.old result s.new reply.new }
+    ensures kept { Kept s.old s.new }
 {
-    let t = xaplain::execute(index, order, word, marks, n, c);
+    let t = s.execute(n, c);
     batch::write_reply(reply, out, t.reply);
     t.count
 }
 
 // The commands of a batch in order, each on the entries that the last one left.
-fn run_all(
-    index: &mut [u64],
-    order: &mut [u64],
-    word: &mut [u64],
-    marks: &mut [u64],
-    n: usize,
-    batch: &[u8],
-    reply: &mut [u8],
-)
-    requires holds { Holds index.old order.old word.old marks.old n }
+fn run_all(s: &mut EntriesMut, n: usize, batch: &[u8], reply: &mut [u8])
+    requires holds { HeldMut s.old n }
     requires ahead { Ahead batch.now 0 (length reply.old) 0 }
-    ensures { (h : Holds index.old order.old word.old marks.old n) (cs : List Command) →
+    ensures ends { (h : HeldMut s.old n) (cs : List Command) →
         rest_at batch.now 0 ≡ Batch.Parsed.commands cs →
-        Ends (length index.old) h.list cs 0 reply.old index.new order.new word.new
-        marks.new reply.new }
+        EndsIn (room_in s.old) h.list cs 0 reply.old s.new reply.new }
+    ensures kept { Kept s.old s.new }
 {
     let mut at: usize = 0;
     let mut out: usize = 0;
     let mut entries = n;
     while at < batch.len() {
-        let s = batch::record_at(batch, at);
-        let c = s.command;
-        entries = run_one(index, order, word, marks, entries, c, reply, out);
-        at = s.at;
+        let r = batch::record_at(batch, at);
+        let c = r.command;
+        entries = run_one(s, entries, c, reply, out);
+        at = r.at;
         out = out + REPLY_BYTES;
     }
 }
 
-// A batch of k commands, on slices that the check passed.
+// A batch of k commands, on slices that the check passed. Slice by slice: that they hold 64-bit words, which it goes by, is a fact
+// of a `&mut [u64]` that a proof can name, and not of one in a struct.
 fn run_counted(
     index: &mut [u64],
     order: &mut [u64],
@@ -82,10 +66,10 @@ fn run_counted(
     batch: &[u8],
     reply: &mut [u8],
     k: u64,
-) -> Result
+) -> Result<u64, Refusal>
     requires marks_value { check_answer (slices index.old order.old word.old marks.old) ≡ 0 }
-    requires k_value { Commands k ≡ counted (parse batch.now) }
-    ensures value { result ≡ (Calls.run (slices index.old order.old word.old marks.old)
+    requires k_value { Ok k ≡ counted (parse batch.now) }
+    ensures value { report_of result ≡ (Calls.run (slices index.old order.old word.old marks.old)
         batch.now reply.old).result }
     ensures marks_after { slices index.new order.new word.new marks.new ≡
         (Calls.run (slices index.old order.old word.old marks.old)
@@ -95,43 +79,57 @@ fn run_counted(
 {
     let room = reply.len() as u64;
     if room / REPLY_SIZE < k {
-        return Result {
-            answer: REPLY_SPACE,
+        return Err(Refusal {
+            answer: Answer::ReplySpace,
             number: k,
-        };
+        });
     }
     let n = xaplain::count(word);
-    run_all(index, order, word, marks, n, batch, reply);
-    Result {
-        answer: DONE,
-        number: k,
-    }
+    let mut s = EntriesMut {
+        index,
+        order,
+        word,
+        marks,
+    };
+    run_all(&mut s, n, batch, reply);
+    Ok(k)
 }
 
 // Makes the list in the slices empty. Answers 0, or 1 with nothing written.
-pub fn init(index: &mut [u64], order: &mut [u64], word: &mut [u64], marks: &mut [u64]) -> Result
-    ensures value { result ≡ init_result (slices index.old order.old word.old marks.old) }
+pub fn init(
+    index: &mut [u64],
+    order: &mut [u64],
+    word: &mut [u64],
+    marks: &mut [u64],
+) -> Result<u64, Refusal>
+    ensures value { report_of result ≡ init_result (slices index.old order.old word.old marks.old) }
     ensures marks_after { slices index.new order.new word.new marks.new ≡
         init_slices (slices index.old order.old word.old marks.old) }
 {
-    let answer = xaplain::init(index, order, word, marks);
-    Result {
-        answer: answer,
-        number: 0,
-    }
+    let mut s = EntriesMut {
+        index,
+        order,
+        word,
+        marks,
+    };
+    s.init()?;
+    Ok(0)
 }
 
 // Whether the slices hold a list and then zeros. Answers 0, 1 or 2; writes nothing.
-pub fn check(index: &[u64], order: &[u64], word: &[u64], marks: &[u64]) -> Result
-    ensures value { result ≡ check_result (slices index.now order.now word.now marks.now) }
+pub fn check(index: &[u64], order: &[u64], word: &[u64], marks: &[u64]) -> Result<u64, Refusal>
+    ensures value { report_of result ≡ check_result (slices index.now order.now word.now marks.now) }
     ensures marks_value { slices index.exit.now order.exit.now word.exit.now marks.exit.now ≡
         slices index.entry.now order.entry.now word.entry.now marks.entry.now }
 {
-    let answer = xaplain::check(index, order, word, marks);
-    Result {
-        answer: answer,
-        number: 0,
+    Entries {
+        index,
+        order,
+        word,
+        marks,
     }
+    .check()?;
+    Ok(0)
 }
 
 // Runs a batch of commands on the slices, and writes 24 bytes of reply for each. Answers 0 to 4; 1 to 4 alter nothing.
@@ -142,8 +140,8 @@ pub fn run(
     marks: &mut [u64],
     batch: &[u8],
     reply: &mut [u8],
-) -> Result
-    ensures value { result ≡ (Calls.run (slices index.old order.old word.old marks.old)
+) -> Result<u64, Refusal>
+    ensures value { report_of result ≡ (Calls.run (slices index.old order.old word.old marks.old)
         batch.now reply.old).result }
     ensures marks_after { slices index.new order.new word.new marks.new ≡
         (Calls.run (slices index.old order.old word.old marks.old)
@@ -152,19 +150,13 @@ pub fn run(
         batch.now reply.old).reply }
     ensures batch_value { batch.exit.now ≡ batch.entry.now }
 {
-    let answer = xaplain::check(index, order, word, marks);
-    if answer != DONE {
-        return Result {
-            answer: answer,
-            number: 0,
-        };
-    }
-    let counted = reader::count_through(batch);
-    match counted {
-        Counted::Refused(place) => Result {
-            answer: BAD_BATCH,
-            number: place,
-        },
-        Counted::Commands(k) => run_counted(index, order, word, marks, batch, reply, k),
-    }
+    let s = Entries {
+        index,
+        order,
+        word,
+        marks,
+    };
+    s.check()?; // what is refused is refused before the first write
+    let k = reader::count_through(batch)?;
+    run_counted(index, order, word, marks, batch, reply, k)
 }

@@ -3,7 +3,7 @@ ghost use Rattle.std.specs.Prelude.{◌≡◌};
 ghost use Rattle.evidence.specs.Sheets.{look};
 ghost use Rattle.xapool.specs.Sheets.{part_result};
 
-use answers::{ABSENT, BAD_BATCH, DONE};
+use answers::{Answer, DONE};
 use evidence::Found;
 
 // Where a text stands: the sheet (0 base, 1 supplement), its place there and its length; all 0 with answers 3 and 10.
@@ -38,13 +38,13 @@ pub extern "C" fn xapool_evidence(base: &[u8], supplement: &[u8], index: u64) ->
             length: size as u64,
         },
         Found::Nowhere => Part {
-            answer: ABSENT,
+            answer: Answer::Absent.number(),
             sheet: 0,
             place: 0,
             length: 0,
         },
         Found::BadSheet => Part {
-            answer: BAD_BATCH,
+            answer: Answer::BadBatch.number(),
             sheet: 0,
             place: 0,
             length: 0,

@@ -14,12 +14,10 @@ returns-then-not-named_ok c =
     (λ h. g c.loop-m.m (record { below = c.loop-m-test.true; used = h })))
 
 pub loop-m-preserved : goal.loop-m-preserved
-loop-m-preserved c = (
-  omega (arith, c.loop-m-test.true),
-  λ f s. below_next (λ k. 1 ≤ word c.args.pool.now k tier_field → f k ≡ true) c.loop-m.m (c.loop-m.invariant.1 f s)
-      ((c.named_ok.ensures f s).0 c.if-not-named_ok.false),
-)
+loop-m-preserved c =
+    λ f s. below_next (λ k. 1 ≤ word c.args.pool.now k tier_field → f k ≡ true) c.loop-m.m (c.loop-m.invariant f s)
+    ((c.named_ok.ensures f s).0 c.if-not-named_ok.false)
 
 pub returns : goal.returns
 returns c =
-    λ f s. yes! (λ m a. c.loop-m.invariant.1 f s m (omega (arith, c.loop-m-test.false, a.below)) a.used)
+    λ f s. yes! (λ m a. c.loop-m.invariant f s m (omega (arith, c.loop-m-test.false, a.below)) a.used)

@@ -9,7 +9,7 @@ all_named-requires c =
 
 pub returns-clause-decides : goal.returns-clause-decides
 returns-clause-decides c =
-    let fit : Words c.args.pool.now = λ i. omega (arith, c.shared_slice_known-1.given i) in
+    let fit : Words c.args.pool.now = λ i. omega (arith, c.type_inv.pool i) in
     let ok = c.if-not-blocks_ok.false in
     pool_decides c.args.pool.now c.args.n _ fit c.requires.sized.0 c.requires.sized.1 c.if-pool-n.false (c.blocks_ok.ensures.decides.0 ok)
     (c.root_ok.ensures.0 c.if-not-root_ok.false) (c.all_named.ensures _ (c.mark_ref.ensures _ (c.blocks_ok.ensures.set_of_2 ok).0))

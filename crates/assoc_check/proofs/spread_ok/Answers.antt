@@ -1,5 +1,9 @@
-use Prim.Native.Nat.{ℕ}
-use mathlib.Core.Path.{◌≡◌, ap, subst, ◌∙◌}
+use Prim.Native.Nat.{ℕ, ◌≤◌}
+use mathlib.Core.Bool.{Bool, true, false, not}
+use lib.Dec.{eqb}
+use Rattle.std.specs.Int.{from_bool}
+use Rattle.blocks.specs.Choice.{pick}
+use mathlib.Core.Path.{◌≡◌, refl, ap, subst, ◌∙◌}
 use Rattle.assoc_local.specs.Local.{keys_at}
 use native.Mathlib.Omega.{arith}
 use Rattle.assoc_tree.specs.Parts.{slots}
@@ -8,9 +12,13 @@ use Rattle.assoc_check.specs.Checking.{Spread}
 use Rattle.assoc_check.proofs.SpreadLaws.{spread_start, spread_fits, spread_next, spread_decides}
 use Rattle.assoc_check.proofs.spread_ok.Goals as goal
 
+one : (b : Bool) → (from_bool b ≡ pick b 1 0) × (from_bool b ≤ 1)
+one true = (refl, omega arith)
+one false = (refl, omega arith)
+
 pub loop-j-init : goal.loop-j-init
 loop-j-init c =
-    (omega arith, omega arith, spread_start c.args.pool.now c.args.n c.args.m)
+    (omega arith, spread_start c.args.pool.now c.args.n c.args.m)
 
 pub returns-then-not-slot_ok : goal.returns-then-not-slot_ok
 returns-then-not-slot_ok c =
@@ -23,21 +31,20 @@ returns-then-count-total c =
       c.if-count-total.true,
       c.requires.m_value.1,
       spread_fits c.args.pool.now c.args.n c.args.m c.loop-j.j c.loop-j.total c.loop-j.filled c.keys_at-k.result
-          c.loop-j.invariant.2 (omega (arith, c.loop-j-test.true)) (c.keys_at-k.ensures ∙ ap (keys_at c.args.pool.now) c.field-r.ensures) o,
+          c.loop-j.invariant.1 (omega (arith, c.loop-j-test.true)) (c.keys_at-k.ensures ∙ ap (keys_at c.args.pool.now) c.field-r.ensures) o,
     ))
 
 pub loop-j-preserved : goal.loop-j-preserved
 loop-j-preserved c = (
-  omega (arith, c.loop-j-test.true),
-  omega (arith, c.loop-j.invariant.1, c.one_if-filled.ensures.1),
-  spread_next c.args.pool.now c.args.n c.args.m c.loop-j.j c.loop-j.total c.loop-j.filled c.field-r.result c.keys_at-k.result c.one_if-filled.result
-      c.loop-j.invariant.2 (c.slot_ok.ensures.0 c.if-not-slot_ok.false) c.field-r.ensures c.keys_at-k.ensures
-      (omega (arith, c.if-count-total.false, c.loop-j.invariant.2.most, c.requires.m_value.1)) c.one_if-filled.ensures.0,
+  omega (arith, c.from-filled.ensures, (one (not (eqb c.field-r.result 0))).1),
+  spread_next c.args.pool.now c.args.n c.args.m c.loop-j.j c.loop-j.total c.loop-j.filled c.field-r.result c.keys_at-k.result c.from-filled.result
+      c.loop-j.invariant.1 (c.slot_ok.ensures.0 c.if-not-slot_ok.false) c.field-r.ensures c.keys_at-k.ensures
+      (omega (arith, c.if-count-total.false, c.loop-j.invariant.1.most, c.requires.m_value.1)) (c.from-filled.ensures ∙ (one (not (eqb c.field-r.result 0))).0),
 )
 
 pub returns : goal.returns
 returns c =
-    let e : c.loop-j.j ≡ slots = omega (arith, c.loop-j-test.false, c.loop-j.invariant.0) in
+    let e : c.loop-j.j ≡ slots = omega arith in
     spread_decides c.args.pool.now c.args.n c.args.m c.loop-j.total c.loop-j.filled c.args.count
-    (subst (λ (k : ℕ). Spread c.args.pool.now c.args.n c.args.m k c.loop-j.total c.loop-j.filled) e c.loop-j.invariant.2) c.requires.block.1 c.requires.m_value.0
+    (subst (λ (k : ℕ). Spread c.args.pool.now c.args.n c.args.m k c.loop-j.total c.loop-j.filled) e c.loop-j.invariant.1) c.requires.block.1 c.requires.m_value.0
     c.requires.m_value.1 c.requires.m_value.2 c.if-total-count.false

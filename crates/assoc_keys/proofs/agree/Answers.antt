@@ -17,21 +17,10 @@ from-tier : (v x y : ℕ) → block (4 * (16 * (v / 16) + v % 16)) x ≡ block (
     block (4 * v) x ≡ block (4 * v) y
 from-tier v x y e = ap (λ (j : ℕ). block j x) (sym (tier_is v)) ∙ e ∙ ap (λ (j : ℕ). block j y) (tier_is v)
 
--- src/lib.rt:31:13
--- src/lib.rt:33:11
--- src/lib.rt:33:9
--- src/lib.rt:33:9
--- src/lib.rt:33:9
--- src/lib.rt:33:30
--- src/lib.rt:33:28
--- src/lib.rt:33:28
--- src/lib.rt:33:28
--- src/lib.rt:34:9
-
 pub returns-then-a-i : goal.returns-then-a-i
 returns-then-a-i c =
     no! (λ e. c.if-a-i.true (agree_no c.args.a.now c.args.b.now
-    (λ i. omega (arith, c.shared_slice_known-1.given i)) (λ i. omega (arith, c.shared_slice_known-2-1.given i))
+    (λ i. omega (arith, c.type_inv.a i)) (λ i. omega (arith, c.type_inv.b i))
     c.args.i c.args.j key_words (c.args.v / 16) (c.args.v % 16) (omega arith) (omega arith)
     (at-tier c.args.v (key_at c.args.a.now c.args.i) (key_at c.args.b.now c.args.j) e)).0)
 
@@ -39,8 +28,8 @@ pub returns : goal.returns
 returns c =
     let q = c.args.v / 16 in
     let r = c.args.v % 16 in
-    let fa : Words c.args.a.now = λ i. omega (arith, c.shared_slice_known-1.given i) in
-    let fb : Words c.args.b.now = λ i. omega (arith, c.shared_slice_known-2-1.given i) in (
+    let fa : Words c.args.a.now = λ i. omega (arith, c.type_inv.a i) in
+    let fb : Words c.args.b.now = λ i. omega (arith, c.type_inv.b i) in (
       λ t. from-tier c.args.v (key_at c.args.a.now c.args.i) (key_at c.args.b.now c.args.j)
           (agree_yes c.args.a.now c.args.b.now fa fb c.args.i c.args.j key_words q r (omega arith) (omega arith) c.if-a-i.false
           (λ p le lt. c.same_from.ensures.0 t p (omega arith) lt)),

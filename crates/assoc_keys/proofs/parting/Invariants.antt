@@ -1,11 +1,8 @@
-use Prim.Native.Nat.{◌*◌, ◌≤◌}
+use Prim.Native.Nat.{◌*◌}
 use mathlib.Core.Path.{◌≡◌}
 use Rattle.blocks.specs.Blocks.{block}
 use Rattle.assoc_keys.specs.Number.{key_at}
 use Rattle.assoc_keys.proofs.parting.Given as goal
 
 abbrev pub invariant-loop-u : goal.invariant-loop-u
-invariant-loop-u l = (l.u ≤ l.v) × (block (4 * l.u) (key_at l.a l.i) ≡ block (4 * l.u) (key_at l.b l.j))
-
-abbrev pub decreases-loop-u : goal.decreases-loop-u
-decreases-loop-u l = l.u
+invariant-loop-u l = block (4 * l.u) (key_at l.a l.i) ≡ block (4 * l.u) (key_at l.b l.j)

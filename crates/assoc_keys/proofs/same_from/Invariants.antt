@@ -1,11 +1,7 @@
-use Prim.Native.Nat.{ℕ, ◌+◌, ◌-◌, ◌≤◌, ◌<◌}
+use Prim.Native.Nat.{ℕ, ◌+◌, ◌≤◌, ◌<◌}
 use mathlib.Core.Path.{◌≡◌}
 use lib.ListN.{get_or}
-use Rattle.assoc_keys.specs.Number.{key_words}
 use Rattle.assoc_keys.proofs.same_from.Given as goal
 
 abbrev pub invariant-loop-p : goal.invariant-loop-p
-invariant-loop-p l = (l.t ≤ l.p) × (l.p ≤ key_words) × ((q : ℕ) → l.t ≤ q → q < l.p → get_or l.a (l.i + q) 0 ≡ get_or l.b (l.j + q) 0)
-
-abbrev pub decreases-loop-p : goal.decreases-loop-p
-decreases-loop-p l = key_words - l.p
+invariant-loop-p l = (q : ℕ) → l.t ≤ q → q < l.p → get_or l.a (l.i + q) 0 ≡ get_or l.b (l.j + q) 0

@@ -9,7 +9,7 @@ use Rattle.assoc_lookup.proofs.look_bytes.Goals as goal
 
 pub look-requires-clause-key_bound : goal.look-requires-clause-key_bound
 look-requires-clause-key_bound c =
-    let b : Bytes c.args.key.now = record { small = λ i. omega (arith, c.shared_slice_known-2-1.given i) } in
+    let b : Bytes c.args.key.now = record { small = λ i. omega (arith, c.type_inv.key i) } in
     these_fit c.args.key.now _ (words_are c.args.key.now c.word_of-a.ensures c.word_of-b.ensures c.word_of-c.ensures
     c.word_of-d.ensures refl) b c.requires.1
 

@@ -1,10 +1,7 @@
-use Prim.Native.Nat.{◌-◌, ◌≤◌}
+use Prim.Native.Nat.{◌-◌}
 use mathlib.Core.Path.{◌≡◌}
 use Rattle.assoc_lookup.specs.Lookup.{packed_step}
 use Rattle.assoc_lookup.proofs.packed.Given as goal
 
 abbrev pub invariant-loop-j : goal.invariant-loop-j
-invariant-loop-j l = (l.j ≤ l.count) × (packed_step l.pool l.key l.m 0 l.count ≡ packed_step l.pool l.key l.m l.j (l.count - l.j))
-
-abbrev pub decreases-loop-j : goal.decreases-loop-j
-decreases-loop-j l = l.count - l.j
+invariant-loop-j l = packed_step l.pool l.key l.m 0 l.count ≡ packed_step l.pool l.key l.m l.j (l.count - l.j)

@@ -1,5 +1,6 @@
 -- `prepare_read`: the command that was read at the start of the bytes.
-use mathlib.Core.Path.{sym, ◌∙◌}
+use mathlib.Core.Path.{sym, ◌∙◌, refl}
+use Rattle.answers.proofs.ReportLaws.{of_refused}
 use Rattle.verify.proofs.AnswerLaws.{accepted}
 use Rattle.preparing.proofs.OneLaws.{more_none, same_none, one_some}
 use Rattle.preparing.proofs.PrepareLaws.{told_none, told_command}
@@ -7,7 +8,7 @@ use Rattle.calls.proofs.prepare_read.Goals as goal
 
 pub returns-then-at-bytes-clause-value : goal.returns-then-at-bytes-clause-value
 returns-then-at-bytes-clause-value c =
-    (told_none _ _ _ c.requires.pool_value (more_none _ c.requires.at_value c.if-at-bytes.true)).0
+    of_refused _ c.from.ensures refl ∙ (told_none _ _ _ c.requires.pool_value (more_none _ c.requires.at_value c.if-at-bytes.true)).0
 
 pub returns-then-at-bytes-clause-script_after : goal.returns-then-at-bytes-clause-script_after
 returns-then-at-bytes-clause-script_after c =
@@ -15,7 +16,7 @@ returns-then-at-bytes-clause-script_after c =
 
 pub returns-then-not-changes-clause-value : goal.returns-then-not-changes-clause-value
 returns-then-not-changes-clause-value c =
-    (told_none _ _ _ c.requires.pool_value (same_none _ c.requires.at_value (sym c.changes.ensures ∙ c.if-not-changes.true))).0
+    of_refused _ c.from-then-not-changes.ensures refl ∙ (told_none _ _ _ c.requires.pool_value (same_none _ c.requires.at_value (sym c.changes.ensures ∙ c.if-not-changes.true))).0
 
 pub returns-then-not-changes-clause-script_after : goal.returns-then-not-changes-clause-script_after
 returns-then-not-changes-clause-script_after c =

@@ -1,12 +1,7 @@
--- `by_bytes`: the register after the bytes from `from` on, one at a time.
-use mathlib.Core.Path.{◌≡◌}
-use Prim.Native.Nat.{◌-◌, ◌≤◌}
-use lib.ListN.{length, drop}
+-- `by_bytes`: what is left, from the register so far, comes to the same.
+use Rattle.std.proofs.Common.{◌≡◌, drop}
 use Rattle.crc32c.specs.Crc.{register}
 use Rattle.crc32c.proofs.by_bytes.Given as goal
 
-abbrev pub invariant-loop-i : goal.invariant-loop-i
-invariant-loop-i l = (l.i ≤ length l.s) × (register l.c (drop l.i l.s) ≡ register l.c-2 (drop l.from l.s))
-
-abbrev pub decreases-loop-i : goal.decreases-loop-i
-decreases-loop-i l = length l.s - l.i
+abbrev pub invariant-loop-b : goal.invariant-loop-b
+invariant-loop-b l = register l.c (drop l.b-index l.s) ≡ register l.fn.c l.s

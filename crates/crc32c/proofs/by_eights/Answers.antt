@@ -1,15 +1,7 @@
-use mathlib.Core.Path.{ap, ◌∙◌}
-use Prim.Native.Nat.{ℕ, ◌+◌}
-use native.Mathlib.Omega.{arith}
-use lib.ListN.{drop}
-use Rattle.crc32c.specs.Crc.{register}
-use Rattle.crc32c.proofs.WordLaws.{register_on}
+use Rattle.std.proofs.Common.{arith}
+use Rattle.crc32c.proofs.WordLaws.{chunk_step}
 use Rattle.crc32c.proofs.by_eights.Goals as goal
 
-pub loop-i-preserved : goal.loop-i-preserved
-loop-i-preserved c =
-    let s = c.args.s.now in
-    let l = c.loop-i in (
-      omega arith,
-      ap (λ (x : ℕ). register x (drop (l.i + 8) s)) c.eight-c.ensures ∙ register_on l.c s l.i 8 ∙ l.invariant.1,
-    )
+pub loop-part-preserved : goal.loop-part-preserved
+loop-part-preserved c =
+    chunk_step c.args.s.now _ c.loop-part.part-index c.loop-part.c c.as_chunks.ensures.front (omega (arith, c.as_chunks.ensures.front_len)) c.eight-c.ensures c.loop-part.invariant

@@ -30,18 +30,8 @@ returns-then-h-ne1-clause-by_index c =
       yes = λ e. absurd (clash e refl);
       no = λ _. stay_held w c.requires.le_h
           t q c.slot_word-x.ensures c.read_slot-k.ensures
-          (inl c.in-Held.is)
+          c.in-Held.is
           (λ z. omega (arith, c.if-h-ne1.true, z));
-    })
-
-pub returns-then-h-gt1-clause-by_index : goal.returns-then-h-gt1-clause-by_index
-returns-then-h-gt1-clause-by_index c =
-    (λ k l os w t q. record {
-      yes = λ e. absurd (clash e refl);
-      no = λ _. stay_held w c.requires.le_h
-          t q c.slot_word-x.ensures c.read_slot-k.ensures
-          (inr c.in-Reserved.is)
-          (λ z. omega (arith, c.if-h-gt1.true, z));
     })
 
 pub returns-in-Child-clause-by_index : goal.returns-in-Child-clause-by_index
@@ -59,7 +49,7 @@ returns-else-h-ne1-clause-by_index c =
     (λ k l os w t q. record {
       yes = λ _. drop_held w c.requires.le_h t q c.slot_word-x.ensures c.read_slot-k.ensures
           (sym c.filled_of.ensures ∙
-          c.if-filled_of-ne1.false) (inl c.in-Held.is)
+          c.if-filled_of-ne1.false) c.in-Held.is
           (omega (arith, c.if-h-ne1.false))
           c.free_head.auto.pool c.free_head.ensures.gone c.free_head.ensures.head c.free_head.ensures.rest;
       no = λ e. absurd (clash refl e);
@@ -69,27 +59,9 @@ pub returns-in-Empty-clause-by_index : goal.returns-in-Empty-clause-by_index
 returns-in-Empty-clause-by_index c =
     (λ k l os w t q. record {
       yes = λ e. absurd (clash e refl);
-      no = λ _. stay_empty w c.requires.le_h
-          t q c.slot_word-x.ensures c.read_slot-k.ensures
-          c.in-Empty.is (sym c.filled_of.ensures ∙
-          c.if-filled_of-ne1.false);
-    })
-
-pub returns-in-Sibling-clause-by_index : goal.returns-in-Sibling-clause-by_index
-returns-in-Sibling-clause-by_index c =
-    (λ k l os w t q. record {
-      yes = λ e. absurd (clash e refl);
-      no = λ _. absurd (not_sibling w c.requires.le_h t q c.slot_word-x.ensures c.read_slot-k.ensures _
-          c.in-Sibling.is);
-    })
-
-pub returns-else-h-gt1-clause-by_index : goal.returns-else-h-gt1-clause-by_index
-returns-else-h-gt1-clause-by_index c =
-    (λ k l os w t q. record {
-      yes = λ _. drop_held w c.requires.le_h t q c.slot_word-x.ensures c.read_slot-k.ensures
-          (sym c.filled_of.ensures ∙
-          c.if-filled_of-ne1.false) (inr c.in-Reserved.is)
-          (omega (arith, c.if-h-gt1.false, c.requires.le_h))
-          c.free_head-in-Reserved.auto.pool c.free_head-in-Reserved.ensures.gone c.free_head-in-Reserved.ensures.head c.free_head-in-Reserved.ensures.rest;
-      no = λ e. absurd (clash refl e);
+      no = λ _. elim c.in-Empty.is [
+        | inl e ↦ stay_empty w c.requires.le_h t q c.slot_word-x.ensures c.read_slot-k.ensures e
+            (sym c.filled_of.ensures ∙ c.if-filled_of-ne1.false)
+        | inr x ↦ absurd (not_sibling w c.requires.le_h t q c.slot_word-x.ensures c.read_slot-k.ensures _ x.1)
+      ];
     })

@@ -1,7 +1,7 @@
 -- `erase`: takes out the entry that covers i.
 use mathlib.Core.Path.{sym, ap}
 use Rattle.model.specs.Model.{covered}
-use Rattle.lookup.proofs.HeadLaws.{at_apart, at_vacant, at_head, at_spot}
+use Rattle.lookup.proofs.HeadLaws.{at_none, at_head, at_spot}
 use Rattle.erase.proofs.ErasedLaws.{words_gap, words_head}
 use Rattle.erase.proofs.erase.Goals as goal
 
@@ -13,23 +13,11 @@ remove-requires-clause-erasing c =
 
 pub returns-in-Apart-clause-value : goal.returns-in-Apart-clause-value
 returns-in-Apart-clause-value c =
-    (λ s. let (q, d) = at_apart (c.locate-k.ensures s) c.in-Apart.is in
-    ap covered (sym q))
+    λ s. ap covered (sym (at_none (c.locate-k.ensures s) c.in-Apart.is))
 
 pub returns-in-Apart-clause-pool_after : goal.returns-in-Apart-clause-pool_after
 returns-in-Apart-clause-pool_after c =
-    (λ s. let (q, d) = at_apart (c.locate-k.ensures s) c.in-Apart.is in
-    words_gap s _ q)
-
-pub returns-in-Vacant-clause-value : goal.returns-in-Vacant-clause-value
-returns-in-Vacant-clause-value c =
-    (λ s. let (t, q, b, le, d) = at_vacant _ _ _ (c.locate-k.ensures s) c.in-Vacant.is in
-    ap covered (sym q))
-
-pub returns-in-Vacant-clause-pool_after : goal.returns-in-Vacant-clause-pool_after
-returns-in-Vacant-clause-pool_after c =
-    (λ s. let (t, q, b, le, d) = at_vacant _ _ _ (c.locate-k.ensures s) c.in-Vacant.is in
-    words_gap s _ q)
+    λ s. words_gap s _ (at_none (c.locate-k.ensures s) c.in-Apart.is)
 
 pub returns-in-AtHead-clause-value : goal.returns-in-AtHead-clause-value
 returns-in-AtHead-clause-value c =

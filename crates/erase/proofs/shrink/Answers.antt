@@ -1,94 +1,55 @@
-use Prim.Native.Nat.{◌<◌}
-use mathlib.Core.Path.{refl, ◌∙◌}
-use mathlib.Core.Logic.{inl, inr}
+use mathlib.Core.Path.{refl}
 use native.Mathlib.Omega.{arith}
-use lib.ListN.{get_or}
-use Rattle.layout.specs.Words.{max_nodes, count_word}
-use Rattle.erase.proofs.LowerLaws.{under_fits, tall_flat, top_child, top_empty, top_held, top_sibling}
+use Rattle.erase.proofs.LowerLaws.{under_fits, tall_flat, top_child, top_bare}
 use Rattle.erase.proofs.FreedLaws.{sheds_given, sheds_kept}
 use Rattle.erase.proofs.shrink.Goals as goal
-
-head_fits : (c : goal.After-give-arg-1) → (c.in-Child.n < max_nodes) ×
-    (c.in-Child.n < get_or c.loop-h.pool count_word 0)
-head_fits c =
-    let h = top_child c.loop-h.invariant.0.tall c.loop-h-test.true refl c.read_slot-k.ensures _
-    c.in-Child.is in
-    let f = under_fits c.loop-h.invariant.0.tall c.loop-h-test.true h.0 h.1 in (f.1, f.2)
-
-head_fits_2 : (c : goal.After-slice_known-in-Child-2-1) → (c.in-Child.n < max_nodes) ×
-    (c.in-Child.n < get_or c.loop-h.pool count_word 0)
-head_fits_2 c =
-    let h = top_child c.loop-h.invariant.0.tall c.loop-h-test.true refl c.read_slot-k.ensures _
-    c.in-Child.is in
-    let f = under_fits c.loop-h.invariant.0.tall c.loop-h-test.true h.0 h.1 in (f.1, f.2)
 
 pub drop_head-requires-clause-headed : goal.drop_head-requires-clause-headed
 drop_head-requires-clause-headed c =
     let h = top_child c.loop-h.invariant.0.tall c.loop-h-test.true refl
-    c.read_slot-k.ensures _ c.in-Child.is in
+    c.read_slot.ensures _ c.in-Child.is in
     record { tower = c.loop-h.invariant.0; there = h.0; number = h.1 }
 
 pub returns-then-not-drop_head-clause-free_map_2 : goal.returns-then-not-drop_head-clause-free_map_2
 returns-then-not-drop_head-clause-free_map_2 c =
     let f = c.if-not-drop_head.true in
-    sheds_kept c.drop_head.ensures.sheds c.loop-h.invariant.3 f
+    sheds_kept c.drop_head.ensures.sheds c.loop-h.invariant.1 f
 
 pub returns-then-not-drop_head-clause-by_index : goal.returns-then-not-drop_head-clause-by_index
 returns-then-not-drop_head-clause-by_index c =
     let f = c.if-not-drop_head.true in
     λ k l os t.
-    let t' = c.loop-h.invariant.4 k l os t in
-    let h = top_child t' c.loop-h-test.true refl c.read_slot-k.ensures _ c.in-Child.is in
+    let t' = c.loop-h.invariant.2 k l os t in
+    let h = top_child t' c.loop-h-test.true refl c.read_slot.ensures _ c.in-Child.is in
     (c.drop_head.ensures.by_index k l os t' h.0 h.1).no f
 
 pub give-requires-clause-m_lt_map_nodes : goal.give-requires-clause-m_lt_map_nodes
 give-requires-clause-m_lt_map_nodes c =
-    (head_fits c).0
+    let h = top_child c.loop-h.invariant.0.tall c.loop-h-test.true refl c.read_slot.ensures _ c.in-Child.is in
+    (under_fits c.loop-h.invariant.0.tall c.loop-h-test.true h.0 h.1).1
 
 pub loop-h-preserved : goal.loop-h-preserved
 loop-h-preserved c =
     let f = c.if-not-drop_head.false in
-    let t₀ = top_child c.loop-h.invariant.0.tall c.loop-h-test.true refl c.read_slot-k.ensures _ c.in-Child.is in (
+    let t₀ = top_child c.loop-h.invariant.0.tall c.loop-h-test.true refl c.read_slot.ensures _ c.in-Child.is in (
       record {
         n = c.loop-h.invariant.0.n;
         list = c.loop-h.invariant.0.list;
         places = c.loop-h.invariant.0.places;
         tall = (c.drop_head.ensures.by_index c.loop-h.invariant.0.n c.loop-h.invariant.0.list c.loop-h.invariant.0.places c.loop-h.invariant.0.tall t₀.0 t₀.1).yes f;
       },
-      c.drop_head.auto.pool ∙ c.loop-h.invariant.1,
-      c.give.auto.map ∙ c.loop-h.invariant.2,
-      sheds_given c.drop_head.ensures.sheds c.loop-h.invariant.3 f (head_fits_2 c).1 c.give.ensures,
+      sheds_given c.drop_head.ensures.sheds c.loop-h.invariant.1 f (under_fits c.loop-h.invariant.0.tall c.loop-h-test.true t₀.0 t₀.1).2 c.give.ensures,
       λ k l os t.
-          let t' = c.loop-h.invariant.4 k l os t in
-          let h = top_child t' c.loop-h-test.true refl c.read_slot-k.ensures _ c.in-Child.is in
+          let t' = c.loop-h.invariant.2 k l os t in
+          let h = top_child t' c.loop-h-test.true refl c.read_slot.ensures _ c.in-Child.is in
           (c.drop_head.ensures.by_index k l os t' h.0 h.1).yes f,
     )
 
-pub returns-in-Held-clause-by_index : goal.returns-in-Held-clause-by_index
-returns-in-Held-clause-by_index c =
+pub returns-in_default-clause-by_index : goal.returns-in_default-clause-by_index
+returns-in_default-clause-by_index c =
     λ k l os t.
-    absurd (top_held (c.loop-h.invariant.4 k l os t) c.loop-h-test.true refl
-    c.read_slot-k.ensures (inl c.in-Held.is))
-
-pub returns-in-Empty-clause-by_index : goal.returns-in-Empty-clause-by_index
-returns-in-Empty-clause-by_index c =
-    λ k l os t.
-    top_empty (c.loop-h.invariant.4 k l os t) c.loop-h-test.true refl
-    c.read_slot-k.ensures c.in-Empty.is
-
-pub returns-in-Sibling-clause-by_index : goal.returns-in-Sibling-clause-by_index
-returns-in-Sibling-clause-by_index c =
-    λ k l os t.
-    absurd (top_sibling (c.loop-h.invariant.4 k l os t) c.loop-h-test.true refl
-    c.read_slot-k.ensures _
-    c.in-Sibling.is)
-
-pub returns-in-Reserved-clause-by_index : goal.returns-in-Reserved-clause-by_index
-returns-in-Reserved-clause-by_index c =
-    λ k l os t.
-    absurd (top_held (c.loop-h.invariant.4 k l os t) c.loop-h-test.true refl
-    c.read_slot-k.ensures (inr c.in-Reserved.is))
+    top_bare (c.loop-h.invariant.2 k l os t) c.loop-h-test.true refl c.read_slot.ensures c.in_default.not-Child
 
 pub returns-clause-by_index : goal.returns-clause-by_index
 returns-clause-by_index c =
-    λ k l os t. tall_flat (c.loop-h.invariant.4 k l os t) (omega (arith, c.loop-h-test.false))
+    λ k l os t. tall_flat (c.loop-h.invariant.2 k l os t) (omega (arith, c.loop-h-test.false))

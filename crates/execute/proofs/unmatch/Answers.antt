@@ -17,7 +17,7 @@ use Rattle.execute.proofs.unmatch.Goals as goal
 pub returns-then-e-eq1-clause-value : goal.returns-then-e-eq1-clause-value
 returns-then-e-eq1-clause-value c =
     let z : bit matched_mark c.args.e.marks ≡ 1 = omega arith in
-    (λ s q. c.as_stored.ensures ∙ unmarked_reply s _ matched_mark (omega arith)
+    (λ s q. unmarked_reply s _ matched_mark (omega arith)
     (present_cleared s.list s.valid c.args.index matched_mark q z) (c.run_remark-r.ensures.executes s))
 
 pub returns-then-e-eq1-clause-pool_after : goal.returns-then-e-eq1-clause-pool_after

@@ -9,8 +9,8 @@ use Rattle.freemap.proofs.take.Goals as goal
 kept : (c : goal.After-slice_known-4-1) → let a = c.args in
     (length c.lower_word.new.map ≡ length a.map.now) × (get_or c.lower_word.new.map map_count 0 ≡ get_or a.map.now map_count 0)
 kept c = let z = c in let M = z.requires.sound.is in (
-  length_kept M z.args.m z.requires.m_lt_map_nodes.0 c.clear_bit.ensures c.lower_word.ensures ∙ sym M.long,
-  count_kept M z.args.m z.requires.m_lt_map_nodes.0 c.clear_bit.ensures c.lower_word.ensures,
+  length_kept M z.args.m z.requires.m_lt_map_nodes.0 c.set_bit.ensures c.lower_word.ensures ∙ sym M.long,
+  count_kept M z.args.m z.requires.m_lt_map_nodes.0 c.set_bit.ensures c.lower_word.ensures,
 )
 
 pub overflow_sub-map : goal.overflow_sub-map
@@ -21,4 +21,4 @@ overflow_sub-map c =
 pub returns : goal.returns
 returns c =
     let r = c in let z = r in
-    λ f M. taken_map M z.args.m z.requires.m_lt_map_nodes.0 z.requires.m_lt_map_nodes.1 r.clear_bit.ensures r.lower_word.ensures
+    λ f M. taken_map M z.args.m z.requires.m_lt_map_nodes.0 z.requires.m_lt_map_nodes.1 r.set_bit.ensures r.lower_word.ensures

@@ -1,10 +1,6 @@
 -- `next_filled`: the least slot of node n from o on, below end, that is not empty.
-use Prim.Native.Nat.{◌-◌, ◌≤◌}
 use Rattle.layout.specs.Reading.{Vacant}
 use Rattle.layout.proofs.next_filled.Given as goal
 
 abbrev pub invariant-loop-j : goal.invariant-loop-j
-invariant-loop-j l = (l.o ≤ l.j) × (l.j ≤ l.end) × Vacant l.pool l.n l.o l.j
-
-abbrev pub decreases-loop-j : goal.decreases-loop-j
-decreases-loop-j l = l.end - l.j
+invariant-loop-j l = Vacant l.pool l.n l.o l.j

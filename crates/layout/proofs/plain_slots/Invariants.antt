@@ -1,10 +1,6 @@
 -- `plain_slots`: whether no slot of node n from one up to another has an internal word.
-use Prim.Native.Nat.{◌-◌, ◌≤◌}
 use Rattle.layout.proofs.PassLaws.{Tested}
 use Rattle.layout.proofs.plain_slots.Given as goal
 
 abbrev pub invariant-loop-o : goal.invariant-loop-o
-invariant-loop-o l = (l.from ≤ l.o) × (l.o ≤ l.end) × Tested l.pool l.n l.from l.o l.inner
-
-abbrev pub decreases-loop-o : goal.decreases-loop-o
-decreases-loop-o l = l.end - l.o
+invariant-loop-o l = Tested l.pool l.n l.from l.o l.inner

@@ -1,5 +1,5 @@
 use Prim.Native.Nat.{ℕ, suc, ◌+◌, ◌*◌, ◌-◌, ◌^◌, ◌≤◌, ◌<◌}
-use mathlib.Core.Path.{◌≡◌, refl, sym, ap, subst, ◌∙◌}
+use mathlib.Core.Path.{◌≡◌, sym, ap, subst, ◌∙◌}
 use mathlib.Core.List.{List, [], ◌∷◌}
 use native.Mathlib.Omega.{arith}
 use Rattle.blocks.specs.Blocks.{block}
@@ -29,15 +29,15 @@ slot_end v c h lt =
 pub visit_node-loop-o-init : goal.visit_node-loop-o-init
 visit_node-loop-o-init t c =
     let a = c.args in
-    (omega arith, refl, λ s. node_begins s.valid a.range.room a.range.first a.range.last a.v a.b _ a.k)
+    λ s. node_begins s.valid a.range.room a.range.first a.range.last a.v a.b _ a.k
 
 pub visit_node-returns-then-z-c : goal.visit_node-returns-then-z-c
 visit_node-returns-then-z-c t c =
     λ s.
     let a = c.args in
     let l = c.loop-o in
-    node_stops s.valid a.range.room a.range.first a.range.last a.v a.b l.o l.invariant.0
-    (subst (λ (x : ℕ). x < slots * a.b + l.o) c.block_of-z.ensures c.if-z-c.true) (l.invariant.2 s)
+    node_stops s.valid a.range.room a.range.first a.range.last a.v a.b l.o l.auto.o-end
+    (subst (λ (x : ℕ). x < slots * a.b + l.o) c.block_of-z.ensures c.if-z-c.true) (l.invariant s)
 
 pub visit_node-visit_slot-at-requires : goal.visit_node-visit_slot-at-requires
 visit_node-visit_slot-at-requires t c =
@@ -52,9 +52,9 @@ visit_node-visit_slot-at-requires t c =
           (
             omega (arith, c.block_of-z.ensures, c.if-z-c.false),
             (
-              (p.last_bound.0, omega (arith, p.last_bound.1, l.invariant.1)),
+              (p.last_bound.0, omega (arith, p.last_bound.1, l.auto.buffer)),
               λ s. slot_ready s.valid a.range.room a.range.first a.range.last a.v a.b (num s) a.n l.o
-                  c.loop-o-test.true (p.ready s) (l.invariant.2 s),
+                  c.loop-o-test.true (p.ready s) (l.invariant s),
             ),
           ),
         ),
@@ -64,12 +64,9 @@ visit_node-visit_slot-at-requires t c =
 pub visit_node-loop-o-preserved : goal.visit_node-loop-o-preserved
 visit_node-loop-o-preserved t c =
     let a = c.args in
-    let l = c.loop-o in (
-      omega (arith, c.loop-o-test.true),
-      omega (arith, l.invariant.1, c.visit_slot-at.auto.buffer),
-      λ s. node_goes_on s.valid a.range.room a.range.first a.range.last a.v a.b l.o (l.invariant.2 s)
-          (c.visit_slot-at.ensures s),
-    )
+    let l = c.loop-o in
+    λ s. node_goes_on s.valid a.range.room a.range.first a.range.last a.v a.b l.o (l.invariant s)
+    (c.visit_slot-at.ensures s)
 
 pub visit_node-returns : goal.visit_node-returns
 visit_node-returns t c =
@@ -77,7 +74,7 @@ visit_node-returns t c =
     let a = c.args in
     let l = c.loop-o in
     node_ends s.valid a.range.room a.range.first a.range.last a.v a.b l.o
-    (omega (arith, l.invariant.0, c.loop-o-test.false)) (l.invariant.2 s)
+    (omega (arith, l.auto.o-end, c.loop-o-test.false)) (l.invariant s)
 
 pub visit_slot-look-seen-requires-clause-at_node : goal.visit_slot-look-seen-requires-clause-at_node
 visit_slot-look-seen-requires-clause-at_node t c =

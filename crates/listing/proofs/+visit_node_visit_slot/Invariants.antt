@@ -1,5 +1,5 @@
 -- `visit_node` and `visit_slot`, which call each other: the entries that start in a node's block, slot by slot.
-use Rattle.std.proofs.Common.{◌≡◌, ◌+◌, ◌*◌, ◌-◌, ◌^◌, ◌≤◌, suc, length}
+use Rattle.std.proofs.Common.{◌+◌, ◌*◌, ◌^◌, suc}
 use Rattle.tree.specs.Tree.{slots, tier_order}
 use Rattle.layout.specs.WellFormed.{WellFormed}
 use Rattle.listing.specs.Listing.{listed}
@@ -14,9 +14,6 @@ decreases-visit_slot l = l.v * 2
 
 abbrev pub invariant-visit_node-loop-o : goal.invariant-visit_node-loop-o
 invariant-visit_node-loop-o l =
-    (l.o ≤ slots) × (length l.buffer ≡ length l.initial.buffer) × ((s : WellFormed l.pool) → Emits l.range.room
+    (s : WellFormed l.pool) → Emits l.range.room
     (listed (between s.list (l.b * 2 ^ tier_order (suc l.v)) ((slots * l.b + l.o) * 2 ^ tier_order l.v)) l.range.first l.range.last)
-    l.initial.buffer l.k l.buffer l.at)
-
-abbrev pub decreases-visit_node-loop-o : goal.decreases-visit_node-loop-o
-decreases-visit_node-loop-o l = slots - l.o
+    l.initial.buffer l.k l.buffer l.at

@@ -12,11 +12,11 @@ use Rattle.listing.proofs.offer.Goals as goal
 met : (c : goal.Then-range-k) → meets c.args.range.first c.args.range.last
     c.args.e ≡ true
 met c =
-    let lo : c.args.e.base ≤ c.args.range.last = omega (arith, c.if-range-base.false) in
+    let lo : c.args.e.base ≤ c.args.range.last = omega (arith, c.if-range-e.false) in
     let hi : c.args.range.first < c.args.e.base + 2 ^ c.args.e.order = omega (
       arith,
       c.pow2.ensures,
-      c.if-base-pow2.false,
+      c.if-e-pow2.false,
       pow_pos c.args.e.order,
     ) in
     meets_i c.args.range.first c.args.range.last c.args.e lo hi
@@ -24,33 +24,33 @@ met c =
 met_2 : (c : goal.After-slice_known-2-1) → meets c.args.range.first c.args.range.last
     c.args.e ≡ true
 met_2 c =
-    let lo : c.args.e.base ≤ c.args.range.last = omega (arith, c.if-range-base.false) in
+    let lo : c.args.e.base ≤ c.args.range.last = omega (arith, c.if-range-e.false) in
     let hi : c.args.range.first < c.args.e.base + 2 ^ c.args.e.order = omega (
       arith,
       c.pow2.ensures,
-      c.if-base-pow2.false,
+      c.if-e-pow2.false,
       pow_pos c.args.e.order,
     ) in
     meets_i c.args.range.first c.args.range.last c.args.e lo hi
 
-ended : (c : goal.Then-base-pow2) → meets c.args.range.first c.args.range.last
+ended : (c : goal.Then-e-pow2) → meets c.args.range.first c.args.range.last
     c.args.e ≡ false
 ended c =
     let le : c.args.e.base + 2 ^ c.args.e.order ≤ c.args.range.first = omega (
       arith,
       c.pow2.ensures,
-      c.if-base-pow2.true,
+      c.if-e-pow2.true,
       pow_pos c.args.e.order,
     ) in
     before_no c.args.range.first c.args.range.last c.args.e le
 
-pub returns-then-range-base : goal.returns-then-range-base
-returns-then-range-base c =
+pub returns-then-range-e : goal.returns-then-range-e
+returns-then-range-e c =
     offered_no c.args.range.room c.args.range.first c.args.range.last c.args.e _ c.args.k
-    (beyond_no c.args.range.first c.args.range.last c.args.e c.if-range-base.true)
+    (beyond_no c.args.range.first c.args.range.last c.args.e c.if-range-e.true)
 
-pub returns-then-base-pow2 : goal.returns-then-base-pow2
-returns-then-base-pow2 c =
+pub returns-then-e-pow2 : goal.returns-then-e-pow2
+returns-then-e-pow2 c =
     offered_no c.args.range.room c.args.range.first c.args.range.last c.args.e _ c.args.k (ended c)
 
 pub returns-then-range-k : goal.returns-then-range-k

@@ -1,5 +1,4 @@
 -- `look`: what the slot of node n towards p shows.
-use mathlib.Core.Logic.{inl, inr}
 use Rattle.lookup.proofs.WayLaws.{sees_0, sees_1, sees_2, sees_3, fits_2}
 use Rattle.lookup.proofs.look.Goals as goal
 
@@ -18,15 +17,10 @@ returns-in-Empty c =
     λ s. sees_0 s _ (c.requires.at_node s) (c.reach-r.ensures.view s)
     _ c.reach-r.ensures.block_value c.in-Empty.is
 
-pub returns-in-Reserved : goal.returns-in-Reserved
-returns-in-Reserved c =
-    λ s. sees_1 s _ (c.requires.at_node s)
-    (c.reach-r.ensures.view s) _ c.reach-r.ensures.block_value (inr c.in-Reserved.is)
-
 pub returns-in-Held : goal.returns-in-Held
 returns-in-Held c =
     λ s. sees_1 s _ (c.requires.at_node s)
-    (c.reach-r.ensures.view s) _ c.reach-r.ensures.block_value (inl c.in-Held.is)
+    (c.reach-r.ensures.view s) _ c.reach-r.ensures.block_value c.in-Held.is
 
 pub returns-in-Sibling : goal.returns-in-Sibling
 returns-in-Sibling c =

@@ -7,7 +7,7 @@ use Prim.Native.Nat.{ℕ}
 use Rattle.blocks.proofs.BoolLaws.{clash}
 use Rattle.model.specs.declared.Entry.{Entry}
 use Rattle.model.specs.Model.{reserved, covering, present}
-use Rattle.lookup.proofs.HeadLaws.{at_apart, at_vacant, at_head, at_spot}
+use Rattle.lookup.proofs.HeadLaws.{at_none, at_head, at_spot}
 use Rattle.marks.proofs.RemarkLaws.{words_absent, head_mark, answer_none, answer_some}
 use Rattle.marks.proofs.set_mark.Goals as goal
 
@@ -57,23 +57,11 @@ climb-requires-clause-stands_at c =
 
 pub returns-in-Apart-clause-value : goal.returns-in-Apart-clause-value
 returns-in-Apart-clause-value c =
-    (λ s. let (q, d) = at_apart (c.locate-k.ensures s) c.in-Apart.is in
-    answer_none s.list c.args.i c.args.m c.args.on s.valid (rw q refl))
+    λ s. answer_none s.list c.args.i c.args.m c.args.on s.valid (rw (at_none (c.locate-k.ensures s) c.in-Apart.is) refl)
 
 pub returns-in-Apart-clause-pool_after : goal.returns-in-Apart-clause-pool_after
 returns-in-Apart-clause-pool_after c =
-    λ s. let (q, d) = at_apart (c.locate-k.ensures s) c.in-Apart.is in
-    words_absent s c.args.i c.args.m c.args.on (rw q refl)
-
-pub returns-in-Vacant-clause-value : goal.returns-in-Vacant-clause-value
-returns-in-Vacant-clause-value c =
-    (λ s. let (t, q, b, le, d) = at_vacant _ _ _ (c.locate-k.ensures s) c.in-Vacant.is in
-    answer_none s.list c.args.i c.args.m c.args.on s.valid (rw q refl))
-
-pub returns-in-Vacant-clause-pool_after : goal.returns-in-Vacant-clause-pool_after
-returns-in-Vacant-clause-pool_after c =
-    λ s. let (t, q, b, le, d) = at_vacant _ _ _ (c.locate-k.ensures s) c.in-Vacant.is in
-    words_absent s c.args.i c.args.m c.args.on (rw q refl)
+    λ s. words_absent s c.args.i c.args.m c.args.on (rw (at_none (c.locate-k.ensures s) c.in-Apart.is) refl)
 
 pub returns-else-is_reserved-clause-value : goal.returns-else-is_reserved-clause-value
 returns-else-is_reserved-clause-value c =

@@ -1,12 +1,7 @@
 -- `shorts_of`: the short numbers for the words of a node's slots.
-use Prim.Native.Nat.{◌-◌, ◌≤◌}
 use Rattle.layout.specs.Pool.{pool_of}
-use Rattle.tree.specs.Tree.{slots}
 use Rattle.passes.specs.Bytes.{Shorts}
 use Rattle.passes.proofs.shorts_of.Given as goal
 
 abbrev pub invariant-loop-j : goal.invariant-loop-j
-invariant-loop-j l = (l.j ≤ slots) × Shorts (pool_of l.pool) l.n l.j l.s
-
-abbrev pub decreases-loop-j : goal.decreases-loop-j
-decreases-loop-j l = slots - l.j
+invariant-loop-j l = Shorts (pool_of l.pool) l.n l.j l.s

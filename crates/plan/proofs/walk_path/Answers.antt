@@ -1,4 +1,4 @@
-use Prim.Native.Nat.{ℕ, ◌-◌, ◌/◌, ◌%◌, ◌^◌}
+use Prim.Native.Nat.{ℕ, ◌+◌, ◌-◌, ◌/◌, ◌%◌, ◌^◌}
 use mathlib.Core.Path.{◌≡◌, sym, ap, ◌∙◌}
 use mathlib.Core.List.{List}
 use native.Mathlib.Omega.{arith}
@@ -21,55 +21,29 @@ read pool s i v h {u} {n} a w k e d = d ∙ (ap (λ (y : ℕ). get_or pool (slot
 
 pub slot_word-w-requires : goal.slot_word-w-requires
 slot_word-w-requires c =
-    let s₀ = c.requires.well_formed in
-    let h = walk_lt s₀ c.args.index
-    c.args.v c.args.h
-    (c.loop-u.invariant.3 s₀) in omega (arith, pool_length_lem s₀)
+    let s = c.requires.well_formed in
+    omega (arith, walk_lt s c.args.index c.args.v c.args.h (c.loop-u.invariant s), pool_length_lem s)
 
 pub returns-then-not-is_node : goal.returns-then-not-is_node
 returns-then-not-is_node c =
-    λ s. walk_stop s c.args.index
-    c.args.v
-    c.args.h
-    (c.loop-u.invariant.3 s) c.slot_word-w.result
-    (read _ s c.args.index
-    c.args.v
-    c.args.h
-    c.block_of.result c.slot_word-w.result
-    (c.loop-u.invariant.3 s) c.block_of.ensures
-    c.slot_word-w.ensures) (sym c.is_node.ensures ∙ c.if-not-is_node.true)
+    let e : c.loop-u.u - 1 + 1 ≡ c.loop-u.u = omega arith in
+    λ s. rw e (walk_stop s c.args.index c.args.v c.args.h (c.loop-u.invariant s) c.slot_word-w.result
+    (read _ s c.args.index c.args.v c.args.h c.block_of.result c.slot_word-w.result (c.loop-u.invariant s)
+    c.block_of.ensures c.slot_word-w.ensures) (sym c.is_node.ensures ∙ c.if-not-is_node.true))
 
 pub loop-u-preserved : goal.loop-u-preserved
 loop-u-preserved c =
-    let k = length-set c.args.path.now
-    c.args.h
-    c.args.first in (
-      omega (arith, c.loop-u-test.true),
-      omega (arith, c.loop-u.invariant.1),
-      length-set c.loop-u.path _ _ ∙ c.loop-u.invariant.2,
-      λ s. walk_next s c.args.index
-          c.args.v
-          c.args.h
-          (c.loop-u.invariant.3 s) c.slot_word-w.result
-          (read _ s c.args.index
-          c.args.v
-          c.args.h
-          c.block_of.result c.slot_word-w.result
-          (c.loop-u.invariant.3 s) c.block_of.ensures
-          c.slot_word-w.ensures) (sym c.is_node.ensures ∙ c.if-not-is_node.false)
-          (omega (arith, c.loop-u-test.true))
-          (omega (
-            arith,
-            c.loop-u.invariant.2,
-            c.loop-u.invariant.1,
-            c.requires.v_lt_h,
-          ))
-          (c.requires.h_value s).0 _
-          c.node_number-n.ensures,
-    )
+    λ s. walk_next s c.args.index c.args.v c.args.h (c.loop-u.invariant s) c.slot_word-w.result
+    (read _ s c.args.index c.args.v c.args.h c.block_of.result c.slot_word-w.result (c.loop-u.invariant s)
+    c.block_of.ensures c.slot_word-w.ensures) (sym c.is_node.ensures ∙ c.if-not-is_node.false)
+    (omega (arith, c.loop-u-test.true))
+    (omega (arith, c.loop-u.auto.path, length-set c.args.path.now c.args.h c.args.first, c.loop-u.auto.u, c.requires.v_lt_h))
+    (c.requires.h_value s).0 _
+    c.node_number-n.ensures
 
 pub returns : goal.returns
 returns c =
-    λ s. walk_end s c.args.index
-    c.args.v c.args.h
-    (c.loop-u.invariant.3 s) (omega (arith, c.loop-u-test.false))
+    λ s.
+    let k = c.loop-u.invariant s in
+    let e : c.loop-u.u ≡ c.args.v + 1 = omega (arith, k.low_u) in
+    rw (← e) (walk_end s c.args.index c.args.v c.args.h k (omega arith))

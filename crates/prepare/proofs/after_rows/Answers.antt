@@ -2,14 +2,14 @@
 use Rattle.prepare.proofs.AfterLaws.{after_erased, after_edited}
 use Rattle.prepare.proofs.after_rows.Goals as goal
 
-pub returns-then-erase : goal.returns-then-erase
-returns-then-erase c =
+pub returns-in-None : goal.returns-in-None
+returns-in-None c =
     λ s ws' a.
-    after_erased s c.if-erase.true
+    after_erased s c.in-None.is
     (λ l x v. c.erased_rows.ensures s l x v) a
 
-pub returns : goal.returns
-returns c =
+pub returns-in-Some : goal.returns-in-Some
+returns-in-Some c =
     λ s ws' a.
-    after_edited s c.if-erase.false
+    after_edited s c.in-Some.is
     (λ o l x. c.entry_rows.ensures s o l x) a

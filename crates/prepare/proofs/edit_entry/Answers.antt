@@ -14,13 +14,13 @@ entry_script-requires-clause-after_there c =
     record {
       formed = c.requires.edited.formed;
       words = render c.requires.edited.list c.requires.edited.formed.places c.requires.edited.formed.n;
-      after = edited c.requires.edited.option c.requires.edited.list c.requires.edited.stays;
+      after = edited _ c.requires.edited.option c.requires.edited.list c.requires.edited.stays;
     }
 
 pub returns-clause-fact : goal.returns-clause-fact
 returns-clause-fact c =
-    λ s o l st. c.entry_script.ensures.fact s (render l s.places s.n) (edited o l st)
+    λ s o l st. c.entry_script.ensures.fact s (render l s.places s.n) (edited _ o l st)
 
 pub returns-clause-fact_2 : goal.returns-clause-fact_2
 returns-clause-fact_2 c =
-    λ s o l st. c.entry_script.ensures.fact_2 s (render l s.places s.n) (edited o l st)
+    λ s o l st. c.entry_script.ensures.fact_2 s (render l s.places s.n) (edited _ o l st)

@@ -16,3 +16,7 @@ returns-clause-fact c =
 pub returns-clause-fact_2 : goal.returns-clause-fact_2
 returns-clause-fact_2 c =
     λ s ws' a. c.yield_table.ensures.fact_2 s ws' (c.after_rows.ensures s ws' a)
+
+pub after_rows-requires-clause-entry_there : goal.after_rows-requires-clause-entry_there
+after_rows-requires-clause-entry_there c =
+    λ s. rw (c.height_of-top.ensures s) (c.requires.entry_there s)

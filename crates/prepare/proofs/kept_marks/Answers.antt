@@ -15,7 +15,7 @@ returns-then-heads c =
 pub returns-then-starts_at_0 : goal.returns-then-starts_at_0
 returns-then-starts_at_0 c =
     λ s. planned_whole s (c.requires.path_planned s) c.if-heads.false (sym c.starts_at_0.ensures ∙ c.if-starts_at_0.true)
-    c.requires.marks_value.0 c.with_bit.ensures
+    c.requires.marks_value c.with_bit.ensures
 
 pub returns : goal.returns
 returns c =

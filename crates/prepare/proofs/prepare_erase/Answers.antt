@@ -1,6 +1,8 @@
+use Rattle.answers.proofs.ReportLaws.{of_refused}
+use Rattle.std.proofs.Common.{refl}
 use Rattle.answers.specs.Answers.{absent}
-use Rattle.lookup.proofs.HeadLaws.{at_apart, at_vacant, at_head, at_spot}
-use Rattle.prepare.proofs.PrepareLaws.{gives_refused}
+use Rattle.lookup.proofs.HeadLaws.{at_head, at_spot}
+use Rattle.prepare.proofs.PrepareLaws.{gives_refused, uncovered}
 use Rattle.prepare.proofs.EraseLaws.{erase_refused}
 use Rattle.prepare.proofs.prepare_erase.Goals as goal
 
@@ -14,20 +16,10 @@ erase_entry-requires-in-InNode-clause-i_value c =
 
 pub returns-in-Apart-clause-fact : goal.returns-in-Apart-clause-fact
 returns-in-Apart-clause-fact c =
-    λ s. let (q, d) = at_apart (c.locate-k.ensures s) c.in-Apart.is in
-    (gives_refused absent c.refusal.ensures (erase_refused s c.args.out.now c.args.i q)).result_is
+    λ s. let q = uncovered (c.locate-k.ensures s) c.in-Apart.is in
+    (gives_refused absent (of_refused _ c.from.ensures refl) (erase_refused s c.args.out.now c.args.i q)).result_is
 
 pub returns-in-Apart-clause-fact_2 : goal.returns-in-Apart-clause-fact_2
 returns-in-Apart-clause-fact_2 c =
-    λ s. let (q, d) = at_apart (c.locate-k.ensures s) c.in-Apart.is in
-    (gives_refused absent c.refusal.ensures (erase_refused s c.args.out.now c.args.i q)).slice_is
-
-pub returns-in-Vacant-clause-fact : goal.returns-in-Vacant-clause-fact
-returns-in-Vacant-clause-fact c =
-    λ s. let (t, q, b, le, d) = at_vacant _ _ _ (c.locate-k.ensures s) c.in-Vacant.is in
-    (gives_refused absent c.refusal-in-Vacant.ensures (erase_refused s c.args.out.now c.args.i q)).result_is
-
-pub returns-in-Vacant-clause-fact_2 : goal.returns-in-Vacant-clause-fact_2
-returns-in-Vacant-clause-fact_2 c =
-    λ s. let (t, q, b, le, d) = at_vacant _ _ _ (c.locate-k.ensures s) c.in-Vacant.is in
-    (gives_refused absent c.refusal-in-Vacant.ensures (erase_refused s c.args.out.now c.args.i q)).slice_is
+    λ s. let q = uncovered (c.locate-k.ensures s) c.in-Apart.is in
+    (gives_refused absent (of_refused _ c.from.ensures refl) (erase_refused s c.args.out.now c.args.i q)).slice_is

@@ -1,3 +1,5 @@
+use Rattle.answers.proofs.ReportLaws.{of_refused}
+use Rattle.std.proofs.Common.{refl}
 use mathlib.Core.Path.{sym, ◌∙◌}
 use native.Mathlib.Omega.{arith}
 use Rattle.answers.specs.Answers.{too_few_nodes}
@@ -21,13 +23,13 @@ returns-then-heads-eq0-clause-fact_2 c =
 pub returns-then-not-enough-clause-fact : goal.returns-then-not-enough-clause-fact
 returns-then-not-enough-clause-fact c =
     let no = c.if-not-enough.true in
-    λ s. (gives_refused too_few_nodes c.refusal.ensures (target_short s c.requires.storable.0 c.requires.storable.1 c.args.out.now (c.requires.list_value s)
+    λ s. (gives_refused too_few_nodes (of_refused _ c.from.ensures refl) (target_short s c.requires.storable.0 c.requires.storable.1 c.args.out.now (c.requires.list_value s)
     ((c.plan-enough.ensures s).short no))).result_is
 
 pub returns-then-not-enough-clause-fact_2 : goal.returns-then-not-enough-clause-fact_2
 returns-then-not-enough-clause-fact_2 c =
     let no = c.if-not-enough.true in
-    λ s. (gives_refused too_few_nodes c.refusal.ensures (target_short s c.requires.storable.0 c.requires.storable.1 c.args.out.now (c.requires.list_value s)
+    λ s. (gives_refused too_few_nodes (of_refused _ c.from.ensures refl) (target_short s c.requires.storable.0 c.requires.storable.1 c.args.out.now (c.requires.list_value s)
     ((c.plan-enough.ensures s).short no))).slice_is
 
 pub new_script-requires-clause-new_planned : goal.new_script-requires-clause-new_planned

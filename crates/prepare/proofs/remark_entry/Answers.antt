@@ -1,3 +1,5 @@
+use Rattle.answers.proofs.ReportLaws.{of_refused}
+use Rattle.std.proofs.Common.{refl}
 use mathlib.Core.Path.{◌≡◌, sym, ◌∙◌}
 use mathlib.Core.Bool.{true, false}
 use Rattle.answers.specs.Answers.{absent}
@@ -9,13 +11,13 @@ use Rattle.prepare.proofs.remark_entry.Goals as goal
 pub returns-then-is_reserved-clause-fact : goal.returns-then-is_reserved-clause-fact
 returns-then-is_reserved-clause-fact c =
     let t : reserved c.args.e ≡ true = sym c.is_reserved.ensures ∙ c.if-is_reserved.true in
-    λ s. (gives_refused absent c.refusal.ensures (remark_none s c.args.out.now c.args.i c.args.m
+    λ s. (gives_refused absent (of_refused _ c.from.ensures refl) (remark_none s c.args.out.now c.args.i c.args.m
     c.args.on c.requires.m_lt_mark_count (absent_at s.list c.args.i (c.requires.i_value s).0 t))).result_is
 
 pub returns-then-is_reserved-clause-fact_2 : goal.returns-then-is_reserved-clause-fact_2
 returns-then-is_reserved-clause-fact_2 c =
     let t : reserved c.args.e ≡ true = sym c.is_reserved.ensures ∙ c.if-is_reserved.true in
-    λ s. (gives_refused absent c.refusal.ensures (remark_none s c.args.out.now c.args.i c.args.m
+    λ s. (gives_refused absent (of_refused _ c.from.ensures refl) (remark_none s c.args.out.now c.args.i c.args.m
     c.args.on c.requires.m_lt_mark_count (absent_at s.list c.args.i (c.requires.i_value s).0 t))).slice_is
 
 pub edit_entry-requires-clause-entry_there : goal.edit_entry-requires-clause-entry_there

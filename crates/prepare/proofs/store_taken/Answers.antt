@@ -1,14 +1,11 @@
 use Rattle.tree.proofs.ReadLaws.{over_none}
-use Rattle.lookup.proofs.HeadLaws.{at_apart, at_vacant, at_head, at_spot}
+use Rattle.lookup.proofs.HeadLaws.{at_head, at_spot}
+use Rattle.prepare.proofs.PrepareLaws.{uncovered}
 use Rattle.prepare.proofs.store_taken.Goals as goal
 
 pub prepare_new-requires-clause-list_value : goal.prepare_new-requires-clause-list_value
 prepare_new-requires-clause-list_value c =
-    λ s. let (q, d) = at_apart (c.locate-k.ensures s) c.in-Apart.is in over_none s.list _ _ q
-
-pub prepare_new-requires-in-Vacant-clause-list_value : goal.prepare_new-requires-in-Vacant-clause-list_value
-prepare_new-requires-in-Vacant-clause-list_value c =
-    λ s. let (t, q, b, le, d) = at_vacant _ _ _ (c.locate-k.ensures s) c.in-Vacant.is in over_none s.list _ _ q
+    λ s. over_none s.list _ _ (uncovered (c.locate-k.ensures s) c.in-Apart.is)
 
 pub store_over-requires-clause-index_value : goal.store_over-requires-clause-index_value
 store_over-requires-clause-index_value c =

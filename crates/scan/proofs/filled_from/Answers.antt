@@ -2,11 +2,11 @@ use Prim.Native.Nat.{ℕ}
 use mathlib.Core.Path.{◌∙◌, ap}
 use native.Mathlib.Omega.{arith}
 use lib.Dec.{eqb}
-use Rattle.blocks.specs.Choice.{pick}
-use Rattle.scan.proofs.FilledLaws.{told_next}
+use Rattle.std.specs.Int.{from_bool}
+use Rattle.scan.proofs.FilledLaws.{told_down}
 use Rattle.scan.proofs.filled_from.Goals as goal
 
-pub loop-t-preserved : goal.loop-t-preserved
-loop-t-preserved c =
-    told_next _ _ _ _ _ _ c.loop-t.invariant (omega arith)
-    (c.is_zero.ensures ∙ ap (λ (w : ℕ). pick (eqb w 0) 1 0) c.slot_word.ensures)
+pub loop-j-preserved : goal.loop-j-preserved
+loop-j-preserved c =
+    told_down _ _ _ _ _ _ c.loop-j.invariant (omega arith) (omega arith)
+    (c.from.ensures ∙ ap (λ (w : ℕ). from_bool (eqb w 0)) c.slot_word.ensures)

@@ -4,8 +4,5 @@ use Rattle.layout.specs.Pool.{pool_of}
 use Rattle.scan.proofs.FilledLaws.{Told}
 use Rattle.scan.proofs.filled_from.Given as goal
 
-abbrev pub invariant-loop-t : goal.invariant-loop-t
-invariant-loop-t l = Told (pool_of l.pool) l.n l.from l.t l.f
-
-abbrev pub decreases-loop-t : goal.decreases-loop-t
-decreases-loop-t l = 16 - l.t
+abbrev pub invariant-loop-j : goal.invariant-loop-j
+invariant-loop-j l = Told (pool_of l.pool) l.n l.from (16 - l.j) l.f

@@ -22,48 +22,41 @@ returns-then-o-eq-SLOTS c =
 
 pub returns-then-not-child_ok : goal.returns-then-not-child_ok
 returns-then-not-child_ok c =
-    let r = c in
-    let e = r in
     no! (λ s. child_bad _ _ _ _ _
-    (sym (ap slot_of r.slot_word.ensures) ∙ sym r.read_slot-s.ensures ∙ c.in-Child.is)
-    (omega (arith, e.next_marked-o.ensures.most))
+    (sym (ap slot_of c.slot_word.ensures) ∙ sym c.read_slot.ensures ∙ c.in-Child.is)
+    (omega (arith, c.next_marked-o.ensures.most))
     (c.child_ok.ensures.1 c.if-not-child_ok.true) s.slots_ok_lem)
 
 pub loop-j-preserved-in-Child : goal.loop-j-preserved-in-Child
 loop-j-preserved-in-Child c =
-    let r = c in
-    let e = r in
-    let g = tallied_past _ _ _ _ _ e.filled_slots-f.ensures
-    e.all_marks-m.ensures _ _ _ e.loop-j.invariant
-    (among_clear _ _ (omega arith) e.if-f-m-ne0.false) e.next_marked-o.ensures in
-    tallied_leap _ _ _ _ _ e.filled_slots-f.ensures e.all_marks-m.ensures _ _ _ _ g
-    e.next_marked-o.ensures (omega (arith, g.gone.inside))
+    let g = tallied_past _ _ _ _ _ c.filled_slots-f.ensures
+    c.all_marks-m.ensures _ _ _ c.loop-j.invariant
+    (among_clear _ _ (omega arith) c.if-f-m-ne0.false) c.next_marked-o.ensures in
+    tallied_leap _ _ _ _ _ c.filled_slots-f.ensures c.all_marks-m.ensures _ _ _ _ g
+    c.next_marked-o.ensures (omega (arith, g.gone.inside))
     (step_child _ _ _ _ _
-    (sym (ap slot_of r.slot_word.ensures) ∙ sym r.read_slot-s.ensures ∙ c.in-Child.is)
+    (sym (ap slot_of c.slot_word.ensures) ∙ sym c.read_slot.ensures ∙ c.in-Child.is)
     (omega (arith, g.gone.inside)) g.gone.past (c.child_ok.ensures.0 c.if-not-child_ok.false))
-    (λ z. omega (arith, z))
 
-pub step-p-requires : goal.step-p-requires
-step-p-requires c =
-    let e = c in
-    let g = tallied_past _ _ _ _ _ e.filled_slots-f.ensures
-    e.all_marks-m.ensures _ _ _ e.loop-j.invariant
-    (among_clear _ _ (omega arith) e.if-f-m-ne0.false) e.next_marked-o.ensures in
+pub step-requires : goal.step-requires
+step-requires c =
+    let g = tallied_past _ _ _ _ _ c.filled_slots-f.ensures
+    c.all_marks-m.ensures _ _ _ c.loop-j.invariant
+    (among_clear _ _ (omega arith) c.if-f-m-ne0.false) c.next_marked-o.ensures in
     record {
-      fact_1 = ((e)).requires.fact_1;
+      fact_1 = c.requires.fact_1;
       fact_2 = (omega (arith, g.gone.inside), omega arith);
-      fact_3 = e.all_marks-m.ensures;
+      fact_3 = c.all_marks-m.ensures;
       fact_4 = g.gone.past;
     }
 
 pub loop-j-preserved : goal.loop-j-preserved
 loop-j-preserved c =
-    let e = c in
-    let g = tallied_past _ _ _ _ _ e.filled_slots-f.ensures
-    e.all_marks-m.ensures _ _ _ e.loop-j.invariant
-    (among_clear _ _ (omega arith) e.if-f-m-ne0.false) e.next_marked-o.ensures in
-    tallied_leap _ _ _ _ _ e.filled_slots-f.ensures e.all_marks-m.ensures _ _ _ _ g
-    e.next_marked-o.ensures (omega (arith, g.gone.inside)) c.step-p.ensures c.if-p-eq0.false
+    let g = tallied_past _ _ _ _ _ c.filled_slots-f.ensures
+    c.all_marks-m.ensures _ _ _ c.loop-j.invariant
+    (among_clear _ _ (omega arith) c.if-f-m-ne0.false) c.next_marked-o.ensures in
+    tallied_leap _ _ _ _ _ c.filled_slots-f.ensures c.all_marks-m.ensures _ _ _ _ g
+    c.next_marked-o.ensures (omega (arith, g.gone.inside)) c.in-Some.ensures
 
 pub returns : goal.returns
 returns c =

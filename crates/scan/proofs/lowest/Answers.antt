@@ -1,7 +1,8 @@
 -- `lowest`: the lowest bit of w that is set, all others cleared.
-use Rattle.scan.proofs.TallyLaws.{lowest_of}
+use native.Mathlib.Omega.{arith}
+use Rattle.scan.proofs.TallyLaws.{lowest_by}
 use Rattle.scan.proofs.lowest.Goals as goal
 
 pub returns : goal.returns
 returns c =
-    lowest_of c.args.w c.ranges.w.fits c.if-w-eq0.false
+    lowest_by c.args.w c.wrapping_neg.result c.ranges.w.fits (omega arith) c.wrapping_neg.ensures

@@ -12,20 +12,17 @@ returns-then-k-eq0 c =
     no! (node_no _ _ _ _ c.shift_of-s.ensures c.if-s-eq0.false refl (λ l. l)
     (λ l. used_count (pool_of c.args.pool.now) c.args.n l.used (sym l.filled_is ∙ (sym c.filled_of-k.ensures ∙ c.if-k-eq0.true))))
 
-pub returns-then-c-gt-SLOTS : goal.returns-then-c-gt-SLOTS
-returns-then-c-gt-SLOTS c =
-    let E = c in
-    node_yes _ _ _ _ E.shift_of-s.ensures E.if-s-eq0.false refl _ _
-    E.if-s-ne0.false (omega arith)
-    (E.owned.ensures.0 E.if-not-owned.false)
-    E.filled_of-k.ensures (filled_used _ _ _ _ E.if-k-eq0.false) c.slots_ok.ensures
+pub returns-in_default : goal.returns-in_default
+returns-in_default c =
+    node_yes _ _ _ _ c.shift_of-s.ensures c.if-s-eq0.false refl _ _
+    c.if-s-ne0.false (omega arith)
+    (c.owned.ensures.0 c.if-not-owned.false)
+    c.filled_of-k.ensures (filled_used _ _ _ _ c.if-k-eq0.false) c.slots_ok.ensures
 
-pub returns : goal.returns
-returns c =
-    let E = c in
-    node_yes _ _ _ _ E.shift_of-s.ensures E.if-s-eq0.false refl _ _
-    E.if-s-ne0.false (omega arith)
-    (E.owned.ensures.0 E.if-not-owned.false)
-    E.filled_of-k.ensures (filled_used _ _ _ _ E.if-k-eq0.false)
-    (plain_slots_lem _ _ _ _ _ _ c.plain_filled-c.ensures (omega arith)
-    (omega arith) c.plain_ok.ensures)
+pub returns-then-c-k : goal.returns-then-c-k
+returns-then-c-k c =
+    node_yes _ _ _ _ c.shift_of-s.ensures c.if-s-eq0.false refl _ _
+    c.if-s-ne0.false (omega arith)
+    (c.owned.ensures.0 c.if-not-owned.false)
+    c.filled_of-k.ensures (filled_used _ _ _ _ c.if-k-eq0.false)
+    (plain_slots_lem _ _ _ _ _ _ c.in-Some.ensures (omega arith) c.plain_ok.ensures)

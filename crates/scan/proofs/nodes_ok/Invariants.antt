@@ -1,7 +1,5 @@
 -- `nodes_ok`: whether each node is free or as it must be, and the map of the free ones.
-use Prim.Native.Nat.{ℕ, ◌-◌, ◌≤◌, ◌<◌}
-use lib.ListN.{get_or}
-use Rattle.layout.specs.Words.{count_word}
+use Prim.Native.Nat.{ℕ, ◌<◌}
 use Rattle.layout.specs.Pool.{pool_of}
 use Rattle.freemap.specs.FreeMap.{MapOf}
 use Rattle.freenodes.specs.FreeNodes.{free_to}
@@ -9,8 +7,5 @@ use Rattle.local.specs.Local.{NodeOk}
 use Rattle.scan.proofs.nodes_ok.Given as goal
 
 abbrev pub invariant-loop-n : goal.invariant-loop-n
-invariant-loop-n l = (l.n ≤ get_or l.pool count_word 0) × ((k : ℕ) → k < l.n → NodeOk (pool_of l.pool) k) ×
+invariant-loop-n l = ((k : ℕ) → k < l.n → NodeOk (pool_of l.pool) k) ×
     MapOf (free_to l.n l.pool) l.map
-
-abbrev pub decreases-loop-n : goal.decreases-loop-n
-decreases-loop-n l = get_or l.pool count_word 0 - l.n

@@ -1,12 +1,7 @@
 -- `none_used`: whether every node is free, where each node is free or as it must be.
-use Prim.Native.Nat.{ℕ, ◌-◌, ◌≤◌, ◌<◌}
-use lib.ListN.{get_or}
-use Rattle.layout.specs.Words.{count_word}
+use Prim.Native.Nat.{ℕ, ◌<◌}
 use Rattle.layout.specs.Pool.{pool_of, Free}
 use Rattle.scan.proofs.none_used.Given as goal
 
 abbrev pub invariant-loop-n : goal.invariant-loop-n
-invariant-loop-n l = (l.n ≤ get_or l.pool count_word 0) × ((k : ℕ) → k < l.n → Free (pool_of l.pool) k)
-
-abbrev pub decreases-loop-n : goal.decreases-loop-n
-decreases-loop-n l = get_or l.pool count_word 0 - l.n
+invariant-loop-n l = (k : ℕ) → k < l.n → Free (pool_of l.pool) k

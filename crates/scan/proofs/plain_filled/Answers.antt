@@ -1,5 +1,4 @@
 -- `plain_filled`: how many slots of node n are filled, where none has an internal word.
-use native.Mathlib.Omega.{arith}
 use Rattle.scan.proofs.TallyLaws.{odd_filled_lem, both_plain}
 use Rattle.scan.proofs.plain_filled.Goals as goal
 
@@ -9,5 +8,4 @@ returns-then-full_odd c =
 
 pub returns : goal.returns
 returns c =
-    both_plain _ _ _ _ _ _ (omega arith) (omega arith) c.plain_part-a.ensures c.plain_part-b.ensures
-    (omega arith) (omega arith)
+    both_plain _ _ _ _ _ _ c.in_ok-a.ensures c.in_ok-b.ensures

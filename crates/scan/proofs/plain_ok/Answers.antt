@@ -1,6 +1,7 @@
 -- `plain_ok`: whether the slots of node n are as they must be, where none has an internal word and c are filled.
 use mathlib.Core.Path.{refl}
 use mathlib.Core.Bool.{true}
+use mathlib.Core.Logic.{inl, inr}
 use native.Mathlib.Omega.{arith}
 use Rattle.steps.proofs.DecideLaws.{yes!, no! }
 use Rattle.scan.proofs.PlainLaws.{plain_yes, plain_none, plain_end}
@@ -11,25 +12,23 @@ pub returns-then-not-below_end : goal.returns-then-not-below_end
 returns-then-not-below_end c =
     let s = c in
     no! (λ o. c.below_end.ensures.1 c.if-not-below_end.true
-    (plain_end s.args.pool.now s.args.n _ (s.requires.fact_3.plain s.requires.fact_4) o))
+    (plain_end s.args.pool.now s.args.n _ s.requires.fact_3.plain o))
 
 pub returns-then-m-eq0 : goal.returns-then-m-eq0
 returns-then-m-eq0 c =
     let s = c in
-    yes! (plain_none s.args.pool.now s.args.n _ (s.requires.fact_3.plain s.requires.fact_4) c.all_marks-m.result (omega arith)
-    (c.below_end.ensures.0 c.if-not-below_end.false) c.all_marks-m.ensures c.if-m-eq0.true)
-
-pub returns-then-c-eq-SLOTS : goal.returns-then-c-eq-SLOTS
-returns-then-c-eq-SLOTS c =
-    let s = c in
     let m = c.all_marks-m.result in
-    yes! ((plain_yes s.args.pool.now s.args.n _ (s.requires.fact_3.plain s.requires.fact_4) true m (omega arith)
-    (c.below_end.ensures.0 c.if-not-below_end.false) c.all_marks-m.ensures
-    (yes! (full_tight s.args.pool.now s.args.n m _ s.requires.fact_3 (omega arith) (omega (arith, c.if-c-eq-SLOTS.true))))).0 refl)
+    elim c.then-m-eq0.either [
+      | inl e ↦ yes! (plain_none s.args.pool.now s.args.n _ s.requires.fact_3.plain m (omega arith)
+          (c.below_end.ensures.0 c.if-not-below_end.false) c.all_marks-m.ensures e)
+      | inr e ↦ yes! ((plain_yes s.args.pool.now s.args.n _ s.requires.fact_3.plain true m (omega arith)
+          (c.below_end.ensures.0 c.if-not-below_end.false) c.all_marks-m.ensures
+          (yes! (full_tight s.args.pool.now s.args.n m _ s.requires.fact_3 (omega (arith, e.1))))).0 refl)
+    ]
 
 pub returns : goal.returns
 returns c =
     let s = c in
-    plain_yes s.args.pool.now s.args.n _ (s.requires.fact_3.plain s.requires.fact_4) _ c.all_marks-m.result (omega arith)
+    plain_yes s.args.pool.now s.args.n _ s.requires.fact_3.plain _ c.all_marks-m.result (omega arith)
     (c.below_end.ensures.0 c.if-not-below_end.false)
     c.all_marks-m.ensures c.none_loose.ensures

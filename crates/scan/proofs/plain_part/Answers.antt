@@ -1,9 +1,6 @@
-use native.Mathlib.Omega.{arith}
 use Rattle.scan.proofs.TallyLaws.{passed_next}
 use Rattle.scan.proofs.plain_part.Goals as goal
 
 pub loop-o-preserved : goal.loop-o-preserved
-loop-o-preserved c = (
-  omega arith,
-  passed_next _ _ _ _ _ _ _ _ c.loop-o.invariant.1 c.slot_word.ensures c.lowest-u.ensures,
-)
+loop-o-preserved c =
+    passed_next _ _ _ _ _ _ _ _ c.loop-o.invariant c.slot_word.ensures c.lowest-u.ensures

@@ -1,7 +1,7 @@
 -- the rows below tier u are there
 use mathlib.Core.Path.{◌≡◌}
 use mathlib.Core.List.{List}
-use Prim.Native.Nat.{ℕ, ◌-◌, ◌≤◌, ◌<◌}
+use Prim.Native.Nat.{ℕ, ◌≤◌, ◌<◌}
 use lib.ListN.{length, get_or}
 use Rattle.model.specs.declared.Entry.{Entry}
 use Rattle.tree.specs.Slots.{Numbering}
@@ -20,6 +20,3 @@ pub record Going (pool rows₀ chain : List ℕ) (heads : Heads) (low : ℕ) (ro
 
 abbrev pub invariant-loop-u : goal.invariant-loop-u
 invariant-loop-u l = Going l.pool l.initial.rows l.chain l.heads l.low l.rows l.u
-
-abbrev pub decreases-loop-u : goal.decreases-loop-u
-decreases-loop-u l = l.heads.new - l.u

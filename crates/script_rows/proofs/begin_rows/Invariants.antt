@@ -1,7 +1,7 @@
 -- the rows to tier u are copies
 use mathlib.Core.Path.{◌≡◌}
 use mathlib.Core.List.{List}
-use Prim.Native.Nat.{ℕ, ◌-◌, ◌≤◌}
+use Prim.Native.Nat.{ℕ, ◌≤◌}
 use lib.ListN.{length}
 use Rattle.script_rows.specs.Becomes.{Copied}
 use Rattle.script_rows.proofs.begin_rows.Given as goal
@@ -14,6 +14,3 @@ pub record Going (pool path rows₀ : List ℕ) (v top : ℕ) (rows : List ℕ) 
 
 abbrev pub invariant-loop-u : goal.invariant-loop-u
 invariant-loop-u l = Going l.pool l.path l.initial.rows l.v l.top l.rows l.u
-
-abbrev pub decreases-loop-u : goal.decreases-loop-u
-decreases-loop-u l = l.top - l.u

@@ -1,4 +1,4 @@
-use Prim.Native.Nat.{ℕ, ◌-◌, ◌≤◌}
+use Prim.Native.Nat.{ℕ}
 use mathlib.Core.Path.{◌≡◌}
 use mathlib.Core.Bool.{Bool, false}
 use Rattle.blocks.specs.Choice.{pick}
@@ -8,7 +8,4 @@ use Rattle.script_rows.specs.Row.{in_run}
 use Rattle.script_rows.proofs.clear_bits.Given as goal
 
 abbrev pub invariant-loop-t : goal.invariant-loop-t
-invariant-loop-t l = (l.t ≤ l.c) × ((f : ℕ → Bool) → l.w ≡ bits_to f slots → l.y ≡ bits_to (λ j. pick (in_run l.o l.t j) false (f j)) slots)
-
-abbrev pub decreases-loop-t : goal.decreases-loop-t
-decreases-loop-t l = l.c - l.t
+invariant-loop-t l = (f : ℕ → Bool) → l.w ≡ bits_to f slots → l.y ≡ bits_to (λ j. pick (in_run l.o l.t j) false (f j)) slots

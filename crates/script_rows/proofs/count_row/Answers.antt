@@ -6,5 +6,5 @@ use Rattle.script_rows.proofs.count_row.Goals as goal
 
 pub returns : goal.returns
 returns c =
-    let e : c.loop-j.j ≡ slots = omega arith in c.loop-j.invariant.2 ∙ ap (filled_to c.args.rows.now
+    let e : c.loop-j.j ≡ slots = omega arith in c.loop-j.invariant.1 ∙ ap (filled_to c.args.rows.now
     c.args.r) e

@@ -24,6 +24,3 @@ pub record Going (rows₀ path : List ℕ) (top i u₀ : ℕ) (rows : List ℕ) 
 
 abbrev pub invariant-loop-u : goal.invariant-loop-u
 invariant-loop-u l = Going l.initial.rows l.path l.top l.i l.initial.u l.rows l.u
-
-abbrev pub decreases-loop-u : goal.decreases-loop-u
-decreases-loop-u l = l.top - l.u

@@ -9,8 +9,8 @@ use Rattle.script_table.proofs.TableLaws.{after}
 use Rattle.script_table.proofs.table_length.Given as goal
 
 abbrev pub invariant-loop-m : goal.invariant-loop-m
-invariant-loop-m l = (l.m ≤ l.n) × (l.k ≤ 8 + 140 * l.m) × ((ws' : List ℕ) → Tables l.pool l.rows l.nums ws' l.n → l.k + length
-    (after l.pool ws' (length l.pool) (pool_words l.m)) ≡ length (script l.pool ws'))
+invariant-loop-m l = (l.from ≤ l.n) × (l.k ≤ 8 + 140 * l.from) × ((ws' : List ℕ) → Tables l.pool l.table.rows l.table.nums ws' l.n → l.k + length
+    (after l.pool ws' (length l.pool) (pool_words l.from)) ≡ length (script l.pool ws'))
 
 abbrev pub decreases-loop-m : goal.decreases-loop-m
-decreases-loop-m l = l.n - l.m
+decreases-loop-m l = l.n - l.from

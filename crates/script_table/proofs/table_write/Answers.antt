@@ -1,33 +1,32 @@
 use Prim.Native.Nat.{ℕ, ◌+◌}
-use mathlib.Core.Path.{◌≡◌, refl, ap, subst, ◌∙◌}
+use mathlib.Core.Path.{refl, ap, ◌∙◌}
 use mathlib.Core.List.{List}
 use native.Mathlib.Omega.{arith}
+use native.Mathlib.Nat.{le_refl}
 use lib.ListN.{length}
 use Rattle.layout.specs.Words.{pool_words}
 use Rattle.script_table.proofs.LaidLaws.{script_start}
-use Rattle.script_table.specs.Table.{Tables, Wrote, NextNumber}
-use Rattle.script_table.proofs.TableLaws.{pass_nodes, anchor_agrees, wrote_then, wrote_pass, wrote_all}
+use Rattle.script_table.specs.Table.{Wrote}
+use Rattle.script_table.proofs.TableLaws.{NoneBelow, pass_nodes, anchor_agrees, wrote_then, wrote_pass, wrote_all, some_below, none_below}
 use Rattle.script_table.proofs.table_write.Goals as goal
 
-module _ {ws rs ns ws' : List ℕ} {n : ℕ} (T : Tables ws rs ns ws' n) {t m : ℕ} {out out' : List ℕ}
-    (w : Wrote ws ws' 0 (0 + 4) 0 t out out') where
-  first-nodes : NextNumber ns 0 n m 24 → Wrote ws ws' 0 (pool_words m) 0 t out out'
-  first-nodes x = let z : 0 + 4 ≡ pool_words 0 = omega arith in
-      wrote_then (subst (λ (p : ℕ). Wrote ws ws' 0 p 0 t out out') z w)
-      (wrote_pass (pool_words 0) (pool_words m) t out' (pass_nodes T (length ws) 0 m T.size x))
+first-nodes : {ws ws' : List ℕ} {t : ℕ} {out out' : List ℕ} → Wrote ws ws' 0 (0 + 4) 0 t out out' → Wrote ws ws' 0 (pool_words 0) 0 t out out'
+first-nodes w = w
 
 pub node_write-t-requires-clause-node_fits : goal.node_write-t-requires-clause-node_fits
 node_write-t-requires-clause-node_fits c =
-    let w = first-nodes c.requires.all_fits.tables (c.span_write-t.ensures c.requires.all_fits.words (anchor_agrees c.requires.all_fits.tables))
-    c.next_number-m.ensures in
+    let T = c.requires.all_fits.tables in
+    let b : NoneBelow c.args.table.now.nums c.loop-m.from c.in-Some.m = some_below (omega arith) c.in-Some.ensures in
+    let w = first-nodes (c.span_write-t.ensures c.requires.all_fits.words (anchor_agrees T)) in
     record {
       n = c.args.n;
-      below = omega arith;
+      below = c.in-Some.ensures.1;
       words = c.requires.all_fits.words;
-      tables = c.requires.all_fits.tables;
+      tables = T;
       room = omega (
         arith,
-        (c.loop-m.invariant.2 c.requires.all_fits.words c.requires.all_fits.tables).count,
+        (wrote_then (c.loop-m.invariant.2 c.requires.all_fits.words T) (wrote_pass _ _ _ _ (pass_nodes T (length c.args.pool.now)
+            c.loop-m.from c.in-Some.m T.size (omega (arith, c.in-Some.ensures.1)) b))).count,
         w.count,
         c.requires.all_fits.room,
         c.loop-m.invariant.1,
@@ -37,15 +36,17 @@ node_write-t-requires-clause-node_fits c =
     }
 
 pub loop-m-preserved : goal.loop-m-preserved
-loop-m-preserved c = (
-  c.next_number-m-in-loop-m.ensures.most,
-  c.node_write-t.auto.out ∙ c.loop-m.invariant.1,
-  λ ws' T.
-      wrote_then (c.loop-m.invariant.2 ws' T) (wrote_then (c.node_write-t.ensures c.args.n ws' T (omega arith))
-      (wrote_pass _ _ _ _ (pass_nodes T (length c.args.pool.now) (c.loop-m.m + 1) c.next_number-m-in-loop-m.result T.size c.next_number-m-in-loop-m.ensures))),
-)
+loop-m-preserved c =
+    let b : NoneBelow c.args.table.now.nums c.loop-m.from c.in-Some.m = some_below (omega arith) c.in-Some.ensures in (
+      omega (arith, c.in-Some.ensures.1),
+      c.node_write-t.auto.out ∙ c.loop-m.invariant.1,
+      λ ws' T.
+          wrote_then (wrote_then (c.loop-m.invariant.2 ws' T) (wrote_pass _ _ _ _ (pass_nodes T (length c.args.pool.now) c.loop-m.from c.in-Some.m T.size
+          (omega (arith, c.in-Some.ensures.1)) b))) (c.node_write-t.ensures c.args.n ws' T c.in-Some.ensures.1),
+    )
 
 pub returns : goal.returns
 returns c =
-    λ ws' T. wrote_all (wrote_then (first-nodes T (c.span_write-t.ensures ws' (anchor_agrees T))
-    c.next_number-m.ensures) (c.loop-m.invariant.2 ws' T)) (omega (arith, T.size, c.loop-m.invariant.0))
+    λ ws' T. wrote_all (wrote_then (wrote_then (first-nodes (c.span_write-t.ensures ws' (anchor_agrees T))) (c.loop-m.invariant.2 ws' T))
+    (wrote_pass _ _ _ _ (pass_nodes T (length c.args.pool.now) c.loop-m.from c.args.n T.size (le_refl c.args.n)
+    (none_below (omega arith) c.loop-m.invariant.0 c.in_default.ensures)))) (omega (arith, T.size))

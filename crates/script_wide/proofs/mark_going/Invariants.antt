@@ -1,11 +1,7 @@
-use Prim.Native.Nat.{◌-◌, ◌≤◌}
 use Rattle.freemap.specs.FreeMap.{Sound}
 use Rattle.layout.specs.WellFormed.{WellFormed}
 use Rattle.script_wide.specs.Going.{Going}
 use Rattle.script_wide.proofs.mark_going.Given as goal
 
 abbrev pub invariant-loop-m : goal.invariant-loop-m
-invariant-loop-m l = (l.m ≤ l.n) × Sound l.map × ((s : WellFormed l.pool) → Going s l.map l.base l.order l.m)
-
-abbrev pub decreases-loop-m : goal.decreases-loop-m
-decreases-loop-m l = l.n - l.m
+invariant-loop-m l = Sound l.map × ((s : WellFormed l.pool) → Going s l.map l.base l.order l.m)

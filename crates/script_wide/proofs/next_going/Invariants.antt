@@ -1,6 +1,6 @@
 use Prim.Native.Nat.{◌-◌, ◌≤◌}
 use Rattle.freemap.specs.FreeMap.{map_nodes}
-use Rattle.script_wide.proofs.GoingLaws.{Clear}
+use Rattle.script_wide.specs.Going.{Clear}
 use Rattle.script_wide.proofs.next_going.Given as goal
 
 abbrev pub invariant-loop-x : goal.invariant-loop-x

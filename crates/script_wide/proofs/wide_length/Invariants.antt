@@ -5,9 +5,9 @@ use Rattle.script_wide.specs.Freed.{Counted}
 use Rattle.script_wide.specs.Going.{WideBy}
 use Rattle.script_wide.proofs.wide_length.Given as goal
 
-abbrev pub invariant-loop-n : goal.invariant-loop-n
-invariant-loop-n l = (l.m ≤ l.n) × (l.k ≤ 8 + 140 * l.m) × ((ws' : List ℕ) → WideBy l.pool l.rows l.nums l.map ws' →
+abbrev pub invariant-loop-q : goal.invariant-loop-q
+invariant-loop-q l = (l.m ≤ l.n) × (l.k ≤ 8 + 140 * l.m) × ((ws' : List ℕ) → WideBy l.pool l.table.rows l.table.nums l.map ws' →
     Counted l.pool ws' 0 (pool_words l.m) 0 l.k)
 
-abbrev pub decreases-loop-n : goal.decreases-loop-n
-decreases-loop-n l = l.n - l.m
+abbrev pub decreases-loop-q : goal.decreases-loop-q
+decreases-loop-q l = l.n - l.m

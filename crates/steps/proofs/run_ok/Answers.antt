@@ -3,7 +3,7 @@ use Prim.Native.Nat.{ℕ}
 use mathlib.Core.Path.{subst}
 use Rattle.layout.specs.Pool.{pool_of}
 use Rattle.steps.specs.Steps.{SameSlots}
-use Rattle.steps.proofs.StepLaws.{step_bad, step_marked, step_run}
+use Rattle.steps.proofs.StepLaws.{step_marked, step_run}
 use Rattle.steps.proofs.RunLaws.{fits_of, fits_run_lem, fits_held}
 use Rattle.steps.proofs.run_ok.Goals as goal
 
@@ -13,9 +13,8 @@ returns-then-not-run_fits c =
     let P = pool_of s.args.pool.now in
     let q = subst (λ (w : ℕ). SameSlots P s.args.n s.args.j w c.same_slots-p.result)
     c.sibling_word.ensures c.same_slots-p.ensures in
-    step_bad P s.args.n s.args.v s.args.j s.requires.fact_2.0
-    (λ k. c.run_fits.ensures.1 c.if-not-run_fits.true
-    (fits_of P s.args.n s.args.v s.args.j _ s.requires.fact_2.0 q s.requires.fact_5 k))
+    λ k. c.run_fits.ensures.1 c.if-not-run_fits.true
+    (fits_of P s.args.n s.args.v s.args.j _ s.requires.fact_2.0 q s.requires.fact_5 k)
 
 pub returns-then-not-rest_clear : goal.returns-then-not-rest_clear
 returns-then-not-rest_clear c =

@@ -24,7 +24,7 @@ pub returns : goal.returns
 returns c =
     λ s l m at.
     c.entry_of.ensures ∙ ap (entry_of c.args.target.index c.args.target.order c.args.target.word)
-    (c.marks_of-m.ensures s (c.args.target.order / slot_bits) _ (new_entry l c.args.target.index c.args.target.order c.args.target.word)
+    (c.marks_of.ensures s (c.args.target.order / slot_bits) _ (new_entry l c.args.target.index c.args.target.order c.args.target.word)
     (subst (λ (b : ℕ). AtNode s.list (num s) (c.args.target.order / slot_bits) b c.args.a) (entry_block c.args.target.index c.args.target.order) at)
-    (c.offset_of-o.ensures.0 ∙ entry_slot c.args.target.index c.args.target.order)
+    (c.offset_of.ensures.0 ∙ entry_slot c.args.target.index c.args.target.order)
     (stand _ l c.args.target.index c.args.target.order c.args.target.word m))

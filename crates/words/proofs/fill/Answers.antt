@@ -1,16 +1,15 @@
-use Rattle.std.proofs.Common.{◌≡◌, ℕ, suc, ◌+◌, List, set, refl, arith, add-one}
-use Rattle.std.proofs.Math.ListN.{length-set}
-use Rattle.words.specs.Fill.{filled}
+use Rattle.std.proofs.Common.{◌≡◌, ℕ, ◌+◌, ◌-◌, ap, ◌∙◌, replicate, arith}
+use borrow.Rule.Slice.PartMut.{put_mid, mid_len}
+use Rattle.std.proofs.lemmas.List.{length-replicate}
+use Rattle.words.proofs.WriteLaws.{put_over}
+use Rattle.words.proofs.FillLaws.{filled_over}
 use Rattle.words.proofs.fill.Goals as goal
 
-step : (ws s : List ℕ) (a x t : ℕ) → s ≡ filled ws a x t → set s (a + t) x ≡ filled ws a x (suc t)
-unfolding filled
-step ws s a x t e = rw e
-
-pub loop-t-init : goal.loop-t-init
-unfolding filled
-loop-t-init c = (omega arith, refl, refl)
-
-pub loop-t-preserved : goal.loop-t-preserved
-loop-t-preserved c =
-    (omega arith, simp length-set (omega arith), rw add-one (step _ _ _ _ _ c.loop-t.invariant.2))
+pub returns : goal.returns
+returns c =
+    let n = c.args.n in let a = c.args.a in let s = c.args.s.now in
+    let e : a + n - a ≡ n = omega arith in
+    let k = mid_len a (a + n) s (omega arith) ∙ e in
+    ap (put_mid a (a + n - a) s) (c.fill.ensures.after (λ y q. q) ∙ ap (λ (m : ℕ). replicate m c.args.x) k)
+    ∙ put_over s a _ (replicate n c.args.x) (omega (arith, length-replicate n c.args.x)) (omega arith)
+    ∙ filled_over s a c.args.x n

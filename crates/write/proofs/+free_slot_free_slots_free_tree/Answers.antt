@@ -7,7 +7,7 @@ use borrow.Author.Tests.{lt-ltb, le-ltb}
 use lib.ListN.{get_or}
 use Rattle.tree.specs.Tree.{slots}
 use Rattle.layout.specs.declared.Slot.{Slot}
-use Rattle.layout.specs.declared.Slot.TheVariants.{Child}
+use Rattle.layout.specs.declared.Slot.TheVariants.{Empty, Reserved, Held, Sibling, Child}
 use Rattle.layout.specs.Pool.{slot_of}
 use Rattle.layout.specs.Fill.{cleared}
 use Rattle.layout.specs.Words.{slot_place}
@@ -20,6 +20,13 @@ module _ (f : List ℕ → ℕ → List ℕ) (top : ℕ) (ws : List ℕ) (w : �
   still : {x : Slot} → r ≡ x → ws ≡ free_below f top ws x → ws ≡ free_slot f top ws w
   unfolding free_slot
   still d h = h ∙ ap (free_below f top ws) (sym d ∙ e)
+
+  bare : (x : Slot) → r ≡ x → ((n : ℕ) → r ≡ Child n → ⊥) → ws ≡ free_slot f top ws w
+  bare Empty d h = still d refl
+  bare Reserved d h = still d refl
+  bare Held d h = still d refl
+  bare (Sibling o) d h = still d refl
+  bare (Child n) d h = absurd (h n d)
 
   off : (n : ℕ) → r ≡ Child n → top ≤ n → ws ≡ free_slot f top ws w
   off n d h = still d (rw (le-ltb n top h))
@@ -49,35 +56,23 @@ whole top ws pool n u h e = let d : u ≡ suc (u - 1) = omega arith in
 
 pub free_slot-returns-then-n-top-clause-pool_after : goal.free_slot-returns-then-n-top-clause-pool_after
 free_slot-returns-then-n-top-clause-pool_after t c =
-    c.free_tree.ensures.pool_after ∙ on _ _ _ _ c.read_slot-s.ensures _ c.in-Child.is c.if-n-top.true
+    c.free_tree.ensures.pool_after ∙ on _ _ _ _ c.read_slot.ensures _ c.in-Child.is c.if-n-top.true
 
 pub free_slot-returns-else-n-top-clause-pool_after : goal.free_slot-returns-else-n-top-clause-pool_after
 free_slot-returns-else-n-top-clause-pool_after t c =
-    off _ _ _ _ c.read_slot-s.ensures _ c.in-Child.is c.if-n-top.false
+    off _ _ _ _ c.read_slot.ensures _ c.in-Child.is c.if-n-top.false
 
-pub free_slot-returns-in-Empty-clause-pool_after : goal.free_slot-returns-in-Empty-clause-pool_after
-free_slot-returns-in-Empty-clause-pool_after t c = still _ _ _ _ c.read_slot-s.ensures c.in-Empty.is refl
-
-pub free_slot-returns-in-Held-clause-pool_after : goal.free_slot-returns-in-Held-clause-pool_after
-free_slot-returns-in-Held-clause-pool_after t c = still _ _ _ _ c.read_slot-s.ensures c.in-Held.is refl
-
-pub free_slot-returns-in-Sibling-clause-pool_after : goal.free_slot-returns-in-Sibling-clause-pool_after
-free_slot-returns-in-Sibling-clause-pool_after t c = still _ _ _ _ c.read_slot-s.ensures c.in-Sibling.is refl
-
-pub free_slot-returns-in-Reserved-clause-pool_after : goal.free_slot-returns-in-Reserved-clause-pool_after
-free_slot-returns-in-Reserved-clause-pool_after t c = still _ _ _ _ c.read_slot-s.ensures c.in-Reserved.is refl
+pub free_slot-returns-in_default-clause-pool_after : goal.free_slot-returns-in_default-clause-pool_after
+free_slot-returns-in_default-clause-pool_after t c = bare _ _ _ _ c.read_slot.ensures _ refl c.in_default.not-Child
 
 pub free_slots-loop-j-init : goal.free_slots-loop-j-init
-free_slots-loop-j-init t c = (omega arith, refl, refl, slots_start _ _ _ _ _, follows_same _ _)
+free_slots-loop-j-init t c = (slots_start _ _ _ _ _, follows_same _ _)
 
 pub free_slots-loop-j-preserved : goal.free_slots-loop-j-preserved
 free_slots-loop-j-preserved t c =
     let k = c.loop-j.invariant in (
-      omega arith,
-      c.free_slot.auto.pool ∙ k.1,
-      c.free_slot.auto.map ∙ k.2,
-      c.free_slot.ensures.pool_after ∙ rw c.slot_word-w.ensures (slots_step _ _ _ _ _ _ _ k.3),
-      follows_then k.4 c.free_slot.ensures.follows,
+      c.free_slot.ensures.pool_after ∙ rw c.slot_word-w.ensures (slots_step _ _ _ _ _ _ _ k.0),
+      follows_then k.1 c.free_slot.ensures.follows,
     )
 
 pub free_tree-returns-then-u-eq0-clause-pool_after : goal.free_tree-returns-then-u-eq0-clause-pool_after

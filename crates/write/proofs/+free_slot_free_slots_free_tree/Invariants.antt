@@ -1,7 +1,7 @@
 -- `free_slot`: frees what the word of a slot leads to, of tier u.
 -- `free_slots`: frees what the slots of node n from o on, c of them, lead to, of tier u.
 -- `free_tree`: frees node n, of tier u, and all below it.
-use Rattle.std.proofs.Common.{◌≡◌, ◌+◌, ◌*◌, ◌-◌, ◌≤◌, length}
+use Rattle.std.proofs.Common.{◌≡◌, ◌+◌, ◌*◌}
 use Rattle.write.specs.Writes.{free_slots, free_tree}
 use Rattle.freenodes.specs.FreeNodes.{Follows}
 use Rattle.write.proofs.+free_slot_free_slots_free_tree.Given as goal
@@ -17,9 +17,5 @@ decreases-free_tree l = 3 * l.u
 
 abbrev pub invariant-free_slots-loop-j : goal.invariant-free_slots-loop-j
 invariant-free_slots-loop-j l =
-    (l.j ≤ l.c) × (length l.pool ≡ length l.initial.pool) × (length l.map ≡ length l.initial.map) ×
     (l.pool ≡ free_slots (free_tree l.top l.u) l.top l.n l.o l.initial.pool l.j) ×
     Follows l.initial.pool l.pool l.initial.map l.map
-
-abbrev pub decreases-free_slots-loop-j : goal.decreases-free_slots-loop-j
-decreases-free_slots-loop-j l = l.c - l.j

@@ -17,12 +17,8 @@ unfolding ones
 stop ns ws u to h = let e : to - u ≡ 0 = omega arith in rw e
 
 pub loop-u-preserved : goal.loop-u-preserved
-loop-u-preserved c = (
-  omega arith,
-  c.put_filled.auto.pool ∙ c.loop-u.invariant.1,
-  c.loop-u.invariant.2 ∙ (step _ _ _ _ (omega arith) ∙ rw c.put_filled.ensures),
-)
+loop-u-preserved c = c.loop-u.invariant ∙ (step _ _ _ _ (omega arith) ∙ rw c.put_filled.ensures)
 
 pub returns : goal.returns
 returns c =
-    sym (c.loop-u.invariant.2 ∙ stop _ _ _ _ (omega arith))
+    sym (c.loop-u.invariant ∙ stop _ _ _ _ (omega arith))

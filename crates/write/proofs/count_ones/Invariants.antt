@@ -1,13 +1,7 @@
 -- `count_ones`: the counts of nodes with one filled slot each, of the tiers from from to to - 1.
-use Prim.Native.Nat.{◌-◌, ◌≤◌}
-use mathlib.Core.Path.{◌≡◌}
-use lib.ListN.{length}
+use Rattle.std.proofs.Common.{◌-◌, ◌≡◌}
 use Rattle.write.specs.Writes.{ones}
 use Rattle.write.proofs.count_ones.Given as goal
 
 abbrev pub invariant-loop-u : goal.invariant-loop-u
-invariant-loop-u l = (l.from ≤ l.u) × (length l.pool ≡ length l.initial.pool) ×
-    (ones l.nums l.initial.pool l.from (l.to - l.from) ≡ ones l.nums l.pool l.u (l.to - l.u))
-
-abbrev pub decreases-loop-u : goal.decreases-loop-u
-decreases-loop-u l = l.to - l.u
+invariant-loop-u l = ones l.nums l.initial.pool l.from (l.to - l.from) ≡ ones l.nums l.pool l.u (l.to - l.u)

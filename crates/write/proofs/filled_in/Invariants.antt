@@ -1,11 +1,7 @@
 -- `filled_in`: how many of the slots of node n from o on, c of them, are not 0.
-use Prim.Native.Nat.{◌-◌, ◌≤◌}
-use mathlib.Core.Path.{◌≡◌}
+use Rattle.std.proofs.Common.{◌≤◌, ◌≡◌}
 use Rattle.write.specs.Writes.{filled_in}
 use Rattle.write.proofs.filled_in.Given as goal
 
 abbrev pub invariant-loop-j : goal.invariant-loop-j
-invariant-loop-j l = (l.j ≤ l.c) × (l.r ≤ l.j) × (l.r ≡ filled_in l.pool l.n l.o l.j)
-
-abbrev pub decreases-loop-j : goal.decreases-loop-j
-decreases-loop-j l = l.c - l.j
+invariant-loop-j l = (l.r ≤ l.j) × (l.r ≡ filled_in l.pool l.n l.o l.j)

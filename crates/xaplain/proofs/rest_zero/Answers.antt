@@ -1,16 +1,17 @@
-use mathlib.Core.Path.{sym, ◌∙◌}
+use Prim.Native.Nat.{◌-◌}
+use mathlib.Core.Path.{◌∙◌}
 use native.Mathlib.Omega.{arith}
-use Rattle.xaplain.proofs.LoopLaws.{zero_on, zero_no, zero_end}
+use lib.Dec.{eqb}
+use lib.ListN.{length}
+use Rattle.std.proofs.Common.{rules, tests}
+use Rattle.std.proofs.lemmas.Iterator.{YieldsList-from_slice}
+use Rattle.std.proofs.lemmas.Iterator.Search.{all_from_yields_List}
+use Rattle.xaplain.proofs.LoopLaws.{all_zeros}
 use Rattle.xaplain.proofs.rest_zero.Goals as goal
-
-pub returns-then-xs-k-ne0 : goal.returns-then-xs-k-ne0
-returns-then-xs-k-ne0 c =
-    sym (c.loop-k.invariant.1 ∙ zero_no _ _ (omega arith) c.if-xs-k-ne0.true)
-
-pub loop-k-preserved : goal.loop-k-preserved
-loop-k-preserved c =
-    (omega arith, c.loop-k.invariant.1 ∙ zero_on _ _ (omega arith) c.if-xs-k-ne0.false)
 
 pub returns : goal.returns
 returns c =
-    sym (c.loop-k.invariant.1 ∙ zero_end _ _ (omega arith))
+    let xs = c.args.xs.now in
+    let a = c.args.a in
+    all_from_yields_List (λ x. eqb x 0) _ _ c.all.result c.all.ensures.ran (YieldsList-from_slice _ c.iter.ensures.rest) (λ x b q k. search (rules, tests))
+    ∙ all_zeros xs (length xs - a) a (omega arith)

@@ -1,4 +1,4 @@
-use mathlib.Core.Path.{sym}
+use mathlib.Core.Path.{refl, sym, ◌∙◌}
 use native.Mathlib.Omega.{arith}
 use Rattle.batch.proofs.ParseLaws.{next_after}
 use Rattle.batch.proofs.BoundLaws.{read_fits}
@@ -8,25 +8,29 @@ use Rattle.xaplain_calls.proofs.run_all.Goals as goal
 
 pub loop-at-init : goal.loop-at-init
 loop-at-init c =
-    running_start c.requires.holds c.requires.ahead
+    record { running = running_start c.requires.holds c.requires.ahead; kept = (refl, refl, refl, refl) }
 
-pub record_at-s-requires : goal.record_at-s-requires
-record_at-s-requires c =
-    stands c.loop-at.invariant.ahead (omega arith)
+pub record_at-r-requires : goal.record_at-r-requires
+record_at-r-requires c =
+    stands c.loop-at.invariant.running.ahead (omega arith)
 
 pub run_one-entries-requires-clause-reply_bytes_in_bounds : goal.run_one-entries-requires-clause-reply_bytes_in_bounds
 run_one-entries-requires-clause-reply_bytes_in_bounds c =
-    room_for c.loop-at.invariant.ahead c.record_at-s.ensures
+    room_for c.loop-at.invariant.running.ahead c.record_at-r.ensures
 
 pub loop-at-smaller : goal.loop-at-smaller
 loop-at-smaller c =
-    omega (arith, next_after _ _ (sym c.record_at-s.ensures))
+    omega (arith, next_after _ _ (sym c.record_at-r.ensures))
 
 pub loop-at-preserved : goal.loop-at-preserved
 loop-at-preserved c =
-    running_on c.loop-at.invariant c.record_at-s.ensures (read_fits (record { small = λ i. omega (arith, c.shared_slice_known-1.given i) }) _ (sym c.record_at-s.ensures))
-    (c.run_one-entries.ensures c.loop-at.invariant.held) c.run_one-entries.auto.reply
+    let a = c.loop-at.invariant.kept in let b = c.run_one-entries.ensures.kept in
+    record {
+      running = running_on c.loop-at.invariant.running c.record_at-r.ensures (read_fits (record { small = λ i. omega (arith, c.shared_slice_known-1.given i) }) _ (sym c.record_at-r.ensures))
+          (c.run_one-entries.ensures.turns c.loop-at.invariant.running.held) c.run_one-entries.auto.reply;
+      kept = (b.0 ∙ a.0, b.1 ∙ a.1, b.2 ∙ a.2, b.3 ∙ a.3);
+    }
 
-pub returns : goal.returns
-returns c =
-    λ h cs e. running_end c.loop-at.invariant (omega arith) h cs e
+pub returns-clause-ends : goal.returns-clause-ends
+returns-clause-ends c =
+    λ h cs e. running_end c.loop-at.invariant.running (omega arith) h cs e

@@ -1,4 +1,5 @@
 -- `run_counted`: a batch of k commands, on slices that the check passed.
+use Rattle.std.proofs.Common.{rules}
 use native.Mathlib.Omega.{arith}
 use Rattle.commands.proofs.BatchesLaws.{was_read, ahead}
 use Rattle.xaplain.proofs.KeepLaws.{list_held, holds_checked}
@@ -49,7 +50,7 @@ returns-clause-value c =
         c.slice_known-3-1.given i,
       );
     }) c.requires.marks_value c.count-n.ensures in
-    (as_ensures (ran c.requires.marks_value r (omega arith) (list_held h) (c.run_all.ensures
+    (as_ensures (ran c.requires.marks_value r (omega arith) (list_held h) (c.run_all.ensures.ends
     h r.cs r.rest))).0
 
 pub returns-clause-marks_after : goal.returns-clause-marks_after
@@ -66,8 +67,9 @@ returns-clause-marks_after c =
         c.slice_known-3-1.given i,
       );
     }) c.requires.marks_value c.count-n.ensures in
-    ((as_ensures (ran c.requires.marks_value r (omega arith) (list_held h) (c.run_all.ensures
-    h r.cs r.rest))).1).0
+    let f = ((as_ensures (ran c.requires.marks_value r (omega arith) (list_held h) (c.run_all.ensures.ends
+    h r.cs r.rest))).1).0 in
+    search (rules, f)
 
 pub returns-clause-reply_after : goal.returns-clause-reply_after
 returns-clause-reply_after c =
@@ -83,5 +85,5 @@ returns-clause-reply_after c =
         c.slice_known-3-1.given i,
       );
     }) c.requires.marks_value c.count-n.ensures in
-    ((as_ensures (ran c.requires.marks_value r (omega arith) (list_held h) (c.run_all.ensures
+    ((as_ensures (ran c.requires.marks_value r (omega arith) (list_held h) (c.run_all.ensures.ends
     h r.cs r.rest))).1).1

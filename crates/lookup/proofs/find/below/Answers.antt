@@ -1,5 +1,6 @@
 -- `below`: whether the way down to p goes on through its slot in node n: it leads to a node and has the filter's
 use Prim.Native.Nat.{ℕ, ◌%◌}
+use mathlib.Core.Logic.{inl, inr}
 use mathlib.Core.Path.{◌≡◌, ap, ◌∙◌}
 use native.Mathlib.Omega.{arith}
 use Rattle.blocks.specs.Choice.{pick}
@@ -53,9 +54,7 @@ returns-else-mark_bit-eq1 c =
 
 pub returns-in-Gap : goal.returns-in-Gap
 returns-in-Gap c =
-    λ s. down_leaf _ _ _ _ _ 0 (is_gap (c.look-k.ensures s) c.in-Gap.is).0
-
-pub returns-in-Shows : goal.returns-in-Shows
-returns-in-Shows c =
-    λ s. down_leaf _ _ _ _ _ 0 (is_entry_lem _ (c.look-k.ensures s) c.in-Shows.is
-    ).1
+    λ s. elim c.in-Gap.is [
+      | inl e ↦ down_leaf _ _ _ _ _ 0 (is_gap (c.look-k.ensures s) e).0
+      | inr x ↦ down_leaf _ _ _ _ _ 0 (is_entry_lem _ (c.look-k.ensures s) x.1).1
+    ]

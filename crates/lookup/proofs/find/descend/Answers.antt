@@ -9,27 +9,27 @@ use Rattle.lookup.specs.Views.{AtNode}
 use Rattle.lookup.proofs.WayLaws.{go_down, stop_here}
 use Rattle.lookup.proofs.find.descend.Goals as goal
 
-down : (c : goal.In-Into) (s : WellFormed c.args.pool.now)
+down : (c : goal.In-Some) (s : WellFormed c.args.pool.now)
     →
     (0 < c.loop-m.v) ×
     AtNode s.list (num s) (c.loop-m.v - 1)
     (block (tier_order (suc (c.loop-m.v - 1)))
-    c.args.p) c.in-Into.m ×
+    c.args.p) c.in-Some.m ×
     (stop_tier s.list c.args.filter
     c.args.p (c.loop-m.v - 1) ≡ stop_tier
     s.list c.args.filter
     c.args.p c.loop-m.v)
 down c s =
     let r = c.loop-m.invariant.1 s in
-    go_down s.list s.valid (num s) _ _ _ _ _ r.0 (sym (c.below-d.ensures s) ∙ c.in-Into.is)
+    go_down s.list s.valid (num s) _ _ _ _ _ r.0 (sym (c.below.ensures s) ∙ c.in-Some.is)
 
-pub returns-in-Here-clause-stopped : goal.returns-in-Here-clause-stopped
-returns-in-Here-clause-stopped c =
+pub returns-clause-stopped : goal.returns-clause-stopped
+returns-clause-stopped c =
     λ s. let r = c.loop-m.invariant.1 s in
     record {
       at_node_lem = r.0;
       tier_is = stop_here s.list (num s) _ _ _
-          (sym (c.below-d.ensures s) ∙ c.in-Here.is) ∙ r.1;
+          (sym (c.below.ensures s) ∙ c.in_default.is) ∙ r.1;
     }
 
 pub overflow_sub-v : goal.overflow_sub-v

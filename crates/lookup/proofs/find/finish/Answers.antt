@@ -1,4 +1,5 @@
 -- `finish`: the step that stops at the slot of node n towards p.
+use mathlib.Core.Logic.{inl, inr}
 use mathlib.Core.Path.{sym, ap, ◌∙◌}
 use Rattle.layout.specs.WellFormed.{WellFormed, num}
 use Rattle.lookup.specs.Find.{entry_turn}
@@ -52,13 +53,10 @@ consider-requires-clause-order_bound c =
 
 pub returns-in-Gap : goal.returns-in-Gap
 returns-in-Gap c =
-    λ s. let (t, q) = is_gap (c.look-k.ensures s) c.in-Gap.is in
-    c.pass.ensures ∙ sym (turn_none s.list _ _ _ _ t q)
-
-pub returns-in-Below : goal.returns-in-Below
-returns-in-Below c =
-    λ s. let (t, q) = is_node_lem _ (c.look-k.ensures s)
-    c.in-Below.is in c.pass-in-Below.ensures ∙ sym (turn_node s.list _ _ _ _ t)
+    λ s. elim c.in-Gap.is [
+      | inl e ↦ (let (t, q) = is_gap (c.look-k.ensures s) e in c.pass.ensures ∙ sym (turn_none s.list _ _ _ _ t q))
+      | inr x ↦ (let (t, q) = is_node_lem _ (c.look-k.ensures s) x.1 in c.pass.ensures ∙ sym (turn_node s.list _ _ _ _ t))
+    ]
 
 pub returns-in-Shows : goal.returns-in-Shows
 returns-in-Shows c =

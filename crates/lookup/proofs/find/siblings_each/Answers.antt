@@ -11,7 +11,7 @@ use Rattle.lookup.proofs.find.siblings_each.Goals as goal
 
 pub loop-j-init : goal.loop-j-init
 loop-j-init c =
-    (omega arith, c.requires.o_le_to.0, omega arith, count_none _ _ _ (omega arith))
+    (omega arith, count_none _ _ _ (omega arith))
 
 pub loop-j-preserved : goal.loop-j-preserved
 loop-j-preserved c =
@@ -21,10 +21,8 @@ loop-j-preserved c =
     let r : c.sibling_bit-k.result ≡ sibling_bit c.slot_word.result = c.sibling_bit-k.ensures in
     let i : j + 1 - a.o ≡ suc (j - a.o) = omega arith in
     let d : a.o + (j - a.o) ≡ j = omega arith in (
-      omega arith,
-      omega arith,
       omega (arith, sibling_bit_le c.slot_word.result),
-      ap (λ (x : ℕ). x + c.sibling_bit-k.result) v.3 ∙ ap (λ (x : ℕ). sibling_count
+      ap (λ (x : ℕ). x + c.sibling_bit-k.result) v.1 ∙ ap (λ (x : ℕ). sibling_count
           (λ i. get_or a.pool.now (slot_place a.n i) 0) a.o (j - a.o) + x)
           (r ∙ ap sibling_bit (c.slot_word.ensures ∙ ap
           (λ (x : ℕ). get_or a.pool.now (slot_place a.n x) 0) (sym d))) ∙ sym
