@@ -69,19 +69,26 @@ pub fn remarked_tag(on: bool) -> u64
     if on { MARK_REPLY } else { UNMARK_REPLY }
 }
 
-// An answer with an index and a count, all else 0.
-pub fn answered(tag: u64, answer: Answer, index: u64, count: u64) -> Reply
-    ensures { result ≡ answered tag (number_of answer) index count }
+// An answer by its number, with an index and a count, all else 0.
+pub fn answered(tag: u64, answer: u64, index: u64, count: u64) -> Reply
+    ensures { result ≡ answered tag answer index count }
 {
     Reply {
         tag,
-        answer: answer.number(),
+        answer,
         index,
         order: 0,
         word: 0,
         marks: 0,
         count,
     }
+}
+
+// The same of an answer that is not done.
+pub fn answered_as(tag: u64, answer: Answer, index: u64, count: u64) -> Reply
+    ensures { result ≡ answered tag (number_of answer) index count }
+{
+    answered(tag, answer.number(), index, count)
 }
 
 // Done, with an entry or a reservation and a count.
@@ -104,7 +111,7 @@ pub fn covered_reply(tag: u64, c: Option<Entry>) -> Reply
     ensures { result ≡ covered_reply tag c }
 {
     match c {
-        None => answered(tag, Answer::Absent, 0, 0),
+        None => answered_as(tag, Answer::Absent, 0, 0),
         Some(e) => answered_by(tag, e, 0),
     }
 }

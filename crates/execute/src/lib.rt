@@ -18,7 +18,7 @@ ghost use Rattle.execute.specs.Promised.{remarking, reply_to, Settles, Executes}
 use answers::Answer;
 use batch::{Command, Reply};
 use commands::{
-    ERASE_REPLY, FIND_REPLY, LOAD_REPLY, RESERVE_REPLY, STORE_REPLY, answered, answered_by,
+    ERASE_REPLY, FIND_REPLY, LOAD_REPLY, RESERVE_REPLY, STORE_REPLY, answered_as, answered_by,
     covered_reply, is_aligned, is_enterable, remarked_tag,
 };
 use lookup::{Loaded, Outcome};
@@ -48,7 +48,7 @@ fn loaded_reply(x: Loaded) -> Reply
     ensures { result ≡ loaded_reply load_reply x }
 {
     match x.entry {
-        None => answered(LOAD_REPLY, Answer::Absent, 0, x.nodes),
+        None => answered_as(LOAD_REPLY, Answer::Absent, 0, x.nodes),
         Some(e) => answered_by(LOAD_REPLY, e, x.nodes),
     }
 }
@@ -58,8 +58,8 @@ fn found_reply(x: Outcome) -> Reply
 {
     match x {
         Outcome::Found(e, n) => answered_by(FIND_REPLY, e, n),
-        Outcome::Ended(n) => answered(FIND_REPLY, Answer::Ended, 0, n),
-        Outcome::Paused(p, n) => answered(FIND_REPLY, Answer::Paused, p, n),
+        Outcome::Ended(n) => answered_as(FIND_REPLY, Answer::Ended, 0, n),
+        Outcome::Paused(p, n) => answered_as(FIND_REPLY, Answer::Paused, p, n),
     }
 }
 
@@ -69,8 +69,8 @@ fn reserved_reply(x: Result<Entry, Refused>) -> Reply
 {
     match x {
         Ok(e) => answered_by(RESERVE_REPLY, e, 0),
-        Err(Refused::Short) => answered(RESERVE_REPLY, Answer::TooFewNodes, 0, 0),
-        Err(Refused::Taken) => answered(RESERVE_REPLY, Answer::Covered, 0, 0),
+        Err(Refused::Short) => answered_as(RESERVE_REPLY, Answer::TooFewNodes, 0, 0),
+        Err(Refused::Taken) => answered_as(RESERVE_REPLY, Answer::Covered, 0, 0),
     }
 }
 
@@ -86,13 +86,13 @@ fn run_find(pool: &[u64], first: u64, last: u64, filter: u64, budget: u64) -> Re
     ensures { (s : WellFormed pool.now) → result ≡ reply_to s (Command.Find first last filter budget) }
 {
     if filter > ANY_MARK {
-        return answered(FIND_REPLY, Answer::BadMark, 0, 0);
+        return answered_as(FIND_REPLY, Answer::BadMark, 0, 0);
     }
     if first > last {
-        return answered(FIND_REPLY, Answer::FirstAboveLast, 0, 0);
+        return answered_as(FIND_REPLY, Answer::FirstAboveLast, 0, 0);
     }
     if budget == 0 {
-        return answered(FIND_REPLY, Answer::NoBudget, 0, 0);
+        return answered_as(FIND_REPLY, Answer::NoBudget, 0, 0);
     }
     found_reply(lookup::find::find(pool, first, last, filter, budget))
 }
@@ -105,7 +105,7 @@ fn run_remark(pool: &mut [u64], index: u64, mark: u64, on: bool) -> Reply
 {
     let tag = remarked_tag(on);
     if mark >= MARKS {
-        return answered(tag, Answer::BadMark, 0, 0);
+        return answered_as(tag, Answer::BadMark, 0, 0);
     }
     let c = marks::set_mark(pool, index, mark, on);
     covered_reply(tag, c)
@@ -147,7 +147,7 @@ fn stored_reply(pool: &mut [u64], index: u64, x: Result<Entry, Refused>) -> Repl
 {
     match x {
         Ok(e) => unmatch(pool, index, e),
-        Err(_) => answered(STORE_REPLY, Answer::TooFewNodes, 0, 0),
+        Err(_) => answered_as(STORE_REPLY, Answer::TooFewNodes, 0, 0),
     }
 }
 
@@ -181,15 +181,15 @@ fn run_store(
     ensures free_map_2 { FreeMap pool.new map.new }
 {
     if order > MAX_ORDER {
-        return answered(STORE_REPLY, Answer::BadOrder, 0, 0);
+        return answered_as(STORE_REPLY, Answer::BadOrder, 0, 0);
     }
     let aligned = is_aligned(index, order);
     let enterable = is_enterable(word, reserve);
     if !aligned {
-        return answered(STORE_REPLY, Answer::NotAligned, 0, 0);
+        return answered_as(STORE_REPLY, Answer::NotAligned, 0, 0);
     }
     if !enterable {
-        return answered(STORE_REPLY, Answer::BadEntry, 0, 0);
+        return answered_as(STORE_REPLY, Answer::BadEntry, 0, 0);
     }
     let outcome = store::store(pool, map, index, order, word);
     put_reply(pool, index, outcome, reserve)

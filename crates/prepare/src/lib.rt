@@ -12,7 +12,7 @@ ghost use Rattle.blocks.specs.Lists.{any};
 ghost use Rattle.model.specs.Model.{Valid, max_order, mark_count, matched_mark, aligned, storable, covering, over, marks_of};
 ghost use Rattle.model.specs.ByBlock.{inside, store_new};
 ghost use Rattle.tree.specs.Tree.{height, top_tier, slots};
-ghost use Rattle.layout.specs.Words.{last_place, mark_place};
+ghost use Rattle.layout.specs.Words.{last_place, mark_place, pool_words};
 ghost use Rattle.layout.specs.Places.{new_places, render};
 ghost use Rattle.layout.specs.WellFormed.{WellFormed};
 ghost use Rattle.freenodes.specs.FreeNodes.{FreeMap};
@@ -22,7 +22,7 @@ ghost use Rattle.execute.specs.Promised.{remarking, putting};
 ghost use Rattle.execute.specs.Part.{changing};
 ghost use Rattle.script.specs.Script.{script};
 ghost use Rattle.script_rows.specs.Becomes.{Becomes};
-ghost use Rattle.script_table.specs.Table.{Tables};
+ghost use Rattle.script_table.specs.Table.{row_count, Tables};
 ghost use Rattle.script_wide.specs.Wide.{Wide};
 ghost use Rattle.script_new.specs.New.{NewPlanned};
 ghost use Rattle.preparing.specs.Prepare;
@@ -48,18 +48,19 @@ use words::{fill, with_bit};
 use write::{offset_of, width_of};
 
 // THE SCRIPT OF A TABLE, if there is room for it.
-fn yield_table(pool: &[u64], table: &Table, out: &mut [u64]) -> Result<u64, Refusal>
+fn yield_table(pool: &[u64], rows: &[u64], nums: &[u64], out: &mut [u64]) -> Result<u64, Refusal>
     requires well_formed { WellFormed pool.now }
-    requires tabled { Tabled pool.now table.now.rows table.now.nums }
+    requires row_count_in_bounds { (pool_words row_count ≤ length rows.now) × (row_count ≤ length nums.now) }
+    requires tabled { Tabled pool.now rows.now nums.now }
     ensures fact { ((s : WellFormed pool.now) (ws' : List ℕ) →
-        Tables pool.now table.now.rows table.now.nums ws' s.n →
+        Tables pool.now rows.now nums.now ws' s.n →
         report_of result ≡ (yielding (script pool.now ws') out.old).result) }
     ensures fact_2 { ((s : WellFormed pool.now) (ws' : List ℕ) →
-        Tables pool.now table.now.rows table.now.nums ws' s.n →
+        Tables pool.now rows.now nums.now ws' s.n →
         out.new ≡ (yielding (script pool.now ws') out.old).slice) }
 {
     let n = pool[COUNT_WORD];
-    let number = table_length(pool, table, n);
+    let number = table_length(pool, rows, nums, n);
     let room = out.len() as u64;
     if room < number {
         return Err(Refusal {
@@ -67,7 +68,7 @@ fn yield_table(pool: &[u64], table: &Table, out: &mut [u64]) -> Result<u64, Refu
             number,
         });
     }
-    table_write(pool, table, n, out);
+    table_write(pool, rows, nums, n, out);
     Ok(number)
 }
 
@@ -76,25 +77,26 @@ fn yield_table(pool: &[u64], table: &Table, out: &mut [u64]) -> Result<u64, Refu
 // The script, if there is room for it.
 fn yield_freeing(
     pool: &[u64],
-    table: &Table,
+    rows: &[u64],
+    nums: &[u64],
     base: u64,
     order: u64,
     out: &mut [u64],
 ) -> Result<u64, Refusal>
     requires well_formed { WellFormed pool.now }
-    requires order_le_max_order { order ≤ max_order }
-    requires widely { Widely pool.now table.now.rows table.now.nums base order }
+    requires row_count_in_bounds { (pool_words row_count ≤ length rows.now) × (row_count ≤ length nums.now) × (order ≤ max_order) }
+    requires widely { Widely pool.now rows.now nums.now base order }
     ensures fact { ((s : WellFormed pool.now) (ws' : List ℕ) →
-        Wide s table.now.rows table.now.nums ws' base order →
+        Wide s rows.now nums.now ws' base order →
         report_of result ≡ (yielding (script pool.now ws') out.old).result) }
     ensures fact_2 { ((s : WellFormed pool.now) (ws' : List ℕ) →
-        Wide s table.now.rows table.now.nums ws' base order →
+        Wide s rows.now nums.now ws' base order →
         out.new ≡ (yielding (script pool.now ws') out.old).slice) }
 {
     let n = pool[COUNT_WORD];
     let mut map = [0u64; MAP_WORDS];
     mark_going(pool, n, base, order, &mut map);
-    let number = wide_length(pool, table, &map, n);
+    let number = wide_length(pool, rows, nums, &map, n);
     let most = out.len() as u64;
     if most < number {
         return Err(Refusal {
@@ -102,32 +104,33 @@ fn yield_freeing(
             number,
         });
     }
-    wide_write(pool, table, &map, n, out);
+    wide_write(pool, rows, nums, &map, n, out);
     Ok(number)
 }
 
 // A range within one slot of a lowest node holds no node: the nodes are not gone through.
 pub fn yield_wide(
     pool: &[u64],
-    table: &Table,
+    rows: &[u64],
+    nums: &[u64],
     base: u64,
     order: u64,
     out: &mut [u64],
 ) -> Result<u64, Refusal>
     requires well_formed { WellFormed pool.now }
-    requires order_le_max_order { order ≤ max_order }
-    requires widely { Widely pool.now table.now.rows table.now.nums base order }
+    requires row_count_in_bounds { (pool_words row_count ≤ length rows.now) × (row_count ≤ length nums.now) × (order ≤ max_order) }
+    requires widely { Widely pool.now rows.now nums.now base order }
     ensures fact { ((s : WellFormed pool.now) (ws' : List ℕ) →
-        Wide s table.now.rows table.now.nums ws' base order →
+        Wide s rows.now nums.now ws' base order →
         report_of result ≡ (yielding (script pool.now ws') out.old).result) }
     ensures fact_2 { ((s : WellFormed pool.now) (ws' : List ℕ) →
-        Wide s table.now.rows table.now.nums ws' base order →
+        Wide s rows.now nums.now ws' base order →
         out.new ≡ (yielding (script pool.now ws') out.old).slice) }
 {
     if order < SLOT_BITS {
-        return yield_table(pool, table, out);
+        return yield_table(pool, rows, nums, out);
     }
-    yield_freeing(pool, table, base, order, out)
+    yield_freeing(pool, rows, nums, base, order, out)
 }
 
 // AN ENTRY THAT IS THERE
@@ -157,7 +160,7 @@ fn entry_rows(pool: &[u64], table: &mut Table, path: &mut [u64; TIERS], at: Rang
         head_rows(pool, table, at);
         return;
     }
-    same_rows(pool, table, path, at, top);
+    same_rows(pool, &mut table.rows, &mut table.nums, path, at, top);
 }
 
 // The rows after the entry of that order at base has left.
@@ -176,10 +179,18 @@ fn erased_rows(
         (render l' (new_places s.list l' s.places) s.n) s.n) }
 {
     if top == 0 {
-        bare_rows(pool, table);
+        bare_rows(pool, &mut table.rows, &mut table.nums);
         return;
     }
-    erase_rows(pool, table, path, base, order, top);
+    erase_rows(
+        pool,
+        &mut table.rows,
+        &mut table.nums,
+        path,
+        base,
+        order,
+        top,
+    );
 }
 
 // What an entry has beside its range.
@@ -241,7 +252,7 @@ fn entry_script(
     let mut table = Table::new();
     let mut path = [0u64; TIERS];
     after_rows(pool, &mut table, &mut path, base, order, top, after);
-    yield_table(pool, &table, out)
+    yield_table(pool, &table.rows, &table.nums, out)
 }
 
 // The script of another entry in its place.
@@ -436,7 +447,7 @@ fn head_script(pool: &[u64], word: u64, out: &mut [u64]) -> Result<u64, Refusal>
         marks,
     };
     head_rows(pool, &mut table, at);
-    yield_table(pool, &table, out)
+    yield_table(pool, &table.rows, &table.nums, out)
 }
 
 // The entry goes into nodes, whose numbers are planned. reserve: which command the clauses speak of; the code does not look at it. (As a
@@ -467,8 +478,16 @@ fn new_script(
         marks,
     };
     let mut table = Table::new();
-    new_rows(pool, &mut table, path, chain, at, heads);
-    yield_wide(pool, &table, at.base, at.order, out)
+    new_rows(
+        pool,
+        &mut table.rows,
+        &mut table.nums,
+        path,
+        chain,
+        at,
+        heads,
+    );
+    yield_wide(pool, &table.rows, &table.nums, at.base, at.order, out)
 }
 
 // A target that no entry of its order or more covers.

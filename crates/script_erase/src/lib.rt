@@ -2,7 +2,7 @@
 // come down. Row u is that of the path's node of tier u, row CHAIN + u that of the node of block 0 of tier u where that
 // is another one.
 //
-// pool: the borrowed words; table: the rows and the numbers of their nodes (crate script_table); i, order: the first
+// pool: the borrowed words; rows, nums: the rows and the numbers of their nodes (crate script_table); i, order: the first
 // index of the entry and its order; v: the tier of its slots; top: the tier of the head; u: a tier; r: a row.
 #![tactic(auto)]
 
@@ -13,7 +13,7 @@ ghost use Rattle.blocks.specs.Lists.{any};
 ghost use Rattle.model.specs.declared.Entry.{Entry};
 ghost use Rattle.model.specs.Model.{Valid, max_order, aligned, within};
 ghost use Rattle.tree.specs.Tree.{slot_bits, top_tier, tier_order};
-ghost use Rattle.layout.specs.Words.{anchor_words, last_place, filled_place};
+ghost use Rattle.layout.specs.Words.{anchor_words, pool_words, last_place, filled_place};
 ghost use Rattle.layout.specs.Fill.{cleared};
 ghost use Rattle.layout.specs.Places.{new_places, render};
 ghost use Rattle.layout.specs.WellFormed.{WellFormed};
@@ -27,9 +27,9 @@ use layout::{
     is_node, node_number, put_owner, slot_word,
 };
 use plan::walk_path;
-use script_rows::{Range, TIERS, anchor_row, copy_node, path_rows};
+use script_rows::{Range, anchor_row, copy_node, path_rows};
 use script_same::number_rows;
-use script_table::{ROW_WORDS, ROWS, Table};
+use script_table::ROWS;
 use words::fill;
 
 const CHAIN: u64 = 12;
@@ -48,8 +48,8 @@ fn sweep_row(rows: &mut [u64], u: u64)
 }
 
 // So all rows of the path.
-fn sweep(rows: &mut [u64; ROW_WORDS], v: u64, top: u64)
-    requires { (v < top) × (top ≤ top_tier) }
+fn sweep(rows: &mut [u64], v: u64, top: u64)
+    requires { (v < top) × (top ≤ top_tier) × (pool_words row_count ≤ length rows.old) }
     ensures { Swept rows.old rows.new v (top + 1) }
 {
     for u in v + 1..top + 1 {
@@ -92,50 +92,57 @@ fn head_row(i: u64, v: u64, u: u64) -> u64
     u
 }
 
-// The node n, of block 0 of tier u, becomes the head; its row. (After a call a caller knows no length of an array in a struct, so it is said.)
-fn take_head(pool: &[u64], table: &mut Table, i: u64, v: u64, u: u64, n: u64) -> u64
+// The node n, of block 0 of tier u, becomes the head; its row.
+fn take_head(
+    pool: &[u64],
+    rows: &mut [u64],
+    nums: &mut [u64],
+    i: u64,
+    v: u64,
+    u: u64,
+    n: u64,
+) -> u64
     requires n_in_bounds { last_place n < length pool.now }
-    requires u_lt_top_tier { u < top_tier }
-    ensures taken { Taken pool.now i v u n table.old.rows table.new.rows table.old.nums table.new.nums result }
-    ensures sizes { (length table.new.rows ≡ length table.old.rows) × (length table.new.nums ≡ length table.old.nums) }
+    requires u_lt_top_tier { (u < top_tier) × (pool_words row_count ≤ length rows.old) × (row_count ≤ length nums.old) }
+    ensures taken { Taken pool.now i v u n rows.old rows.new nums.old nums.new result }
     ensures upper_bound { result < row_count }
 {
     let r = head_row(i, v, u);
     if r == u {
-        put_owner(&mut table.rows, r, 0);
+        put_owner(rows, r, 0);
         return r;
     }
-    copy_node(pool, n, &mut table.rows, r);
-    table.nums[r as usize] = n;
-    put_owner(&mut table.rows, r, 0);
+    copy_node(pool, n, rows, r);
+    nums[r as usize] = n;
+    put_owner(rows, r, 0);
     r
 }
 
 // The head comes down as far as it does; its word.
-fn lower_head(pool: &[u64], table: &mut Table, i: u64, order: u64, top: u64) -> u64
-    requires slot_bits_bound { (order / slot_bits < top) × (top ≤ top_tier) }
-    requires lowering { Lowering pool.now i order top table.old.rows table.old.nums }
+fn lower_head(pool: &[u64], rows: &mut [u64], nums: &mut [u64], i: u64, order: u64, top: u64) -> u64
+    requires slot_bits_bound { (order / slot_bits < top) × (top ≤ top_tier) × (pool_words row_count ≤ length rows.old) × (row_count ≤ length nums.old) }
+    requires lowering { Lowering pool.now i order top rows.old nums.old }
     ensures landed { (s : WellFormed pool.now) (l' : List Entry) → Erases s i order top l' →
-        Lowered s i (order / slot_bits) top top l' table.old.rows table.old.nums →
+        Lowered s i (order / slot_bits) top top l' rows.old nums.old →
         any (within (tier_order top) 0) l' ≡ true →
-        Landed s i (order / slot_bits) top l' table.new.rows table.new.nums result }
-    ensures by_index { (p : ℕ) → p < anchor_words → get_or table.new.rows p 0 ≡ get_or table.old.rows p 0 }
+        Landed s i (order / slot_bits) top l' rows.new nums.new result }
+    ensures by_index { (p : ℕ) → p < anchor_words → get_or rows.new p 0 ≡ get_or rows.old p 0 }
 {
     let v = order / SLOT_BITS;
     let mut u = top;
     let mut r = top;
     let mut w = pool[HEAD_WORD];
     loop {
-        if !drops(&table.rows, r, u) {
+        if !drops(rows, r, u) {
             return w;
         }
-        w = slot_word(&table.rows, r, 0);
-        clear_node(&mut table.rows, r);
+        w = slot_word(rows, r, 0);
+        clear_node(rows, r);
         u = u - 1;
         if u == 0 {
             return w;
         }
-        r = take_head(pool, table, i, v, u, node_number(w));
+        r = take_head(pool, rows, nums, i, v, u, node_number(w));
     }
 }
 
@@ -144,17 +151,19 @@ fn lower_head(pool: &[u64], table: &mut Table, i: u64, order: u64, top: u64) -> 
 // The rows of the path under the old head, the numbers, and the anchor of no entries.
 fn sweep_path(
     pool: &[u64],
-    table: &mut Table,
-    path: &mut [u64; TIERS],
+    rows: &mut [u64],
+    nums: &mut [u64],
+    path: &mut [u64],
     i: u64,
     order: u64,
     top: u64,
 )
     requires well_formed { WellFormed pool.now }
+    requires row_count_in_bounds { (pool_words row_count ≤ length rows.old) × (row_count ≤ length nums.old) × (top_tier < length path.old) }
     requires order_le_max_order { (order ≤ max_order) × (aligned order i ≡ true) × (order / slot_bits < top) × (top ≤ top_tier) }
     requires path_there { (s : WellFormed pool.now) → PathThere s i (order / slot_bits) top }
     ensures { (s : WellFormed pool.now) (l' : List Entry) → Erases s i order top l' →
-        SweptPath s i (order / slot_bits) top l' table.new.rows table.new.nums }
+        SweptPath s i (order / slot_bits) top l' rows.new nums.new }
 {
     let v = order / SLOT_BITS;
     let n = pool[COUNT_WORD];
@@ -166,49 +175,52 @@ fn sweep_path(
         word: 0,
         marks: 0,
     };
-    path_rows(pool, &mut table.rows, path, at, top);
-    anchor_row(pool, &mut table.rows, 0, top);
-    sweep(&mut table.rows, v, top);
-    number_rows(&mut table.nums, path, v, top, n);
+    path_rows(pool, rows, path, at, top);
+    anchor_row(pool, rows, 0, top);
+    sweep(rows, v, top);
+    number_rows(nums, path, v, top, n);
 }
 
 // The rows, the anchor and the numbers after the entry of that order at i, in a node, is erased. path: words for the
 // numbers of the path's nodes.
 pub fn erase_rows(
     pool: &[u64],
-    table: &mut Table,
-    path: &mut [u64; TIERS],
+    rows: &mut [u64],
+    nums: &mut [u64],
+    path: &mut [u64],
     i: u64,
     order: u64,
     top: u64,
 )
     requires well_formed { WellFormed pool.now }
+    requires row_count_in_bounds { (pool_words row_count ≤ length rows.old) × (row_count ≤ length nums.old) × (top_tier < length path.old) }
     requires order_le_max_order { (order ≤ max_order) × (aligned order i ≡ true) × (order / slot_bits < top) × (top ≤ top_tier) }
     requires path_there { (s : WellFormed pool.now) → PathThere s i (order / slot_bits) top × Standing s.list i order }
     ensures { (s : WellFormed pool.now) (l' : List Entry) → Becomes i order none s.list l' → Valid l' →
-        Tables pool.now table.new.rows table.new.nums
+        Tables pool.now rows.new nums.new
         (render l' (new_places s.list l' s.places) s.n) s.n }
 {
-    sweep_path(pool, table, path, i, order, top);
-    if filled_of(&table.rows, top) == 0 {
+    sweep_path(pool, rows, nums, path, i, order, top);
+    if filled_of(rows, top) == 0 {
         return;
     }
-    let w = lower_head(pool, table, i, order, top);
-    table.rows[HEAD_WORD] = w;
+    let w = lower_head(pool, rows, nums, i, order, top);
+    rows[HEAD_WORD] = w;
 }
 
 // The same of an entry that is the head: the anchor alone.
-pub fn bare_rows(pool: &[u64], table: &mut Table)
+pub fn bare_rows(pool: &[u64], rows: &mut [u64], nums: &mut [u64])
     requires well_formed { WellFormed pool.now }
+    requires row_count_in_bounds { (pool_words row_count ≤ length rows.old) × (row_count ≤ length nums.old) }
     ensures { (s : WellFormed pool.now) (i order : ℕ) (l' : List Entry) → PathThere s i (order / slot_bits) 0 →
         Standing s.list i order → Becomes i order none s.list l' → Valid l' →
-        Tables pool.now table.new.rows table.new.nums
+        Tables pool.now rows.new nums.new
         (render l' (new_places s.list l' s.places) s.n) s.n }
 {
     let n = pool[COUNT_WORD];
-    table.rows[COUNT_WORD] = n;
-    table.rows[HEAD_WORD] = 0;
-    table.rows[MARKS_WORD] = 0;
-    table.rows[SPARE_WORD] = 0;
-    fill(&mut table.nums, 0, n, ROWS);
+    rows[COUNT_WORD] = n;
+    rows[HEAD_WORD] = 0;
+    rows[MARKS_WORD] = 0;
+    rows[SPARE_WORD] = 0;
+    fill(nums, 0, n, ROWS);
 }

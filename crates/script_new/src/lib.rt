@@ -4,7 +4,7 @@
 // that hold the entry; beside: the old tree stays under a higher head; low: the lowest tier of the rows over index 0.
 #![tactic(auto)]
 
-ghost use Rattle.std.specs.Prelude.{ℕ, ◌+◌, ◌-◌, ◌/◌, ◌<◌, ◌≤◌, max, ◌≡◌, true, false, List, get_or};
+ghost use Rattle.std.specs.Prelude.{ℕ, ◌+◌, ◌-◌, ◌/◌, ◌<◌, ◌≤◌, max, ◌≡◌, true, false, List, get_or, length};
 ghost use Rattle.std.proofs.Math.Option.{Option};
 ghost use Rattle.model.specs.declared.Entry.{Entry};
 ghost use Rattle.tree.specs.Tree.{top_tier};
@@ -21,10 +21,8 @@ ghost use Rattle.script_new.specs.Chain.{ChainShown, Chains, NewNumber, NewNumbe
 
 use layout::{COUNT_WORD, SLOT_BITS, node_word, owner_word, shift_word};
 use plan::{Heads, Target, at_least_1, chained_of, starts_at_0};
-use script_rows::{
-    Range, TIERS, anchor_row, begin_rows, copy_node, edit_run, finish_row, put_rows,
-};
-use script_table::{ROW_COUNT, ROW_WORDS, ROWS, Table};
+use script_rows::{Range, anchor_row, begin_rows, copy_node, edit_run, finish_row, put_rows};
+use script_table::ROWS;
 
 // The first of the rows over index 0.
 const CHAIN_ROW: u64 = 12;
@@ -46,8 +44,8 @@ fn is_beside(at: Range, heads: Heads) -> bool
 }
 
 // What slot 0 of the node of tier t + 1 over index 0 holds, above the old head.
-fn under(chain: &[u64; TIERS], heads: Heads, t: u64) -> u64
-    requires { (t ≤ top_tier) × ((t ≡ heads.old → ⊥) → get_or chain.now t 0 < max_nodes) }
+fn under(chain: &[u64], heads: Heads, t: u64) -> u64
+    requires { (t ≤ top_tier) × (top_tier < length chain.now) × ((t ≡ heads.old → ⊥) → get_or chain.now t 0 < max_nodes) }
     ensures { result ≡ under_word heads chain.now t }
 {
     if t == heads.old {
@@ -61,14 +59,14 @@ fn under(chain: &[u64; TIERS], heads: Heads, t: u64) -> u64
 fn begin_new(
     pool: &[u64],
     rows: &mut [u64],
-    path: &[u64; TIERS],
-    chain: &[u64; TIERS],
+    path: &[u64],
+    chain: &[u64],
     v: u64,
     heads: Heads,
     beside: bool,
 )
     requires roomy { Roomy pool.now rows.old path.now v heads.new }
-    requires beside_value { (beside ≡ true → heads.old < heads.new) ×
+    requires top_tier_in_bounds { (top_tier < length chain.now) × (beside ≡ true → heads.old < heads.new) ×
         (beside ≡ true → ChainRoom pool.now chain.now heads) }
     ensures { BegunNew pool.now path.now chain.now heads v beside rows.new }
 {
@@ -82,14 +80,9 @@ fn begin_new(
 }
 
 // A row over index 0 begins as a copy; slot 0 of a new node's leads down.
-fn begin_chain(
-    pool: &[u64],
-    rows: &mut [u64; ROW_WORDS],
-    chain: &[u64; TIERS],
-    heads: Heads,
-    u: u64,
-)
+fn begin_chain(pool: &[u64], rows: &mut [u64], chain: &[u64], heads: Heads, u: u64)
     requires heads_bound { (max 1 heads.old ≤ u) × (u < heads.new) × (heads.new ≤ top_tier) }
+    requires top_tier_in_bounds { (top_tier < length chain.now) × (pool_words row_count ≤ length rows.old) }
     requires chain_room { ChainRoom pool.now chain.now heads }
     ensures other_rows { OtherRows rows.old rows.new (chain_row + u) }
     ensures chain_final { (l' : List Entry) (μ : Numbering) → Chains pool.now heads chain.now l' μ →
@@ -105,8 +98,9 @@ fn begin_chain(
 }
 
 // The row of the node of tier u over index 0.
-fn chain_row(pool: &[u64], rows: &mut [u64; ROW_WORDS], chain: &[u64; TIERS], heads: Heads, u: u64)
+fn chain_row(pool: &[u64], rows: &mut [u64], chain: &[u64], heads: Heads, u: u64)
     requires heads_bound { (max 1 heads.old ≤ u) × (u < heads.new) × (heads.new ≤ top_tier) }
+    requires top_tier_in_bounds { (top_tier < length chain.now) × (pool_words row_count ≤ length rows.old) }
     requires chain_room { ChainRoom pool.now chain.now heads }
     ensures other_rows { OtherRows rows.old rows.new (chain_row + u) }
     ensures chain_shown { (l' : List Entry) (μ : Numbering) → Chains pool.now heads chain.now l' μ →
@@ -118,14 +112,9 @@ fn chain_row(pool: &[u64], rows: &mut [u64; ROW_WORDS], chain: &[u64; TIERS], he
 }
 
 // All rows over index 0, from the old head up to below the new one.
-fn chain_rows(
-    pool: &[u64],
-    rows: &mut [u64; ROW_WORDS],
-    chain: &[u64; TIERS],
-    heads: Heads,
-    low: u64,
-)
+fn chain_rows(pool: &[u64], rows: &mut [u64], chain: &[u64], heads: Heads, low: u64)
     requires heads_bound { (max 1 heads.old ≤ low) × (heads.new ≤ top_tier) }
+    requires top_tier_in_bounds { (top_tier < length chain.now) × (pool_words row_count ≤ length rows.old) }
     requires chain_room { low < heads.new → ChainRoom pool.now chain.now heads }
     ensures by_index { (p : ℕ) → p < pool_words chain_row → get_or rows.new p 0 ≡ get_or rows.old p 0 }
     ensures chain_shown { (l' : List Entry) (μ : Numbering) → Chains pool.now heads chain.now l' μ →
@@ -147,16 +136,8 @@ fn low_chain(heads: Heads, beside: bool) -> u64
 }
 
 // The number of the node of row r: one over index 0, or as where the nodes stay; n where it has none.
-fn number_at(
-    path: &[u64; TIERS],
-    chain: &[u64; TIERS],
-    r: u64,
-    v: u64,
-    top: u64,
-    low: u64,
-    n: u64,
-) -> u64
-    requires { (v ≤ top_tier) × (top ≤ top_tier) × (low ≤ top_tier) }
+fn number_at(path: &[u64], chain: &[u64], r: u64, v: u64, top: u64, low: u64, n: u64) -> u64
+    requires { (v ≤ top_tier) × (top ≤ top_tier) × (low ≤ top_tier) × (top_tier < length path.now) × (top_tier < length chain.now) }
     ensures { NewNumber path.now chain.now r v top low n result }
 {
     if CHAIN_ROW + low <= r && r < CHAIN_ROW + top {
@@ -166,16 +147,9 @@ fn number_at(
 }
 
 // The numbers of all rows, one by one for the reason of script_same's.
-fn number_rows(
-    nums: &mut [u64; ROW_COUNT],
-    path: &[u64; TIERS],
-    chain: &[u64; TIERS],
-    v: u64,
-    top: u64,
-    low: u64,
-    n: u64,
-)
-    requires { (v ≤ top_tier) × (top ≤ top_tier) × (low ≤ top_tier) }
+fn number_rows(nums: &mut [u64], path: &[u64], chain: &[u64], v: u64, top: u64, low: u64, n: u64)
+    requires v_le_top_tier { (v ≤ top_tier) × (top ≤ top_tier) × (low ≤ top_tier) × (top_tier < length path.now) × (top_tier < length chain.now) }
+    requires row_count_in_bounds { row_count ≤ length nums.old }
     ensures { NewNumbers nums.new path.now chain.now v top low n row_count }
 {
     for r in 0..ROWS {
@@ -186,30 +160,33 @@ fn number_rows(
 // The rows, the anchor and the numbers of a store of a new entry, whose head is a node.
 pub fn new_rows(
     pool: &[u64],
-    table: &mut Table,
-    path: &[u64; TIERS],
-    chain: &[u64; TIERS],
+    rows: &mut [u64],
+    nums: &mut [u64],
+    path: &[u64],
+    chain: &[u64],
     at: Range,
     heads: Heads,
 )
     requires well_formed { WellFormed pool.now }
+    requires row_count_in_bounds { (pool_words row_count ≤ length rows.old) × (row_count ≤ length nums.old) ×
+        (top_tier < length path.now) × (top_tier < length chain.now) }
     requires word_value { (heads.word ≡ get_or pool.now 1 0) × (heads.marks ≡ get_or pool.now 2 0) }
     requires storable { Storable (record { index = at.base; order = at.order; word = at.word }) }
     requires new_planned { (s : WellFormed pool.now) → NewPlanned s (record { index = at.base; order = at.order; word = at.word })
         heads path.now chain.now }
     ensures { (s : WellFormed pool.now) (o : Option Entry) (l' : List Entry) →
         NewList s at.base at.order at.word at.marks o l' →
-        NewRows s at.base at.order l' table.new.rows table.new.nums }
+        NewRows s at.base at.order l' rows.new nums.new }
 {
     let v = at.order / SLOT_BITS;
     let top = heads.new;
     let n = pool[COUNT_WORD];
     let beside = is_beside(at, heads);
     let low = low_chain(heads, beside);
-    begin_new(pool, &mut table.rows, path, chain, v, heads, beside);
-    put_rows(&mut table.rows, path, at, top);
-    chain_rows(pool, &mut table.rows, chain, heads, low);
+    begin_new(pool, rows, path, chain, v, heads, beside);
+    put_rows(rows, path, at, top);
+    chain_rows(pool, rows, chain, heads, low);
     let w = node_word(path[top as usize]);
-    anchor_row(pool, &mut table.rows, w, top);
-    number_rows(&mut table.nums, path, chain, v, top, low, n);
+    anchor_row(pool, rows, w, top);
+    number_rows(nums, path, chain, v, top, low, n);
 }

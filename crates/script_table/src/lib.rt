@@ -94,19 +94,20 @@ pub fn row_of(nums: &[u64], m: u64) -> Option<usize>
 }
 
 // How many words the script has after node m, where it has k before it.
-fn node_length(pool: &[u64], table: &Table, m: u64, k: u64) -> u64
-    requires { (last_place m < length pool.now) × (k < 2 ^ 62) × (m < max_nodes) }
+fn node_length(pool: &[u64], rows: &[u64], nums: &[u64], m: u64, k: u64) -> u64
+    requires { (last_place m < length pool.now) × (pool_words row_count ≤ length rows.now) ×
+        (row_count ≤ length nums.now) × (k < 2 ^ 62) × (m < max_nodes) }
     ensures upper_bound { result ≤ k + 140 }
     ensures by_index { (n : ℕ) (ws' : List ℕ) →
-        Tables pool.now table.now.rows table.now.nums ws' n → m < n →
+        Tables pool.now rows.now nums.now ws' n → m < n →
         result + length (script_from pool.now ws' (pool_words (m + 1)) (length pool.now - pool_words (m + 1))) ≡
         k + length (script_from pool.now ws' (pool_words m) (length pool.now - pool_words m)) }
 {
-    match row_of(&table.nums, m) {
+    match row_of(nums, m) {
         None => k,
         Some(r) => span_length(
             pool,
-            &table.rows,
+            rows,
             ANCHOR_WORDS + NODE_WORDS * m,
             ANCHOR_WORDS + NODE_WORDS * r as u64,
             NODE_WORDS,
@@ -116,15 +117,16 @@ fn node_length(pool: &[u64], table: &Table, m: u64, k: u64) -> u64
 }
 
 // How many words the script has.
-pub fn table_length(pool: &[u64], table: &Table, n: u64) -> u64
-    requires { (length pool.now ≡ pool_words n) × (n ≤ max_nodes) }
-    ensures { (ws' : List ℕ) → Tables pool.now table.now.rows table.now.nums ws' n →
+pub fn table_length(pool: &[u64], rows: &[u64], nums: &[u64], n: u64) -> u64
+    requires { (length pool.now ≡ pool_words n) × (n ≤ max_nodes) × (pool_words row_count ≤ length rows.now) ×
+        (row_count ≤ length nums.now) }
+    ensures { (ws' : List ℕ) → Tables pool.now rows.now nums.now ws' n →
         result ≡ length (script pool.now ws') }
 {
-    let mut k = span_length(pool, &table.rows, 0, 0, ANCHOR_WORDS, 0);
+    let mut k = span_length(pool, rows, 0, 0, ANCHOR_WORDS, 0);
     let mut from = 0;
-    while let Some(m) = next_number(&table.nums, from, n) {
-        k = node_length(pool, table, m, k);
+    while let Some(m) = next_number(nums, from, n) {
+        k = node_length(pool, rows, nums, m, k);
         from = m + 1;
     }
     k
@@ -169,18 +171,18 @@ pub fn span_write(
 }
 
 // Writes node m's part of the script at t.
-fn node_write(pool: &[u64], table: &Table, m: u64, out: &mut [u64], t: usize) -> usize
-    requires m_bound { m < max_nodes }
-    requires node_fits { NodeFits pool.now table.now.rows table.now.nums m t out.old }
+fn node_write(pool: &[u64], rows: &[u64], nums: &[u64], m: u64, out: &mut [u64], t: usize) -> usize
+    requires row_count_in_bounds { (pool_words row_count ≤ length rows.now) × (row_count ≤ length nums.now) × (m < max_nodes) }
+    requires node_fits { NodeFits pool.now rows.now nums.now m t out.old }
     ensures { (n : ℕ) (ws' : List ℕ) →
-        Tables pool.now table.now.rows table.now.nums ws' n → m < n →
+        Tables pool.now rows.now nums.now ws' n → m < n →
         Wrote pool.now ws' (pool_words m) (pool_words (m + 1)) t result out.old out.new }
 {
-    match row_of(&table.nums, m) {
+    match row_of(nums, m) {
         None => t,
         Some(r) => span_write(
             pool,
-            &table.rows,
+            rows,
             ANCHOR_WORDS + NODE_WORDS * m,
             ANCHOR_WORDS + NODE_WORDS * r as u64,
             NODE_WORDS,
@@ -191,16 +193,17 @@ fn node_write(pool: &[u64], table: &Table, m: u64, out: &mut [u64], t: usize) ->
 }
 
 // Writes the script, for which there is room.
-pub fn table_write(pool: &[u64], table: &Table, n: u64, out: &mut [u64])
-    requires pool_len { (length pool.now ≡ pool_words n) × (n ≤ max_nodes) }
-    requires all_fits { AllFits pool.now table.now.rows table.now.nums n out.old }
-    ensures { (ws' : List ℕ) → Tables pool.now table.now.rows table.now.nums ws' n →
+pub fn table_write(pool: &[u64], rows: &[u64], nums: &[u64], n: u64, out: &mut [u64])
+    requires pool_len { (length pool.now ≡ pool_words n) × (n ≤ max_nodes) × (pool_words row_count ≤ length rows.now) ×
+        (row_count ≤ length nums.now) }
+    requires all_fits { AllFits pool.now rows.now nums.now n out.old }
+    ensures { (ws' : List ℕ) → Tables pool.now rows.now nums.now ws' n →
         out.new ≡ laid out.old 0 (script pool.now ws') }
 {
-    let mut t = span_write(pool, &table.rows, 0, 0, ANCHOR_WORDS, out, 0);
+    let mut t = span_write(pool, rows, 0, 0, ANCHOR_WORDS, out, 0);
     let mut from = 0;
-    while let Some(m) = next_number(&table.nums, from, n) {
-        t = node_write(pool, table, m, out, t);
+    while let Some(m) = next_number(nums, from, n) {
+        t = node_write(pool, rows, nums, m, out, t);
         from = m + 1;
     }
 }

@@ -3,7 +3,7 @@
 // Which nodes lie inside is asked once, and kept in a map (crate freemap): to count the script's words and to write it take the time of the
 // nodes that go.
 //
-// pool: the borrowed words, n nodes; table: the rows and their numbers (crate script_table); base, order: the range; map: the nodes
+// pool: the borrowed words, n nodes; rows, nums: the rows and their numbers (crate script_table); base, order: the range; map: the nodes
 // inside it; m: the number of a node; k: words of the script so far.
 #![tactic(auto)]
 
@@ -14,7 +14,7 @@ ghost use Rattle.layout.specs.Words.{pool_words, count_word};
 ghost use Rattle.layout.specs.WellFormed.{WellFormed};
 ghost use Rattle.freemap.specs.FreeMap.{map_nodes, map_top, BlankMap, Sound};
 ghost use Rattle.script.specs.Script.{script_from, script};
-ghost use Rattle.script_table.specs.Table.{laid, Wrote};
+ghost use Rattle.script_table.specs.Table.{laid, row_count, Wrote};
 ghost use Rattle.script_wide.specs.Climb.{At, Stands};
 ghost use Rattle.script_wide.specs.Freed.{Gone, AllFreed, Counted, GoneFits, FreedFits, NodeFits, WideFits};
 ghost use Rattle.script_wide.specs.Going.{Going, NextGoing, WideBy};
@@ -22,7 +22,7 @@ ghost use Rattle.script_wide.specs.Wide.{GoesAt};
 
 use freemap::give;
 use layout::{ANCHOR_WORDS, NODE_WORDS, SHIFT_DROP, SLOT_BITS, SLOTS, owner_of, shift_of};
-use script_table::{Table, next_number, row_of, span_length, span_write};
+use script_table::{next_number, row_of, span_length, span_write};
 use words::{WORD_BITS, next_bit, pow2};
 
 // WHICH NODES GO
@@ -143,20 +143,20 @@ fn frees_length(pool: &[u64], map: &[u64], m: u64, end: u64, k: u64) -> u64
 }
 
 // Node m, by its row if it has one.
-fn node_length(pool: &[u64], table: &Table, map: &[u64], m: u64, k: u64) -> u64
+fn node_length(pool: &[u64], rows: &[u64], nums: &[u64], map: &[u64], m: u64, k: u64) -> u64
     requires well_formed { WellFormed pool.now }
-    requires map_in_bounds { map_top ≤ length map.now }
+    requires row_count_in_bounds { (pool_words row_count ≤ length rows.now) × (row_count ≤ length nums.now) × (map_top ≤ length map.now) }
     requires m_bound { (m < get_or pool.now count_word 0) × (k ≤ 8 + 140 * m) }
     ensures upper_bound { result ≤ 8 + 140 * (m + 1) }
     ensures by_index { (ws' : List ℕ) →
-        WideBy pool.now table.now.rows table.now.nums map.now ws' →
+        WideBy pool.now rows.now nums.now map.now ws' →
         Counted pool.now ws' (pool_words m) (pool_words (m + 1)) k result }
 {
-    match row_of(&table.nums, m) {
+    match row_of(nums, m) {
         None => frees_length(pool, map, m, m + 1, k),
         Some(r) => span_length(
             pool,
-            &table.rows,
+            rows,
             ANCHOR_WORDS + NODE_WORDS * m,
             ANCHOR_WORDS + NODE_WORDS * r as u64,
             NODE_WORDS,
@@ -166,19 +166,19 @@ fn node_length(pool: &[u64], table: &Table, map: &[u64], m: u64, k: u64) -> u64
 }
 
 // How many words the script has.
-pub fn wide_length(pool: &[u64], table: &Table, map: &[u64], n: u64) -> u64
+pub fn wide_length(pool: &[u64], rows: &[u64], nums: &[u64], map: &[u64], n: u64) -> u64
     requires well_formed { WellFormed pool.now }
-    requires map_in_bounds { map_top ≤ length map.now }
+    requires row_count_in_bounds { (pool_words row_count ≤ length rows.now) × (row_count ≤ length nums.now) × (map_top ≤ length map.now) }
     requires n_value { n ≡ get_or pool.now count_word 0 }
     ensures { (ws' : List ℕ) →
-        WideBy pool.now table.now.rows table.now.nums map.now ws' →
+        WideBy pool.now rows.now nums.now map.now ws' →
         result ≡ length (script pool.now ws') }
 {
-    let mut k = span_length(pool, &table.rows, 0, 0, ANCHOR_WORDS, 0);
+    let mut k = span_length(pool, rows, 0, 0, ANCHOR_WORDS, 0);
     let mut m = 0;
-    while let Some(q) = next_number(&table.nums, m, n) {
+    while let Some(q) = next_number(nums, m, n) {
         k = frees_length(pool, map, m, q, k);
-        k = node_length(pool, table, map, q, k);
+        k = node_length(pool, rows, nums, map, q, k);
         m = q + 1;
     }
     frees_length(pool, map, m, n, k)
@@ -217,20 +217,28 @@ fn frees_write(pool: &[u64], map: &[u64], m: u64, end: u64, out: &mut [u64], t: 
 }
 
 // That of node m, by its row if it has one.
-fn node_write(pool: &[u64], table: &Table, map: &[u64], m: u64, out: &mut [u64], t: usize) -> usize
+fn node_write(
+    pool: &[u64],
+    rows: &[u64],
+    nums: &[u64],
+    map: &[u64],
+    m: u64,
+    out: &mut [u64],
+    t: usize,
+) -> usize
     requires well_formed { WellFormed pool.now }
-    requires map_in_bounds { map_top ≤ length map.now }
+    requires row_count_in_bounds { (pool_words row_count ≤ length rows.now) × (row_count ≤ length nums.now) × (map_top ≤ length map.now) }
     requires m_bound { m < get_or pool.now count_word 0 }
-    requires node_fits { NodeFits pool.now table.now.rows table.now.nums map.now m t out.old }
+    requires node_fits { NodeFits pool.now rows.now nums.now map.now m t out.old }
     ensures { (ws' : List ℕ) →
-        WideBy pool.now table.now.rows table.now.nums map.now ws' →
+        WideBy pool.now rows.now nums.now map.now ws' →
         Wrote pool.now ws' (pool_words m) (pool_words (m + 1)) t result out.old out.new }
 {
-    match row_of(&table.nums, m) {
+    match row_of(nums, m) {
         None => frees_write(pool, map, m, m + 1, out, t),
         Some(r) => span_write(
             pool,
-            &table.rows,
+            rows,
             ANCHOR_WORDS + NODE_WORDS * m,
             ANCHOR_WORDS + NODE_WORDS * r as u64,
             NODE_WORDS,
@@ -241,20 +249,20 @@ fn node_write(pool: &[u64], table: &Table, map: &[u64], m: u64, out: &mut [u64],
 }
 
 // Writes the script, for which there is room.
-pub fn wide_write(pool: &[u64], table: &Table, map: &[u64], n: u64, out: &mut [u64])
+pub fn wide_write(pool: &[u64], rows: &[u64], nums: &[u64], map: &[u64], n: u64, out: &mut [u64])
     requires well_formed { WellFormed pool.now }
-    requires map_in_bounds { map_top ≤ length map.now }
+    requires row_count_in_bounds { (pool_words row_count ≤ length rows.now) × (row_count ≤ length nums.now) × (map_top ≤ length map.now) }
     requires n_value { n ≡ get_or pool.now count_word 0 }
-    requires wide_fits { WideFits pool.now table.now.rows table.now.nums map.now out.old }
+    requires wide_fits { WideFits pool.now rows.now nums.now map.now out.old }
     ensures { (ws' : List ℕ) →
-        WideBy pool.now table.now.rows table.now.nums map.now ws' →
+        WideBy pool.now rows.now nums.now map.now ws' →
         out.new ≡ laid out.old 0 (script pool.now ws') }
 {
-    let mut t = span_write(pool, &table.rows, 0, 0, ANCHOR_WORDS, out, 0);
+    let mut t = span_write(pool, rows, 0, 0, ANCHOR_WORDS, out, 0);
     let mut m = 0;
-    while let Some(q) = next_number(&table.nums, m, n) {
+    while let Some(q) = next_number(nums, m, n) {
         t = frees_write(pool, map, m, q, out, t);
-        t = node_write(pool, table, map, q, out, t);
+        t = node_write(pool, rows, nums, map, q, out, t);
         m = q + 1;
     }
     frees_write(pool, map, m, n, out, t);

@@ -22,7 +22,7 @@ ghost use Rattle.xaplain.specs.Stores.{Larger, entry_with, turned_by, refused_by
 use answers::Answer;
 use batch::{Command, Reply};
 use commands::{
-    ERASE_REPLY, FIND_REPLY, LOAD_REPLY, RESERVE_REPLY, STORE_REPLY, answered, answered_by,
+    ERASE_REPLY, FIND_REPLY, LOAD_REPLY, RESERVE_REPLY, STORE_REPLY, answered_as, answered_by,
     covered_reply, is_aligned, is_storable, remarked_tag,
 };
 use model::{Entry, RESERVED, is_reserved};
@@ -143,7 +143,11 @@ pub fn count(word: &[u64]) -> usize
 fn word_fits(e: Entry) -> bool
     ensures { result ≡ is_word_ok e }
 {
-    is_storable(e.word) || (is_reserved(e) && e.order == 0 && e.marks == 0)
+    if is_reserved(e) {
+        e.order == 0 && e.marks == 0
+    } else {
+        is_storable(e.word)
+    }
 }
 
 // Whether an entry is one that a list may hold.
@@ -315,13 +319,13 @@ impl<'a> Entries<'a> {
             result ≡ (execute (length self.entry.index.now) h.list (Command.Find s.first s.last s.filter s.budget)).reply }
     {
         if s.filter > ANY_MARK {
-            return answered(FIND_REPLY, Answer::BadMark, 0, 0);
+            return answered_as(FIND_REPLY, Answer::BadMark, 0, 0);
         }
         if s.first > s.last {
-            return answered(FIND_REPLY, Answer::FirstAboveLast, 0, 0);
+            return answered_as(FIND_REPLY, Answer::FirstAboveLast, 0, 0);
         }
         if s.budget == 0 {
-            return answered(FIND_REPLY, Answer::NoBudget, 0, 0);
+            return answered_as(FIND_REPLY, Answer::NoBudget, 0, 0);
         }
         found_reply(self.find(n, s.first, s.last, s.filter))
     }
@@ -358,7 +362,7 @@ fn refused(tag: u64, answer: Answer, n: usize) -> Turned
     ensures { result ≡ refused_by tag (number_of answer) n }
 {
     Turned {
-        reply: answered(tag, answer, 0, 0),
+        reply: answered_as(tag, answer, 0, 0),
         count: n,
     }
 }
@@ -430,7 +434,7 @@ fn found_reply(c: Option<Entry>) -> Reply
     ensures { result ≡ found_reply c }
 {
     match c {
-        None => answered(FIND_REPLY, Answer::Ended, 0, 0),
+        None => answered_as(FIND_REPLY, Answer::Ended, 0, 0),
         Some(e) => answered_by(FIND_REPLY, e, 0),
     }
 }
@@ -551,7 +555,7 @@ impl<'a> EntriesMut<'a> {
     }
 
     // The tests in the order of their numbers, but for 14, between 5 and 6 (R81, R181).
-    fn run_store(&mut self, n: usize, i: u64, k: u64, w: u64) -> Turned
+    pub fn run_store(&mut self, n: usize, i: u64, k: u64, w: u64) -> Turned
         requires { HeldMut self.old n }
         ensures executes { (h : HeldMut self.old n) → ExecutesIn h (Command.Store i k w) result self.new }
         ensures kept { Kept self.old self.new }
@@ -570,7 +574,7 @@ impl<'a> EntriesMut<'a> {
     }
 
     // A reservation is a store of order 0 where nothing covers the index (R204 to R206).
-    fn run_reserve(&mut self, n: usize, i: u64) -> Turned
+    pub fn run_reserve(&mut self, n: usize, i: u64) -> Turned
         requires { HeldMut self.old n }
         ensures executes { (h : HeldMut self.old n) → ExecutesIn h (Command.Reserve i) result self.new }
         ensures kept { Kept self.old self.new }
@@ -640,9 +644,7 @@ impl<'a> EntriesMut<'a> {
         }
     }
 
-    // One command: its reply, and the number of entries after it. A function of its own: in the loop over a batch, a find takes one
-    // instruction an entry more.
-    #[inline(never)]
+    // One command: its reply, and the number of entries after it.
     pub fn execute(&mut self, n: usize, c: Command) -> Turned
         requires { HeldMut self.old n }
         ensures executes { (h : HeldMut self.old n) → ExecutesIn h c result self.new }

@@ -8,18 +8,18 @@ use Rattle.execute.proofs.run_find.Goals as goal
 
 pub returns-then-filter-gt-ANY_MARK : goal.returns-then-filter-gt-ANY_MARK
 returns-then-filter-gt-ANY_MARK c =
-    λ s. c.answered.ensures
+    λ s. c.answered_as.ensures
     ∙ sym (ap (λ (x : Executed). x.reply) (find_mark s.n s.list _ _ _ _ c.if-filter-gt-ANY_MARK.true))
 
 pub returns-then-first-last : goal.returns-then-first-last
 returns-then-first-last c =
-    λ s. c.answered-then-first-last.ensures
+    λ s. c.answered_as-then-first-last.ensures
     ∙ sym (ap (λ (x : Executed). x.reply) (find_first s.n s.list _ _ _ _ c.if-filter-gt-ANY_MARK.false
     c.if-first-last.true))
 
 pub returns-then-budget-eq0 : goal.returns-then-budget-eq0
 returns-then-budget-eq0 c =
-    λ s. c.answered-then-budget-eq0.ensures
+    λ s. c.answered_as-then-budget-eq0.ensures
     ∙ sym (ap (λ (x : Executed). x.reply)
     (find_budget s.n s.list _ _ _ _ c.if-filter-gt-ANY_MARK.false c.if-first-last.false
     c.if-budget-eq0.true))

@@ -13,7 +13,7 @@ pub returns-then-mark-ge-MARKS-clause-executes : goal.returns-then-mark-ge-MARKS
 returns-then-mark-ge-MARKS-clause-executes c =
     (λ s. leaves s (remarking c.args.index c.args.mark c.args.on)
     (remark_above s.n s.list c.args.index c.args.mark c.args.on c.if-mark-ge-MARKS.true)
-    (c.answered.ensures ∙ ap (λ (t : ℕ). answered t bad_mark 0 0) c.remarked_tag-tag.ensures))
+    (c.answered_as.ensures ∙ ap (λ (t : ℕ). answered t bad_mark 0 0) c.remarked_tag-tag.ensures))
 
 pub returns-clause-executes : goal.returns-clause-executes
 returns-clause-executes c =

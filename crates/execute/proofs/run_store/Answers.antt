@@ -12,7 +12,7 @@ pub returns-then-order-gt-MAX_ORDER-clause-executes : goal.returns-then-order-gt
 returns-then-order-gt-MAX_ORDER-clause-executes c =
     (λ s. put_store c.args.index c.args.order c.args.word s
     (put_order c.args.index c.args.order c.args.word c.requires.order_value c.if-order-gt-MAX_ORDER.true)
-    (leaves s (Store _ _ _) (store_order s.n s.list _ _ _ c.if-order-gt-MAX_ORDER.true) c.answered.ensures))
+    (leaves s (Store _ _ _) (store_order s.n s.list _ _ _ c.if-order-gt-MAX_ORDER.true) c.answered_as.ensures))
 
 pub returns-then-not-aligned-clause-executes : goal.returns-then-not-aligned-clause-executes
 returns-then-not-aligned-clause-executes c =
@@ -20,7 +20,7 @@ returns-then-not-aligned-clause-executes c =
     let al = sym c.is_aligned-aligned.ensures ∙ c.if-not-aligned.true in
     (λ s. put_store z.args.index z.args.order z.args.word s
     (put_index z.args.index z.args.order z.args.word z.requires.order_value al)
-    (leaves s (Store _ _ _) (store_index s.n s.list _ _ _ c.if-order-gt-MAX_ORDER.false al) c.answered-then-not-aligned.ensures))
+    (leaves s (Store _ _ _) (store_index s.n s.list _ _ _ c.if-order-gt-MAX_ORDER.false al) c.answered_as-then-not-aligned.ensures))
 
 pub returns-then-not-enterable-clause-executes : goal.returns-then-not-enterable-clause-executes
 returns-then-not-enterable-clause-executes c =
@@ -28,7 +28,7 @@ returns-then-not-enterable-clause-executes c =
     let e = sym c.is_enterable-enterable.ensures ∙ c.if-not-enterable.true in
     let (f, w) = put_word z.args.index z.args.order z.args.word {b = z.args.reserve} e in
     (λ s. put_store z.args.index z.args.order z.args.word s f
-    (leaves s (Store _ _ _) (store_word s.n s.list _ _ _ c.if-order-gt-MAX_ORDER.false (sym c.is_aligned-aligned.ensures ∙ c.if-not-aligned.false) w) c.answered-then-not-enterable.ensures))
+    (leaves s (Store _ _ _) (store_word s.n s.list _ _ _ c.if-order-gt-MAX_ORDER.false (sym c.is_aligned-aligned.ensures ∙ c.if-not-aligned.false) w) c.answered_as-then-not-enterable.ensures))
 
 pub put_reply-requires : goal.put_reply-requires
 put_reply-requires c =

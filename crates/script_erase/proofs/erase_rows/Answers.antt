@@ -34,4 +34,9 @@ returns c =
     let w = c.sweep_path.ensures s l E in
     tables_put s E w.anchored c.lower_head-w.ensures.by_index
     (c.lower_head-w.ensures.landed s l E w.lowered (top_there s E w.lowered c.requires.order_le_max_order.2 (λ q. c.if-filled_of-eq0.false (c.filled_of.ensures ∙ q))))
-    (omega arith)
+    (omega (
+      arith,
+      c.requires.row_count_in_bounds.0,
+      c.sweep_path.auto.rows,
+      c.lower_head-w.auto.rows,
+    ))

@@ -17,7 +17,7 @@ path_rows-requires-clause-roomy c =
     let a
     = c.args in
     roomy c.requires.well_formed a.i a.order c.requires.order_le_max_order.2 (c.requires.path_there c.requires.well_formed) (c.walk_path-d.ensures c.requires.well_formed) c.requires.order_le_max_order.3
-    (omega arith) (omega arith)
+    (omega (arith, c.requires.row_count_in_bounds.2, c.walk_path-d.auto.path)) (omega (arith, c.requires.row_count_in_bounds.0))
 
 pub returns : goal.returns
 returns c =

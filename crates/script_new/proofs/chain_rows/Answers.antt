@@ -11,7 +11,7 @@ pub loop-u-preserved : goal.loop-u-preserved
 loop-u-preserved c =
     record {
       from_low = omega (arith, c.loop-u.invariant.from_low);
-      same = omega arith;
+      same = c.chain_row.auto.rows ∙ c.loop-u.invariant.same;
       before-are = λ p h. c.chain_row.ensures.other_rows.before p (omega arith) ∙ c.loop-u.invariant.before-are p h;
       shown = λ l μ ch t a b. by_t (eqb t c.loop-u.u)
           (λ x. subst (ChainShown l μ c.chain_row.new.rows c.args.heads.new) (sym (eqb-true _ _ x)) (c.chain_row.ensures.chain_shown l μ ch))

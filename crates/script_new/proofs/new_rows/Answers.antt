@@ -16,18 +16,18 @@ pub begin_new-requires-clause-roomy : goal.begin_new-requires-clause-roomy
 begin_new-requires-clause-roomy c =
     let np = c.requires.new_planned c.requires.well_formed in
     let st = stays_of c.requires.well_formed c.args.heads c.args.at.base c.args.at.order c.requires.word_value.0 in
-    new_roomy c.requires.well_formed np (omega arith) (omega arith)
+    new_roomy c.requires.well_formed np c.requires.row_count_in_bounds.2 c.requires.row_count_in_bounds.0
 
-pub begin_new-requires-clause-beside_value : goal.begin_new-requires-clause-beside_value
-begin_new-requires-clause-beside_value c =
+pub begin_new-requires-clause-top_tier_in_bounds : goal.begin_new-requires-clause-top_tier_in_bounds
+begin_new-requires-clause-top_tier_in_bounds c =
     let np = c.requires.new_planned c.requires.well_formed in
     let st = stays_of c.requires.well_formed c.args.heads c.args.at.base c.args.at.order c.requires.word_value.0 in
-    (λ t. (st (sym c.is_beside-beside.ensures ∙ t)).grows, λ t. chain_room_lem c.requires.well_formed np (st (sym c.is_beside-beside.ensures ∙ t)))
+    (c.requires.row_count_in_bounds.3, λ t. (st (sym c.is_beside-beside.ensures ∙ t)).grows, λ t. chain_room_lem c.requires.well_formed np (st (sym c.is_beside-beside.ensures ∙ t)))
 
 pub put_rows-requires-clause-ready : goal.put_rows-requires-clause-ready
 put_rows-requires-clause-ready c =
     let np = c.requires.new_planned c.requires.well_formed in
-    roomy_ready {rs = c.args.table.now.rows} (new_roomy c.requires.well_formed np (omega arith) (omega arith)) (omega arith)
+    roomy_ready {rs = c.args.rows.now} (new_roomy c.requires.well_formed np c.requires.row_count_in_bounds.2 c.requires.row_count_in_bounds.0) c.begin_new.auto.rows
 
 pub chain_rows-requires-clause-heads_bound : goal.chain_rows-requires-clause-heads_bound
 chain_rows-requires-clause-heads_bound c =
@@ -45,7 +45,11 @@ offset_bounds-path-top c =
 
 pub bounds-path-top : goal.bounds-path-top
 bounds-path-top c =
-    omega (arith, top_le c.requires.well_formed (c.requires.new_planned c.requires.well_formed))
+    omega (
+      arith,
+      top_le c.requires.well_formed (c.requires.new_planned c.requires.well_formed),
+      c.requires.row_count_in_bounds.2,
+    )
 
 pub node_word-w-requires : goal.node_word-w-requires
 node_word-w-requires c =
@@ -56,15 +60,22 @@ pub anchor_row-requires : goal.anchor_row-requires
 anchor_row-requires c =
     let np = c.requires.new_planned c.requires.well_formed in (
       omega (arith, pool_length_lem c.requires.well_formed),
-      omega (arith, top_le c.requires.well_formed np),
+      omega (
+        arith,
+        top_le c.requires.well_formed np,
+        c.requires.row_count_in_bounds.0,
+        c.chain_rows.auto.rows,
+        c.put_rows.auto.rows,
+        c.begin_new.auto.rows,
+      ),
     )
 
-pub number_rows-requires : goal.number_rows-requires
-number_rows-requires c =
+pub number_rows-requires-clause-v_le_top_tier : goal.number_rows-requires-clause-v_le_top_tier
+number_rows-requires-clause-v_le_top_tier c =
     let np = c.requires.new_planned c.requires.well_formed in
     let lb = low_bounds c.requires.well_formed c.args.heads c.args.at.base c.args.at.order c.requires.word_value.0 c.is_beside-beside.ensures c.low_chain-low.ensures
     (old_le c.requires.well_formed np) np.known.some_node in
-    (omega (arith, low c.requires.well_formed np, top_le c.requires.well_formed np), top_le c.requires.well_formed np, omega (arith, lb.1, top_le c.requires.well_formed np))
+    (omega (arith, low c.requires.well_formed np, top_le c.requires.well_formed np), top_le c.requires.well_formed np, omega (arith, lb.1, top_le c.requires.well_formed np), c.requires.row_count_in_bounds.2, c.requires.row_count_in_bounds.3)
 
 pub returns : goal.returns
 returns c =

@@ -16,8 +16,12 @@ walk_path-d-requires-clause-h_value c =
 pub path_rows-requires-clause-roomy : goal.path_rows-requires-clause-roomy
 path_rows-requires-clause-roomy c =
     roomy c.requires.well_formed c.args.at.base c.args.at.order c.requires.order_le_max_order.2 (c.requires.path_there c.requires.well_formed)
-    (c.walk_path-d.ensures c.requires.well_formed) c.requires.order_le_max_order.3 (omega arith)
-    (omega arith)
+    (c.walk_path-d.ensures c.requires.well_formed) c.requires.order_le_max_order.3 (omega (
+      arith,
+      c.requires.row_count_in_bounds.2,
+      c.walk_path-d.auto.path,
+    ))
+    (omega (arith, c.requires.row_count_in_bounds.0))
 
 pub returns : goal.returns
 returns c =

@@ -14,7 +14,7 @@ returns-in-None-clause-by_index c =
 
 pub returns-in-Some-clause-by_index : goal.returns-in-Some-clause-by_index
 returns-in-Some-clause-by_index c =
-    λ n ws' T h. let f = row_some c.args.table.now.nums c.args.m c.in-Some.r (omega arith) c.in-Some.ensures in
+    λ n ws' T h. let f = row_some c.args.nums.now c.args.m c.in-Some.r (omega arith) c.in-Some.ensures in
     let z : pool_words (c.args.m + 1) ≡ pool_words c.args.m + node_words = omega arith in
     ap (λ (p : ℕ). c.span_length.result + length (after c.args.pool.now ws' (length c.args.pool.now) p)) z
     ∙ c.span_length.ensures.by_index ws' (row_agrees T c.args.m c.in-Some.r h f.0 f.1)

@@ -14,7 +14,7 @@ returns-in-None c =
 
 pub span_write-requires : goal.span_write-requires
 span_write-requires c =
-    let f = row_some c.args.table.now.nums c.args.m c.in-Some.r (omega arith) c.in-Some.ensures in
+    let f = row_some c.args.nums.now c.args.m c.in-Some.r (omega arith) c.in-Some.ensures in
     let T = c.requires.node_fits.tables in
     record {
       in_pool = omega (arith, T.size, c.requires.node_fits.below);
@@ -26,7 +26,7 @@ span_write-requires c =
 
 pub returns-in-Some : goal.returns-in-Some
 returns-in-Some c =
-    λ n ws' T h. let f = row_some c.args.table.now.nums c.args.m c.in-Some.r (omega arith) c.in-Some.ensures in
+    λ n ws' T h. let f = row_some c.args.nums.now c.args.m c.in-Some.r (omega arith) c.in-Some.ensures in
     let z : pool_words c.args.m + node_words ≡ pool_words (c.args.m + 1) = omega arith in
     subst (λ (p : ℕ). Wrote c.args.pool.now ws' (pool_words c.args.m) p c.args.t c.span_write.result c.args.out.now c.span_write.new.out) z
     (c.span_write.ensures ws' (row_agrees T c.args.m c.in-Some.r h f.0 f.1))

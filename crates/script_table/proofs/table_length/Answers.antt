@@ -11,7 +11,7 @@ use Rattle.script_table.proofs.table_length.Goals as goal
 
 pub loop-m-preserved : goal.loop-m-preserved
 loop-m-preserved c =
-    let b : NoneBelow c.args.table.now.nums c.loop-m.from c.in-Some.m = some_below (omega arith) c.in-Some.ensures in (
+    let b : NoneBelow c.args.nums.now c.loop-m.from c.in-Some.m = some_below (omega arith) c.in-Some.ensures in (
       omega (arith, c.in-Some.ensures.1),
       omega (arith, b.least, c.loop-m.invariant.1, c.node_length-k.ensures.upper_bound),
       λ ws' T.

@@ -9,7 +9,7 @@ use Rattle.script_table.proofs.TableLaws.{after}
 use Rattle.script_table.proofs.table_length.Given as goal
 
 abbrev pub invariant-loop-m : goal.invariant-loop-m
-invariant-loop-m l = (l.from ≤ l.n) × (l.k ≤ 8 + 140 * l.from) × ((ws' : List ℕ) → Tables l.pool l.table.rows l.table.nums ws' l.n → l.k + length
+invariant-loop-m l = (l.from ≤ l.n) × (l.k ≤ 8 + 140 * l.from) × ((ws' : List ℕ) → Tables l.pool l.rows l.nums ws' l.n → l.k + length
     (after l.pool ws' (length l.pool) (pool_words l.from)) ≡ length (script l.pool ws'))
 
 abbrev pub decreases-loop-m : goal.decreases-loop-m

@@ -16,7 +16,7 @@ first-nodes w = w
 pub node_write-t-requires-clause-node_fits : goal.node_write-t-requires-clause-node_fits
 node_write-t-requires-clause-node_fits c =
     let T = c.requires.all_fits.tables in
-    let b : NoneBelow c.args.table.now.nums c.loop-m.from c.in-Some.m = some_below (omega arith) c.in-Some.ensures in
+    let b : NoneBelow c.args.nums.now c.loop-m.from c.in-Some.m = some_below (omega arith) c.in-Some.ensures in
     let w = first-nodes (c.span_write-t.ensures c.requires.all_fits.words (anchor_agrees T)) in
     record {
       n = c.args.n;
@@ -37,7 +37,7 @@ node_write-t-requires-clause-node_fits c =
 
 pub loop-m-preserved : goal.loop-m-preserved
 loop-m-preserved c =
-    let b : NoneBelow c.args.table.now.nums c.loop-m.from c.in-Some.m = some_below (omega arith) c.in-Some.ensures in (
+    let b : NoneBelow c.args.nums.now c.loop-m.from c.in-Some.m = some_below (omega arith) c.in-Some.ensures in (
       omega (arith, c.in-Some.ensures.1),
       c.node_write-t.auto.out ∙ c.loop-m.invariant.1,
       λ ws' T.

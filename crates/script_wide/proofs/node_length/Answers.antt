@@ -17,7 +17,7 @@ overflow_add-m-in-Some c = omega (arith, c.requires.m_bound.0, count_is c.requir
 
 pub span_length-requires : goal.span_length-requires
 span_length-requires c =
-    let f = row_some c.args.table.now.nums c.args.m c.in-Some.r (omega arith) c.in-Some.ensures in (
+    let f = row_some c.args.nums.now c.args.m c.in-Some.r (omega arith) c.in-Some.ensures in (
       omega (arith, c.requires.m_bound.0, count_is c.requires.well_formed, pool_length_lem c.requires.well_formed),
       omega (arith, f.0),
       omega arith,
@@ -26,5 +26,5 @@ span_length-requires c =
 
 pub returns-in-Some-clause-by_index : goal.returns-in-Some-clause-by_index
 returns-in-Some-clause-by_index c =
-    λ ws' W. let f = row_some c.args.table.now.nums c.args.m c.in-Some.r (omega arith) c.in-Some.ensures in
+    λ ws' W. let f = row_some c.args.nums.now c.args.m c.in-Some.r (omega arith) c.in-Some.ensures in
     node_counted c.args.m (c.span_length.ensures.by_index ws' (wide_row W c.requires.m_bound.0 f.0 f.1))

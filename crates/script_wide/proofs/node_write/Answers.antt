@@ -25,7 +25,7 @@ overflow_add-m-in-Some c = omega (arith, c.requires.m_bound, count_is c.requires
 
 pub span_write-requires : goal.span_write-requires
 span_write-requires c =
-    let f = row_some c.args.table.now.nums c.args.m c.in-Some.r (omega arith) c.in-Some.ensures in
+    let f = row_some c.args.nums.now c.args.m c.in-Some.r (omega arith) c.in-Some.ensures in
     record {
       in_pool = omega (arith, c.requires.m_bound, count_is c.requires.well_formed, pool_length_lem c.requires.well_formed);
       in_rows = omega (arith, f.0);
@@ -36,5 +36,5 @@ span_write-requires c =
 
 pub returns-in-Some : goal.returns-in-Some
 returns-in-Some c =
-    λ ws' W. let f = row_some c.args.table.now.nums c.args.m c.in-Some.r (omega arith) c.in-Some.ensures in
+    λ ws' W. let f = row_some c.args.nums.now c.args.m c.in-Some.r (omega arith) c.in-Some.ensures in
     node_wrote c.args.m (c.span_write.ensures ws' (wide_row W c.requires.m_bound f.0 f.1))

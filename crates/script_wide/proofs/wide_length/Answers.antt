@@ -8,12 +8,12 @@ use Rattle.script_wide.proofs.wide_length.Goals as goal
 
 pub frees_length-k-requires-clause-m_le_end : goal.frees_length-k-requires-clause-m_le_end
 frees_length-k-requires-clause-m_le_end c =
-    let b : NoneBelow c.args.table.now.nums c.loop-q.m c.in-Some.q = some_below (omega arith) c.in-Some.ensures in
-    (b.least, omega (arith, c.in-Some.ensures.1, c.requires.n_value), c.requires.map_in_bounds, c.loop-q.invariant.1)
+    let b : NoneBelow c.args.nums.now c.loop-q.m c.in-Some.q = some_below (omega arith) c.in-Some.ensures in
+    (b.least, omega (arith, c.in-Some.ensures.1, c.requires.n_value), c.requires.row_count_in_bounds.2, c.loop-q.invariant.1)
 
 pub loop-q-preserved : goal.loop-q-preserved
 loop-q-preserved c =
-    let b : NoneBelow c.args.table.now.nums c.loop-q.m c.in-Some.q = some_below (omega arith) c.in-Some.ensures in (
+    let b : NoneBelow c.args.nums.now c.loop-q.m c.in-Some.q = some_below (omega arith) c.in-Some.ensures in (
       omega (arith, c.in-Some.ensures.1),
       c.node_length-k.ensures.upper_bound,
       λ ws' W. counted_then (counted_then (c.loop-q.invariant.2 ws' W) (c.frees_length-k.ensures.by_index ws'

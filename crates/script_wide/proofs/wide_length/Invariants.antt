@@ -6,7 +6,7 @@ use Rattle.script_wide.specs.Going.{WideBy}
 use Rattle.script_wide.proofs.wide_length.Given as goal
 
 abbrev pub invariant-loop-q : goal.invariant-loop-q
-invariant-loop-q l = (l.m ≤ l.n) × (l.k ≤ 8 + 140 * l.m) × ((ws' : List ℕ) → WideBy l.pool l.table.rows l.table.nums l.map ws' →
+invariant-loop-q l = (l.m ≤ l.n) × (l.k ≤ 8 + 140 * l.m) × ((ws' : List ℕ) → WideBy l.pool l.rows l.nums l.map ws' →
     Counted l.pool ws' 0 (pool_words l.m) 0 l.k)
 
 abbrev pub decreases-loop-q : goal.decreases-loop-q

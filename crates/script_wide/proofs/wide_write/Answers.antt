@@ -11,12 +11,12 @@ use Rattle.script_wide.proofs.wide_write.Goals as goal
 
 pub frees_write-t-requires-clause-m_le_end : goal.frees_write-t-requires-clause-m_le_end
 frees_write-t-requires-clause-m_le_end c =
-    let b : NoneBelow c.args.table.now.nums c.loop-q.m c.in-Some.q = some_below (omega arith) c.in-Some.ensures in
-    (b.least, omega (arith, c.in-Some.ensures.1, c.requires.n_value), c.requires.map_in_bounds)
+    let b : NoneBelow c.args.nums.now c.loop-q.m c.in-Some.q = some_below (omega arith) c.in-Some.ensures in
+    (b.least, omega (arith, c.in-Some.ensures.1, c.requires.n_value), c.requires.row_count_in_bounds.2)
 
 pub frees_write-t-requires-clause-freed_fits : goal.frees_write-t-requires-clause-freed_fits
 frees_write-t-requires-clause-freed_fits c =
-    let b : NoneBelow c.args.table.now.nums c.loop-q.m c.in-Some.q = some_below (omega arith) c.in-Some.ensures in
+    let b : NoneBelow c.args.nums.now c.loop-q.m c.in-Some.q = some_below (omega arith) c.in-Some.ensures in
     let W = c.requires.wide_fits.wide in
     let w = wrote_then (anchor_wrote (c.span_write-t.ensures c.requires.wide_fits.words (wide_anchor W)))
     (c.loop-q.invariant.2 c.requires.wide_fits.words W) in
@@ -35,7 +35,7 @@ frees_write-t-requires-clause-freed_fits c =
 
 pub node_write-t-requires-clause-node_fits : goal.node_write-t-requires-clause-node_fits
 node_write-t-requires-clause-node_fits c =
-    let b : NoneBelow c.args.table.now.nums c.loop-q.m c.in-Some.q = some_below (omega arith) c.in-Some.ensures in
+    let b : NoneBelow c.args.nums.now c.loop-q.m c.in-Some.q = some_below (omega arith) c.in-Some.ensures in
     let W = c.requires.wide_fits.wide in
     let w = wrote_then (wrote_then (anchor_wrote (c.span_write-t.ensures c.requires.wide_fits.words (wide_anchor W)))
     (c.loop-q.invariant.2 c.requires.wide_fits.words W))
@@ -56,7 +56,7 @@ node_write-t-requires-clause-node_fits c =
 
 pub loop-q-preserved : goal.loop-q-preserved
 loop-q-preserved c =
-    let b : NoneBelow c.args.table.now.nums c.loop-q.m c.in-Some.q = some_below (omega arith) c.in-Some.ensures in (
+    let b : NoneBelow c.args.nums.now c.loop-q.m c.in-Some.q = some_below (omega arith) c.in-Some.ensures in (
       omega (arith, c.in-Some.ensures.1),
       c.node_write-t.auto.out ∙ (c.frees_write-t.auto.out ∙ c.loop-q.invariant.1),
       λ ws' W. wrote_then (wrote_then (c.loop-q.invariant.2 ws' W) (c.frees_write-t.ensures ws' (wide_next W

@@ -8,7 +8,7 @@ use Rattle.script_wide.specs.Going.{WideBy}
 use Rattle.script_wide.proofs.wide_write.Given as goal
 
 abbrev pub invariant-loop-q : goal.invariant-loop-q
-invariant-loop-q l = (l.m ≤ l.n) × (length l.out ≡ length l.initial.out) × ((ws' : List ℕ) → WideBy l.pool l.table.rows l.table.nums l.map ws' →
+invariant-loop-q l = (l.m ≤ l.n) × (length l.out ≡ length l.initial.out) × ((ws' : List ℕ) → WideBy l.pool l.rows l.nums l.map ws' →
     Wrote l.pool ws' (pool_words l.initial.m) (pool_words l.m) l.initial.t l.t l.initial.out l.out)
 
 abbrev pub decreases-loop-q : goal.decreases-loop-q

@@ -7,16 +7,16 @@ use Rattle.xaplain.proofs.Entries.run_find.Goals as goal
 
 pub returns-then-s-gt-ANY_MARK : goal.returns-then-s-gt-ANY_MARK
 returns-then-s-gt-ANY_MARK c =
-    λ h. c.answered.ensures ∙ sym (ap (λ (x : Executed). x.reply) (find_mark (length c.args.self.index.now) h.list _ _ _ _ c.if-s-gt-ANY_MARK.true))
+    λ h. c.answered_as.ensures ∙ sym (ap (λ (x : Executed). x.reply) (find_mark (length c.args.self.index.now) h.list _ _ _ _ c.if-s-gt-ANY_MARK.true))
 
 pub returns-then-s : goal.returns-then-s
 returns-then-s c =
-    λ h. c.answered-then-s.ensures ∙ sym (ap (λ (x : Executed). x.reply) (find_first (length c.args.self.index.now) h.list _ _
+    λ h. c.answered_as-then-s.ensures ∙ sym (ap (λ (x : Executed). x.reply) (find_first (length c.args.self.index.now) h.list _ _
     _ _ c.if-s-gt-ANY_MARK.false c.if-s.true))
 
 pub returns-then-s-eq0 : goal.returns-then-s-eq0
 returns-then-s-eq0 c =
-    λ h. c.answered-then-s-eq0.ensures ∙ sym (ap (λ (x : Executed). x.reply) (find_budget (length c.args.self.index.now) h.list _
+    λ h. c.answered_as-then-s-eq0.ensures ∙ sym (ap (λ (x : Executed). x.reply) (find_budget (length c.args.self.index.now) h.list _
     _ _ _ c.if-s-gt-ANY_MARK.false c.if-s.false c.if-s-eq0.true))
 
 pub returns : goal.returns
