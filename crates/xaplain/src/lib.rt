@@ -224,7 +224,7 @@ impl<'a> Entries<'a> {
         Some(self.entry_at(k))
     }
 
-    // The first entry whose run reaches past a - 1.
+    // The first entry whose run reaches past a - 1, or n.
     fn start(self, n: usize, a: u64) -> usize
         requires { Held self n }
         ensures { Starts self.entry.index.now self.entry.order.now n a result }
@@ -470,7 +470,7 @@ fn eight_unmarked(marks: &[u64], k: usize, m: u64) -> bool
     marked == 0
 }
 
-// How many words from k to q - 1 stand before the first that is no reservation's.
+// How many words from k to q - 1 stand before the first that is no reservation's, if there is one.
 fn unreserved(word: &[u64], k: usize, q: usize) -> Option<usize>
     requires { (k ≤ q) × (q ≤ length word.now) }
     ensures { result ≡ position (λ x. not (eqb x reserved_word)) (take (q - k) (drop k word.now)) }
@@ -478,7 +478,7 @@ fn unreserved(word: &[u64], k: usize, q: usize) -> Option<usize>
     word[k..q].iter().position(|x| *x != RESERVED)
 }
 
-// How many marks words from k to q - 1 stand before the first that has mark m.
+// How many marks words from k to q - 1 stand before the first that has mark m, if there is one.
 fn marked(marks: &[u64], k: usize, q: usize, m: u64) -> Option<usize>
     requires k_le_q { (k ≤ q) × (q ≤ length marks.now) }
     requires m_bound { m < 64 }
