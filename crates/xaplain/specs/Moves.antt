@@ -141,10 +141,28 @@ abbrev pub kept_from : List ℕ → (n k : ℕ) → ℕ
 kept_from xs n k = pick (any_from xs 0 n k) (2 ^ 0) 0 + pick (any_from xs 1 n k) (2 ^ 1) 0
 
 -- FIND
--- the entry after r, if there is one below n, starts above a or is the last that does not
+-- the entry after the first r, if there is one, starts above a or is the last that does not; those behind it start above a
 pub record Begins (xs : List ℕ) (n a r : ℕ) : Type 0 where
   pub within : r ≤ n
   pub before : (k : ℕ) → k < r → (k + 1 < n) × (get_or xs (k + 1) 0 ≤ a)
+  pub after : (k : ℕ) → r < k → k < n → a < get_or xs k 0
+
+-- the runs of the first r entries end before a, those of the others do not
+pub record Starts (index order : List ℕ) (n a r : ℕ) : Type 0 where
+  pub within : r ≤ n
+  pub before : (k : ℕ) → k < r → get_or index k 0 + 2 ^ get_or order k 0 ≤ a
+  pub after : (k : ℕ) → r ≤ k → k < n → a < get_or index k 0 + 2 ^ get_or order k 0
+
+-- r is the first place from k to q - 1 that passes
+pub record Passes (p : ℕ → Bool) (k q r : ℕ) : Type 0 where
+  pub from : k ≤ r
+  pub to : r < q
+  pub yes : p r ≡ true
+  pub before : (j : ℕ) → k ≤ j → j < r → p j ≡ false
+
+-- that place, if there is one
+abbrev pub FirstFrom : (p : ℕ → Bool) → (k q : ℕ) → Option ℕ → Type 0
+FirstFrom p k q r = MatchOption r ((j : ℕ) → k ≤ j → j < q → p j ≡ false) (Passes p k q)
 
 -- COMMANDS
 -- what load, mark and unmark see of what covers an index (R203)

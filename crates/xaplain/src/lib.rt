@@ -3,10 +3,12 @@
 // index, order, word, marks: the borrowed slices, of one length; n: how many entries they hold; i: an index.
 #![tactic(auto)]
 
-ghost use Rattle.std.specs.Prelude.{leb, ltb, ◌≡◌, ◌+◌, ◌-◌, ◌^◌, ◌≤◌, ◌<◌, length, get_or, set, true, false};
+ghost use Rattle.std.specs.Prelude.{ℕ, leb, ltb, eqb, not, ◌≡◌, ◌+◌, ◌-◌, ◌^◌, ◌≤◌, ◌<◌, true, false};
+ghost use Rattle.std.specs.Prelude.{length, get_or, set, take, drop, position};
 ghost use Rattle.answers.specs.Answers.{answer_of, number_of};
-ghost use Rattle.blocks.specs.Blocks.{set_bit};
-ghost use Rattle.model.specs.Model.{covering, covered, store_new, over, store, aligned, max_order, matched_mark, is_word_ok};
+ghost use Rattle.blocks.specs.Blocks.{bit, set_bit};
+ghost use Rattle.blocks.specs.Deciding.{Decides};
+ghost use Rattle.model.specs.Model.{covering, covered, store_new, over, store, aligned, max_order, matched_mark, is_word_ok, reserved_word};
 ghost use Rattle.model.specs.Matches.{matches, first_match};
 ghost use Rattle.xaplain.specs.Slices.{check_answer, init_answer, init_slices, fits_entry};
 ghost use Rattle.xaplain.specs.Slices.{rest_zero, in_order, list_in, all_zero, holds_list, is_sized};
@@ -14,7 +16,7 @@ ghost use Rattle.xaplain.specs.Lent.{lent, Held, Even, Within, entry_in, Shown};
 ghost use Rattle.xaplain.specs.Lent.{WithinMut, lent_mut, HeldMut, Listed, Kept, room_in, StoresIn, ExecutesIn};
 ghost use Rattle.xaplain.specs.Moves.{Rising, Splits, Searchable, Placed, Closed, removed, seen, found_reply, remarking};
 ghost use Rattle.xaplain.specs.Moves.{Opened, Pulled, Cleared, Spliced, replaced, Counts};
-ghost use Rattle.xaplain.specs.Moves.{low_of, Parts, any_from, kept_from, Begins};
+ghost use Rattle.xaplain.specs.Moves.{low_of, Parts, any_from, kept_from, Begins, Starts, FirstFrom};
 ghost use Rattle.xaplain.specs.Engine.{execute};
 ghost use Rattle.blocks.specs.Lists.{any};
 ghost use Rattle.xaplain.specs.Stores.{Larger, entry_with, turned_by, refused_by};
@@ -39,6 +41,9 @@ const MARKS: u64 = 3;
 
 // The filter that any entry passes (R64).
 const ANY_MARK: u64 = 3;
+
+// How many entries a find looks at together.
+const LOOK: usize = 8;
 
 // Mark 2, which no store hands on (R190), is worth this; marks 0 and 1 are below it.
 const MATCHED_BIT: u64 = 4;
@@ -219,20 +224,72 @@ impl<'a> Entries<'a> {
         Some(self.entry_at(k))
     }
 
-    /// The first entry in index order that a filter accepts and whose run meets a to z.
+    // The first entry whose run reaches past a - 1, or n.
+    fn start(self, n: usize, a: u64) -> usize
+        requires { Held self n }
+        ensures { Starts self.entry.index.now self.entry.order.now n a result }
+    {
+        let k = begin(self.index, n, a);
+        if k < n && !reaches(a, self.entry_at(k)) {
+            k + 1
+        } else {
+            k
+        }
+    }
+
+    // Whether a filter accepts none of the eight entries from k on: no reservation, and any mark or the one named. A reservation has no
+    // marks (R200), so that a named one needs no look at the word.
+    fn none_accepted(self, n: usize, k: usize, f: u64) -> bool
+        requires holds { Held self n }
+        requires k_in_bounds { k + 8 ≤ n }
+        requires f_bound { f < 64 }
+        ensures { Decides result ((j : ℕ) → k ≤ j → j < k + 8 → matches f (entry_in self.entry j) ≡ false) }
+    {
+        if f == ANY_MARK {
+            eight_reserved(self.word, k)
+        } else {
+            eight_unmarked(self.marks, k, f)
+        }
+    }
+
+    // The first place from k to q - 1 whose entry a filter accepts. Eight of which it accepts none are passed at once.
+    fn accepted(self, n: usize, k: usize, q: usize, f: u64) -> Option<usize>
+        requires holds { Held self n }
+        requires k_le_q { (k ≤ q) × (q ≤ n) }
+        requires f_bound { f < 64 }
+        ensures { FirstFrom (λ j. matches f (entry_in self.entry j)) k q result }
+    {
+        if q - k == LOOK && self.none_accepted(n, k, f) {
+            return None;
+        }
+        let r = if f == ANY_MARK {
+            unreserved(self.word, k, q)
+        } else {
+            marked(self.marks, k, q, f)
+        };
+        Some(k + r?)
+    }
+
+    /// The first entry in index order that a filter accepts and whose run meets a to z: eight at a time.
     pub fn find(self, n: usize, a: u64, z: u64, f: u64) -> Option<Entry>
         requires holds { Held self n }
         requires f_bound { f < 64 }
         ensures { (h : Held self.entry n) → result ≡ covered (first_match h.list a z f) }
     {
-        for k in begin(self.index, n, a)..n {
-            let e = self.entry_at(k);
-            if z < e.base {
+        let mut k = self.start(n, a);
+        while k < n {
+            if z < self.index[k] {
                 return None;
             }
-            if accepts(f, e) && reaches(a, e) {
+            let q = k + (n - k).min(LOOK);
+            if let Some(j) = self.accepted(n, k, q, f) {
+                let e = self.entry_at(j);
+                if z < e.base {
+                    return None;
+                }
                 return Some(e);
             }
+            k = q;
         }
         None
     }
@@ -388,19 +445,46 @@ fn reaches(a: u64, e: Entry) -> bool
     a < e.base || (a - e.base) >> e.order == 0
 }
 
-// Whether a filter accepts an entry: no reservation, and any mark or the one named. Test by test: joined by `||`, they cost a find's
-// loop 26 instructions an entry in place of 16.
-fn accepts(f: u64, e: Entry) -> bool
-    requires { f < 64 }
-    ensures { result ≡ matches f e }
+// Whether the eight words from k on are reservations'. Each is looked at, so that the compiler takes several at once.
+fn eight_reserved(word: &[u64], k: usize) -> bool
+    requires { k + 8 ≤ length word.now }
+    ensures { Decides result ((j : ℕ) → k ≤ j → j < k + 8 → get_or word.now j 0 ≡ reserved_word) }
 {
-    if is_reserved(e) {
-        return false;
+    let mut other = 0;
+    for j in 0..LOOK {
+        other |= u64::from(word[k + j] != RESERVED);
     }
-    if f == ANY_MARK {
-        return true;
+    other == 0
+}
+
+// Whether none of the eight marks words from k on has mark m.
+fn eight_unmarked(marks: &[u64], k: usize, m: u64) -> bool
+    requires k_in_bounds { k + 8 ≤ length marks.now }
+    requires m_bound { m < 64 }
+    ensures { Decides result ((j : ℕ) → k ≤ j → j < k + 8 → bit m (get_or marks.now j 0) ≡ 0) }
+{
+    let mut marked = 0;
+    for j in 0..LOOK {
+        marked |= (marks[k + j] >> m) % 2;
     }
-    (e.marks >> f) % 2 == 1
+    marked == 0
+}
+
+// How many words from k to q - 1 stand before the first that is no reservation's, if there is one.
+fn unreserved(word: &[u64], k: usize, q: usize) -> Option<usize>
+    requires { (k ≤ q) × (q ≤ length word.now) }
+    ensures { result ≡ position (λ x. not (eqb x reserved_word)) (take (q - k) (drop k word.now)) }
+{
+    word[k..q].iter().position(|x| *x != RESERVED)
+}
+
+// How many marks words from k to q - 1 stand before the first that has mark m, if there is one.
+fn marked(marks: &[u64], k: usize, q: usize, m: u64) -> Option<usize>
+    requires k_le_q { (k ≤ q) × (q ≤ length marks.now) }
+    requires m_bound { m < 64 }
+    ensures { result ≡ position (λ x. eqb (bit m x) 1) (take (q - k) (drop k marks.now)) }
+{
+    marks[k..q].iter().position(|x| (*x >> m) % 2 == 1)
 }
 
 // Where a find from a begins: the last entry that starts at a or before, or the first.
