@@ -29,7 +29,7 @@ use Rattle.model.specs.Model.{covered, is_word_ok, reserved, reserved_word, has_
 use Rattle.model.specs.Matches.{any_mark, matches, meets, first_match}
 use Rattle.model.proofs.WordLaws.{marked_kind}
 use Rattle.xaplain.specs.Slices.{entry_at}
-use Rattle.xaplain.specs.Moves.{Holds, Begins, Starts, Passes, FirstFrom}
+use Rattle.xaplain.specs.Moves.{Holds, Begins, BeginsAt, Starts, Passes, FirstFrom}
 use Rattle.xaplain.proofs.PlainLaws.{nth, in_nth, apart, index_at, order_at, entry_ok, inside_run, past_run}
 use Rattle.xaplain.proofs.PlaceLaws.{entry_is}
 
@@ -157,13 +157,17 @@ module _ {index order word marks : List ℕ} {n : ℕ} (h : Holds index order wo
     pub by_marks : f ≢ any_mark → (o : rust.Option ℕ) → FirstFrom (λ j. eqb (bit f (get_or marks j 0)) 1) k q o → Accepted o
     by_marks ne o d = same o (λ j l. mark_matches f j ne (omega arith)) d
 
-  -- the first that reaches past a - 1, by where the search for a stops
-  module _ (a k : ℕ) (b : Begins index n a k) where
+  -- what stands before where the search for a stops ends before a
+  ended : (a k : ℕ) → Begins index n a k → (j : ℕ) → j < k → get_or index j 0 + 2 ^ get_or order j 0 ≤ a
+  ended a k b j g =
+      let (lt, le) = b.before j g in
+      let far = apart j (j + 1) h.valid (omega arith) (omega (arith, h.count)) in
+      omega (arith, far, le, index_at h (j + 1) lt, index_at h j (omega arith), ap (λ (o : ℕ). 2 ^ o) (order_at h j (omega arith)))
+
+  -- the first that reaches past a - 1, by where that is
+  module _ (a k : ℕ) (b : BeginsAt index n a k) where
     ends : (j : ℕ) → j < k → get_or index j 0 + 2 ^ get_or order j 0 ≤ a
-    ends j g =
-        let (lt, le) = b.before j g in
-        let far = apart j (j + 1) h.valid (omega arith) (omega (arith, h.count)) in
-        omega (arith, far, le, index_at h (j + 1) lt, index_at h j (omega arith), ap (λ (o : ℕ). 2 ^ o) (order_at h j (omega arith)))
+    ends = ended a k (record { within = b.within; before = b.before })
 
     pub start_none : n ≤ k → Starts index order n a k
     start_none g = record { within = b.within; before = ends; after = λ j l u. absurd (omega arith) }
@@ -187,16 +191,21 @@ module _ {index order word marks : List ℕ} {n : ℕ} (h : Holds index order wo
     }
 
 module _ {index order word marks : List ℕ} {n : ℕ} (h : Holds index order word marks n) (f a z : ℕ) where
-  -- what lies before the start does not reach a
-  pub not_before : (r : ℕ) → Starts index order n a r → (j : ℕ) → j < r → meets f a z (nth h.list j) ≡ false
-  not_before r s j g =
-      let i : j < n = omega (arith, s.within) in
+  -- what ends before a does not reach it
+  short : (j : ℕ) → j < n → get_or index j 0 + 2 ^ get_or order j 0 ≤ a → meets f a z (nth h.list j) ≡ false
+  short j i le =
       rw (
-        le-ltb a ((nth h.list j).base + 2 ^ (nth h.list j).order)
-            (omega (arith, s.before j g, index_at h j i, ap (λ (o : ℕ). 2 ^ o) (order_at h j i))),
+        le-ltb a ((nth h.list j).base + 2 ^ (nth h.list j).order) (omega (arith, le, index_at h j i, ap (λ (o : ℕ). 2 ^ o) (order_at h j i))),
         both_no
             (leb (nth h.list j).base z),
       ) (both_no (matches f (nth h.list j)))
+
+  -- so what lies before where the search for a stops, and before the start
+  pub not_before : (r : ℕ) → Begins index n a r → (j : ℕ) → j < r → meets f a z (nth h.list j) ≡ false
+  not_before r b j g = let (lt, le) = b.before j g in short j (omega arith) (ended h a r b j g)
+
+  pub before_start : (r : ℕ) → Starts index order n a r → (j : ℕ) → j < r → meets f a z (nth h.list j) ≡ false
+  before_start r s j g = short j (omega (arith, s.within)) (s.before j g)
 
   -- what does not match is passed
   pub passed : (k q : ℕ) → q ≤ n → ((j : ℕ) → j < k → meets f a z (nth h.list j) ≡ false) →
@@ -222,6 +231,9 @@ module _ {index order word marks : List ℕ} {n : ℕ} (h : Holds index order wo
       find_hit g t u =
           ap Some is
           ∙ sym (ap covered (first_nth (meets f a z) h.list k (omega (arith, h.count)) before (here ∙ rw (t, u) refl)))
+
+      pub find_miss : both (matches f e) (ltb a (e.base + 2 ^ e.order)) ≡ false → meets f a z (nth h.list k) ≡ false
+      find_miss t = here ∙ t
 
     pub find_none : n ≤ k → None ≡ covered (first_match h.list a z f)
     find_none g = rw (none_nth (meets f a z) h.list (λ j b. before j (omega (arith, h.count))))

@@ -141,8 +141,13 @@ abbrev pub kept_from : List ℕ → (n k : ℕ) → ℕ
 kept_from xs n k = pick (any_from xs 0 n k) (2 ^ 0) 0 + pick (any_from xs 1 n k) (2 ^ 1) 0
 
 -- FIND
--- the entry after the first r, if there is one, starts above a or is the last that does not; those behind it start above a
+-- the entry after r, if there is one below n, starts above a or is the last that does not
 pub record Begins (xs : List ℕ) (n a r : ℕ) : Type 0 where
+  pub within : r ≤ n
+  pub before : (k : ℕ) → k < r → (k + 1 < n) × (get_or xs (k + 1) 0 ≤ a)
+
+-- the entry after the first r, if there is one, starts above a or is the last that does not; those behind it start above a
+pub record BeginsAt (xs : List ℕ) (n a r : ℕ) : Type 0 where
   pub within : r ≤ n
   pub before : (k : ℕ) → k < r → (k + 1 < n) × (get_or xs (k + 1) 0 ≤ a)
   pub after : (k : ℕ) → r < k → k < n → a < get_or xs k 0

@@ -16,7 +16,7 @@ ghost use Rattle.xaplain.specs.Lent.{lent, Held, Even, Within, entry_in, Shown};
 ghost use Rattle.xaplain.specs.Lent.{WithinMut, lent_mut, HeldMut, Listed, Kept, room_in, StoresIn, ExecutesIn};
 ghost use Rattle.xaplain.specs.Moves.{Rising, Splits, Searchable, Placed, Closed, removed, seen, found_reply, remarking};
 ghost use Rattle.xaplain.specs.Moves.{Opened, Pulled, Cleared, Spliced, replaced, Counts};
-ghost use Rattle.xaplain.specs.Moves.{low_of, Parts, any_from, kept_from, Begins, Starts, FirstFrom};
+ghost use Rattle.xaplain.specs.Moves.{low_of, Parts, any_from, kept_from, BeginsAt, Starts, FirstFrom};
 ghost use Rattle.xaplain.specs.Engine.{execute};
 ghost use Rattle.blocks.specs.Lists.{any};
 ghost use Rattle.xaplain.specs.Stores.{Larger, entry_with, turned_by, refused_by};
@@ -491,7 +491,7 @@ fn marked(marks: &[u64], k: usize, q: usize, m: u64) -> Option<usize>
 fn begin(index: &[u64], n: usize, a: u64) -> usize
     requires n_in_bounds { n ≤ length index.now }
     requires rising { Rising index.now n }
-    ensures { Begins index.now n a result }
+    ensures { BeginsAt index.now n a result }
 {
     position(index, n, a).saturating_sub(1)
 }

@@ -2,13 +2,13 @@ use Prim.Native.Nat.{◌+◌, ◌≤◌}
 use mathlib.Core.Path.{ap}
 use native.Mathlib.Omega.{arith}
 use Rattle.model.specs.declared.Entry.{Entry}
-use Rattle.xaplain.proofs.FindLaws.{not_before, passed, found_past, found_hit, find_past, find_none}
+use Rattle.xaplain.proofs.FindLaws.{before_start, passed, found_past, found_hit, find_past, find_none}
 use Rattle.xaplain.proofs.Entries.find.Goals as goal
 
 pub loop-k-init : goal.loop-k-init
 loop-k-init c =
     let s = c.start-k.ensures in
-    (s.within, s.after, (λ h j g. not_before h c.args.f c.args.a c.args.z c.start-k.result s j g))
+    (s.within, s.after, (λ h j g. before_start h c.args.f c.args.a c.args.z c.start-k.result s j g))
 
 pub returns-then-z-self : goal.returns-then-z-self
 returns-then-z-self c =
